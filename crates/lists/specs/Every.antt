@@ -22,5 +22,7 @@ scan-on test s i e ok now h l q =
     ∙ ap (λ (b : Bool). (ok && b) && every test (slice (i + 1) e s)) (sym q)
 
 -- The scan's end: nothing is left to find.
-pub scan-end : (test : ℕ → Bool) (s : List ℕ) (e : ℕ) (ok : Bool) → (ok && every test (slice e e s)) ≡ ok
-scan-end test s e ok = ap (λ (t : List ℕ). ok && every test t) (slice-empty e s) ∙ and-true ok
+pub scan-end : (test : ℕ → Bool) (s : List ℕ) (i e : ℕ) (ok : Bool) → i ≤ e → e ≤ i → (ok && every test (slice i e s)) ≡ ok
+scan-end test s i e ok h l =
+    let there : i ≡ e = omega arith in
+    ap (λ (n : ℕ). ok && every test (slice n e s)) there ∙ ap (λ (t : List ℕ). ok && every test t) (slice-empty e s) ∙ and-true ok

@@ -1,2 +1,3 @@
+pub mod Both
 pub mod Codes
 pub mod Every

@@ -1,0 +1,35 @@
+-- The power-on record, in the order of document 01's table. Assumes nothing.
+use mathlib.Core.Bool.{true, false}
+use lib.ListN.{replicate}
+use Rattle.lists.specs.Codes.{blank}
+use Rattle.record.specs.declared.Record.{Record}
+use Rattle.record.specs.declared.Times.{Times}
+
+-- Time1 12, Time2 12
+abbrev pub timesAtPowerOn : Times
+timesAtPowerOn = record { time1 = record { 0 = 12 }; time2 = record { 0 = 12 } }
+
+-- display on; mode 0; overlay none; cursor not shown, 0, 0; text all 0x20; labels empty; picture 0; icons 0; volume none, 0, no,
+-- no; the times given; buzzer 0; backlight off, 30, 0, clear; held key none; frame none
+abbrev pub startingWith : Times → Record
+startingWith times =
+    record {
+      panel = record {
+        screen = record { display = true; mode = 0; overlay = 0; row = 0; column = 0 };
+        shown = false;
+        left = record { len = 0; codes = replicate 7 0 };
+        right = record { len = 0; codes = replicate 7 0 };
+        icons = record { s = 0; u = 0; f = 0; r = 0; p = 0; w = 0 };
+        volume = record { which = 0; level = 0; mute = false; hidden = false };
+        times = times;
+        buzzer = record { 0 = 0 };
+        backlight = record { mode = 0; duration = record { 0 = 30 }; left = record { 0 = 0 }; keypad = false };
+      };
+      text = replicate 80 blank;
+      picture = replicate 672 0;
+      held = record { down = false; key = 0; tick = record { 0 = 0 }; long = false };
+      frame = record { state = 0; len = 0; bytes = replicate 250 0 };
+    }
+
+abbrev pub powerOn : Record
+powerOn = startingWith timesAtPowerOn

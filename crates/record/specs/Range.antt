@@ -1,0 +1,164 @@
+-- The range of each field, in the order and the words of document 01's table. A byte is at most 255 and a tick at most 65,535 by
+-- its type, so no test says so, except where a command's number, which is no byte, is judged by the same line. Assumes nothing.
+use Prim.Native.Nat.{ℕ, _*_}
+use mathlib.Core.List.{List}
+use mathlib.Core.Bool.{Bool, not, cond, _&&_, _||_}
+use lib.Dec.{ltb, leb, eqb}
+use lib.ListN.{length}
+use lib.Seq.{slice}
+use Rattle.lists.specs.Codes.{escape, carriageReturn, blank}
+use Rattle.lists.specs.Every.{every}
+use Rattle.record.specs.declared.Record.{Record}
+use Rattle.record.specs.declared.Screen.{Screen}
+use Rattle.record.specs.declared.Label.{Label}
+use Rattle.record.specs.declared.Icons.{Icons}
+use Rattle.record.specs.declared.Volume.{Volume}
+use Rattle.record.specs.declared.Times.{Times}
+use Rattle.record.specs.declared.Backlight.{Backlight}
+use Rattle.record.specs.declared.Held.{Held}
+use Rattle.record.specs.declared.Frame.{Frame}
+
+-- Sizes -----------------------------------------------------------------------------------------------------------
+
+-- the rows of a text mode: 4 for modes 0 and 1, 5 for 5 and 6
+abbrev pub rowsOf : ℕ → ℕ
+rowsOf mode = cond (leb mode 1) 4 5
+
+-- the column past the last one of a row: where text stops
+abbrev pub lastColumnOf : ℕ → ℕ
+lastColumnOf mode = 16
+
+-- Places of an array ----------------------------------------------------------------------------------------------
+
+-- a text code: 0x20 to 0xFF
+abbrev pub isCode : ℕ → Bool
+isCode b = leb blank b
+
+-- a column of picture row 6: below 32
+abbrev pub isLowColumn : ℕ → Bool
+isLowColumn b = ltb b 32
+
+-- a byte of a frame: neither 0x1B nor 0x0D
+abbrev pub isFrameByte : ℕ → Bool
+isFrameByte b = not (eqb b escape) && not (eqb b carriageReturn)
+
+-- an unused place holds zero
+abbrev pub isUnused : ℕ → Bool
+isUnused b = eqb b 0
+
+-- The table -------------------------------------------------------------------------------------------------------
+
+-- display: on, off. It is a flag, and so are cursor shown, mute, hidden and the keypad flag.
+
+-- text mode: 0, 1, 5, 6
+abbrev pub modeInRange : ℕ → Bool
+modeInRange n = eqb n 0 || eqb n 1 || eqb n 5 || eqb n 6
+
+-- overlay: none (0), 11, 12, 13
+abbrev pub overlayInRange : ℕ → Bool
+overlayInRange n = eqb n 0 || eqb n 11 || eqb n 12 || eqb n 13
+
+-- cursor: row below the mode's rows; column 0 to 16
+abbrev pub rowInRange : ℕ → ℕ → Bool
+rowInRange mode row = ltb row (rowsOf mode)
+
+abbrev pub cursorInRange : Screen → Bool
+cursorInRange s = rowInRange (s .mode) (s .row) && leb (s .column) (lastColumnOf (s .mode))
+
+-- text: 5 rows of 16 codes, 0x20 to 0xFF
+unfoldable pub textInRange : List ℕ → Bool
+textInRange t = eqb (length t) (5 * 16) && every isCode t
+
+-- labels: 0 to 7 codes, 0x20 to 0xFF; unused places hold zero
+unfoldable pub labelInRange : Label → Bool
+labelInRange l =
+    eqb (length (l .codes)) 7 && leb (l .len) 7 && every isCode (slice 0 (l .len) (l .codes)) && every isUnused (slice (l .len) 7 (l .codes))
+
+-- picture: 7 rows of 96 columns, 0 to 255; row 6 below 32
+unfoldable pub pictureInRange : List ℕ → Bool
+pictureInRange g = eqb (length g) (7 * 96) && every isLowColumn (slice (6 * 96) (7 * 96) g)
+
+-- icons: S 0-1, U 0, 1 or 255, F 0-6, R 0-1, P 0-19, W 0-3
+abbrev pub iconSInRange : ℕ → Bool
+iconSInRange n = leb n 1
+
+abbrev pub iconUInRange : ℕ → Bool
+iconUInRange n = eqb n 0 || eqb n 1 || eqb n 255
+
+abbrev pub iconFInRange : ℕ → Bool
+iconFInRange n = leb n 6
+
+abbrev pub iconRInRange : ℕ → Bool
+iconRInRange n = leb n 1
+
+abbrev pub iconPInRange : ℕ → Bool
+iconPInRange n = leb n 19
+
+abbrev pub iconWInRange : ℕ → Bool
+iconWInRange n = leb n 3
+
+abbrev pub iconsInRange : Icons → Bool
+iconsInRange i =
+    iconSInRange (i .s) && iconUInRange (i .u) && iconFInRange (i .f) && iconRInRange (i .r) && iconPInRange (i .p) && iconWInRange (i .w)
+
+-- volume: which (none 0, private 1, handsfree 2), level (0 for none, else 1-10), mute, hidden (only with none)
+abbrev pub whichInRange : ℕ → Bool
+whichInRange which = leb which 2
+
+abbrev pub levelInRange : ℕ → ℕ → Bool
+levelInRange which level = (eqb which 0 && eqb level 0) || (not (eqb which 0) && leb 1 level && leb level 10)
+
+abbrev pub volumeInRange : Volume → Bool
+volumeInRange v = whichInRange (v .which) && levelInRange (v .which) (v .level) && (eqb (v .which) 0 || not (v .hidden))
+
+-- times: Time1 4-50; Time2 0 or 4-50
+abbrev pub time1InRange : ℕ → Bool
+time1InRange n = leb 4 n && leb n 50
+
+abbrev pub time2InRange : ℕ → Bool
+time2InRange n = eqb n 0 || (leb 4 n && leb n 50)
+
+abbrev pub timesInRange : Times → Bool
+timesInRange t = time1InRange (t .time1 .0) && time2InRange (t .time2 .0)
+
+-- buzzer: last value 0-255
+abbrev pub buzzerInRange : ℕ → Bool
+buzzerInRange n = leb n 255
+
+-- backlight: off 0, on 1, auto 2; duration 1-255; left 0-255, above 0 only in auto; keypad flag
+abbrev pub durationInRange : ℕ → Bool
+durationInRange n = leb 1 n && leb n 255
+
+abbrev pub backlightInRange : Backlight → Bool
+backlightInRange b = leb (b .mode) 2 && durationInRange (b .duration .0) && (eqb (b .left .0) 0 || eqb (b .mode) 2)
+
+-- held key: none (all places zero), or key 0-18, tick 0-65535, stage short or long
+abbrev pub keyInRange : ℕ → Bool
+keyInRange key = leb key 18
+
+abbrev pub heldInRange : Held → Bool
+heldInRange h = (h .down && keyInRange (h .key)) || (not (h .down) && eqb (h .key) 0 && eqb (h .tick .0) 0 && not (h .long))
+
+-- frame: none 0, or open 1 with up to 250 bytes without 0x1B and 0x0D, or overlong 2; unused places hold zero
+unfoldable pub frameInRange : Frame → Bool
+frameInRange f =
+    eqb (length (f .bytes)) 250 && leb (f .len) 250 && leb (f .state) 2 && (eqb (f .state) 1 || eqb (f .len) 0)
+    && every isFrameByte (slice 0 (f .len) (f .bytes)) && every isUnused (slice (f .len) 250 (f .bytes))
+
+-- every field is within its range
+unfoldable pub inRange : Record → Bool
+inRange r =
+    modeInRange (r .panel .screen .mode)
+    && overlayInRange (r .panel .screen .overlay)
+    && cursorInRange (r .panel .screen)
+    && textInRange (r .text)
+    && labelInRange (r .panel .left)
+    && labelInRange (r .panel .right)
+    && pictureInRange (r .picture)
+    && iconsInRange (r .panel .icons)
+    && volumeInRange (r .panel .volume)
+    && timesInRange (r .panel .times)
+    && buzzerInRange (r .panel .buzzer .0)
+    && backlightInRange (r .panel .backlight)
+    && heldInRange (r .held)
+    && frameInRange (r .frame)

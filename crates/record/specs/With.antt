@@ -1,0 +1,127 @@
+-- The record, or a struct of it, with one field changed and nothing else. Effects are made of these. Assumes nothing.
+use Prim.Native.Nat.{ℕ}
+use mathlib.Core.Bool.{Bool}
+use mathlib.Core.List.{List}
+use Rattle.record.specs.declared.Record.{Record}
+use Rattle.record.specs.declared.Panel.{Panel}
+use Rattle.record.specs.declared.Screen.{Screen}
+use Rattle.record.specs.declared.Label.{Label}
+use Rattle.record.specs.declared.Icons.{Icons}
+use Rattle.record.specs.declared.Volume.{Volume}
+use Rattle.record.specs.declared.Times.{Times}
+use Rattle.record.specs.declared.Hundredths.{Hundredths}
+use Rattle.record.specs.declared.Seconds.{Seconds}
+use Rattle.record.specs.declared.Backlight.{Backlight}
+use Rattle.record.specs.declared.Held.{Held}
+use Rattle.record.specs.declared.Frame.{Frame}
+
+-- Record --------------------------------------------------------------------------------------------------------
+
+abbrev pub withPanel : Record → Panel → Record
+withPanel r new = record { panel = new; text = r .text; picture = r .picture; held = r .held; frame = r .frame }
+
+abbrev pub withText : Record → List ℕ → Record
+withText r new = record { panel = r .panel; text = new; picture = r .picture; held = r .held; frame = r .frame }
+
+abbrev pub withPicture : Record → List ℕ → Record
+withPicture r new = record { panel = r .panel; text = r .text; picture = new; held = r .held; frame = r .frame }
+
+abbrev pub withHeld : Record → Held → Record
+withHeld r new = record { panel = r .panel; text = r .text; picture = r .picture; held = new; frame = r .frame }
+
+abbrev pub withFrame : Record → Frame → Record
+withFrame r new = record { panel = r .panel; text = r .text; picture = r .picture; held = r .held; frame = new }
+
+-- Panel ---------------------------------------------------------------------------------------------------------
+
+abbrev pub withScreen : Panel → Screen → Panel
+withScreen p new = record { screen = new; shown = p .shown; left = p .left; right = p .right; icons = p .icons; volume = p .volume; times = p .times; buzzer = p .buzzer; backlight = p .backlight }
+
+abbrev pub withShown : Panel → Bool → Panel
+withShown p new = record { screen = p .screen; shown = new; left = p .left; right = p .right; icons = p .icons; volume = p .volume; times = p .times; buzzer = p .buzzer; backlight = p .backlight }
+
+abbrev pub withLeft : Panel → Label → Panel
+withLeft p new = record { screen = p .screen; shown = p .shown; left = new; right = p .right; icons = p .icons; volume = p .volume; times = p .times; buzzer = p .buzzer; backlight = p .backlight }
+
+abbrev pub withRight : Panel → Label → Panel
+withRight p new = record { screen = p .screen; shown = p .shown; left = p .left; right = new; icons = p .icons; volume = p .volume; times = p .times; buzzer = p .buzzer; backlight = p .backlight }
+
+abbrev pub withIcons : Panel → Icons → Panel
+withIcons p new = record { screen = p .screen; shown = p .shown; left = p .left; right = p .right; icons = new; volume = p .volume; times = p .times; buzzer = p .buzzer; backlight = p .backlight }
+
+abbrev pub withVolume : Panel → Volume → Panel
+withVolume p new = record { screen = p .screen; shown = p .shown; left = p .left; right = p .right; icons = p .icons; volume = new; times = p .times; buzzer = p .buzzer; backlight = p .backlight }
+
+abbrev pub withTimes : Panel → Times → Panel
+withTimes p new = record { screen = p .screen; shown = p .shown; left = p .left; right = p .right; icons = p .icons; volume = p .volume; times = new; buzzer = p .buzzer; backlight = p .backlight }
+
+abbrev pub withBuzzer : Panel → Hundredths → Panel
+withBuzzer p new = record { screen = p .screen; shown = p .shown; left = p .left; right = p .right; icons = p .icons; volume = p .volume; times = p .times; buzzer = new; backlight = p .backlight }
+
+abbrev pub withBacklight : Panel → Backlight → Panel
+withBacklight p new = record { screen = p .screen; shown = p .shown; left = p .left; right = p .right; icons = p .icons; volume = p .volume; times = p .times; buzzer = p .buzzer; backlight = new }
+
+-- Screen --------------------------------------------------------------------------------------------------------
+
+abbrev pub withDisplay : Screen → Bool → Screen
+withDisplay s new = record { display = new; mode = s .mode; overlay = s .overlay; row = s .row; column = s .column }
+
+abbrev pub withMode : Screen → ℕ → Screen
+withMode s new = record { display = s .display; mode = new; overlay = s .overlay; row = s .row; column = s .column }
+
+abbrev pub withOverlay : Screen → ℕ → Screen
+withOverlay s new = record { display = s .display; mode = s .mode; overlay = new; row = s .row; column = s .column }
+
+abbrev pub withRow : Screen → ℕ → Screen
+withRow s new = record { display = s .display; mode = s .mode; overlay = s .overlay; row = new; column = s .column }
+
+abbrev pub withColumn : Screen → ℕ → Screen
+withColumn s new = record { display = s .display; mode = s .mode; overlay = s .overlay; row = s .row; column = new }
+
+-- Icons ---------------------------------------------------------------------------------------------------------
+
+abbrev pub withIconS : Icons → ℕ → Icons
+withIconS i new = record { s = new; u = i .u; f = i .f; r = i .r; p = i .p; w = i .w }
+
+abbrev pub withIconU : Icons → ℕ → Icons
+withIconU i new = record { s = i .s; u = new; f = i .f; r = i .r; p = i .p; w = i .w }
+
+abbrev pub withIconF : Icons → ℕ → Icons
+withIconF i new = record { s = i .s; u = i .u; f = new; r = i .r; p = i .p; w = i .w }
+
+abbrev pub withIconR : Icons → ℕ → Icons
+withIconR i new = record { s = i .s; u = i .u; f = i .f; r = new; p = i .p; w = i .w }
+
+abbrev pub withIconP : Icons → ℕ → Icons
+withIconP i new = record { s = i .s; u = i .u; f = i .f; r = i .r; p = new; w = i .w }
+
+abbrev pub withIconW : Icons → ℕ → Icons
+withIconW i new = record { s = i .s; u = i .u; f = i .f; r = i .r; p = i .p; w = new }
+
+-- Volume --------------------------------------------------------------------------------------------------------
+
+abbrev pub withWhich : Volume → ℕ → Volume
+withWhich v new = record { which = new; level = v .level; mute = v .mute; hidden = v .hidden }
+
+abbrev pub withLevel : Volume → ℕ → Volume
+withLevel v new = record { which = v .which; level = new; mute = v .mute; hidden = v .hidden }
+
+abbrev pub withMute : Volume → Bool → Volume
+withMute v new = record { which = v .which; level = v .level; mute = new; hidden = v .hidden }
+
+abbrev pub withHidden : Volume → Bool → Volume
+withHidden v new = record { which = v .which; level = v .level; mute = v .mute; hidden = new }
+
+-- Backlight -----------------------------------------------------------------------------------------------------
+
+abbrev pub withLight : Backlight → ℕ → Backlight
+withLight b new = record { mode = new; duration = b .duration; left = b .left; keypad = b .keypad }
+
+abbrev pub withDuration : Backlight → Seconds → Backlight
+withDuration b new = record { mode = b .mode; duration = new; left = b .left; keypad = b .keypad }
+
+abbrev pub withSecondsLeft : Backlight → Seconds → Backlight
+withSecondsLeft b new = record { mode = b .mode; duration = b .duration; left = new; keypad = b .keypad }
+
+abbrev pub withKeypad : Backlight → Bool → Backlight
+withKeypad b new = record { mode = b .mode; duration = b .duration; left = b .left; keypad = new }
