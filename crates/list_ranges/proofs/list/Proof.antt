@@ -1,0 +1,78 @@
+-- `list_ranges::list` keeps its promise. Assumes nothing.
+use Prim.Native.Nat.{_-_, _≤_}
+use borrow.Author.Needs.{needs}
+use Rattle.list_ranges.proofs.list.Statement.{statement}
+use Rattle.list_ranges.proofs.list.Tie as tie
+
+abbrev Inv-loop : tie.InvT-loop
+Inv-loop name r field from end most run₀ value₀ t11 t12 run value = value ≤ most
+
+abbrev μ-loop : tie.MeasureT-loop
+μ-loop name r field from end most run₀ value₀ t11 t12 run value = most - value
+
+say-requires : tie.Need-say-requires Inv-loop μ-loop
+say-requires c κs = search needs
+
+slice-aggregate-say : tie.Need-slice-aggregate-say Inv-loop μ-loop
+slice-aggregate-say c = search needs
+
+say-requires-2 : tie.Need-say-requires-2 Inv-loop μ-loop
+say-requires-2 c κs = search needs
+
+loop-holds : tie.Need-loop-holds Inv-loop μ-loop
+loop-holds c = search needs
+
+try-value-requires : tie.Need-try-value-requires Inv-loop μ-loop
+try-value-requires c κs = search needs
+
+slice-aggregate-say-2 : tie.Need-slice-aggregate-say-2 Inv-loop μ-loop
+slice-aggregate-say-2 c = search needs
+
+say-requires-3 : tie.Need-say-requires-3 Inv-loop μ-loop
+say-requires-3 c κs = search needs
+
+next-run-requires : tie.Need-next-run-requires Inv-loop μ-loop
+next-run-requires c κs = search needs
+
+add-value : tie.Need-add-value Inv-loop μ-loop
+add-value c = search needs
+
+loop-less : tie.Need-loop-less Inv-loop μ-loop
+loop-less c = search needs
+
+loop-again : tie.Need-loop-again Inv-loop μ-loop
+loop-again c = search needs
+
+say-run-requires : tie.Need-say-run-requires Inv-loop μ-loop
+say-run-requires c κs = search needs
+
+slice-aggregate-say-3 : tie.Need-slice-aggregate-say-3 Inv-loop μ-loop
+slice-aggregate-say-3 c = search needs
+
+say-requires-4 : tie.Need-say-requires-4 Inv-loop μ-loop
+say-requires-4 c κs = search needs
+
+returns : tie.Need-returns Inv-loop μ-loop
+returns c = search needs
+
+pub list-spec : {M : Type 1} → statement M
+list-spec =
+    tie.close
+    (tie.spec
+    Inv-loop
+    μ-loop
+    say-requires
+    slice-aggregate-say
+    say-requires-2
+    loop-holds
+    try-value-requires
+    slice-aggregate-say-2
+    say-requires-3
+    next-run-requires
+    add-value
+    loop-less
+    loop-again
+    say-run-requires
+    slice-aggregate-say-3
+    say-requires-4
+    returns)
