@@ -1,0 +1,4 @@
+pub mod Stores
+pub mod Beginning
+pub mod Drawing
+pub mod Encoding

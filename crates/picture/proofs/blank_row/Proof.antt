@@ -1,0 +1,12 @@
+-- A row of 96 zeros. Assumes nothing.
+use mathlib.Core.Path.{refl}
+use Rattle.picture.specs.Places.{padded}
+use Rattle.picture.proofs.blank_row.Statement.{statement}
+use Rattle.picture.proofs.blank_row.Tie as tie
+
+returns : tie.Need-returns
+unfolding padded
+returns c = refl
+
+pub blank-row-spec : {M : Type 1} → statement M
+blank-row-spec = tie.close (tie.spec returns)

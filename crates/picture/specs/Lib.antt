@@ -1,0 +1,7 @@
+pub mod Places
+pub mod Data
+pub mod Reading
+pub mod ReadLaws
+pub mod Writing
+pub mod WriteLaws
+pub mod Cases
