@@ -1,0 +1,70 @@
+-- The good frames, a line for each line of document 01's table ("The good frames"), written without the reader. Assumes nothing.
+use Prim.Native.Nat.{ℕ, _<_, _≤_}
+use mathlib.Core.Bool.{true}
+use mathlib.Core.List.{List, [], _∷_, _++_}
+use mathlib.Core.Path.{_≡_}
+use lib.ListN.{length}
+use Rattle.lists.specs.Codes.{ascii}
+use Rattle.lists.specs.Every.{every}
+use Rattle.record.specs.Range.{isCode}
+use Rattle.numeral.specs.Spelt.{Spelt, digitCode}
+use Rattle.picture.specs.Data.{Draws}
+use Rattle.command.specs.Order.{Order, plain, label, draw}
+use Rattle.command.specs.declared.Command.the-variants.{DisplayOff, DisplayOn, Mode, CursorShown, CursorHidden, Clear, Position, LabelsEmpty, IconS, IconU, IconF, IconR, IconP, IconW, Private, Handsfree, HandsfreeOfNote, Mute, KeyTimes, Buzzer, Light, LightOn, LightAutoStart, LightAuto, DefaultDuration, KeypadSet, KeypadCleared}
+use Rattle.command.specs.declared.Side.the-variants.{Left, Right}
+
+-- a piece of a frame: these signs; a number in one to three digits; a number in one digit; a text of 0 to 7 codes, 0x20 to 0xFF;
+-- data that draws columns
+pub data Piece : Type 0 where
+  sign : List ℕ → Piece
+  number : ℕ → Piece
+  digit : ℕ → Piece
+  text : List ℕ → Piece
+  columns : List ℕ → Piece
+
+-- Matches pieces frame: the frame is the pieces, one after the other
+pub data Matches : List Piece → List ℕ → Type 0 where
+  end : Matches [] []
+  signs : (s : List ℕ) {ps : List Piece} {f : List ℕ} → Matches ps f → Matches (sign s ∷ ps) (s ++ f)
+  digits : {n : ℕ} {d : List ℕ} {ps : List Piece} {f : List ℕ} → Spelt n d → Matches ps f → Matches (number n ∷ ps) (d ++ f)
+  one-digit : {n : ℕ} {ps : List Piece} {f : List ℕ} → n < 10 → Matches ps f → Matches (digit n ∷ ps) (digitCode n ∷ f)
+  codes : {t : List ℕ} {ps : List Piece} {f : List ℕ} → length t ≤ 7 → every isCode t ≡ true → Matches ps f → Matches (text t ∷ ps) (t ++ f)
+  data-of : {d cs : List ℕ} {ps : List Piece} {f : List ℕ} → Draws d cs → Matches ps f → Matches (columns cs ∷ ps) (d ++ f)
+
+-- THE TABLE. IIn is the note's own spelling of IJn (section 3.5.25), and the one frame that document 01's table does not name.
+-- The picture frame is spelt as the note's section 3.6.5 has it, as document 01 asks.
+abbrev pub form : Order → List Piece
+form (plain DisplayOff) = sign (ascii "IDD") ∷ []
+form (plain DisplayOn) = sign (ascii "IDE") ∷ []
+form (plain (Mode n)) = sign (ascii "ID") ∷ number n ∷ []
+form (plain CursorShown) = sign (ascii "&C") ∷ []
+form (plain CursorHidden) = sign (ascii "&D") ∷ []
+form (plain Clear) = sign (ascii "&#") ∷ []
+form (plain (Position row column)) = sign (ascii "[") ∷ number row ∷ sign (ascii ";") ∷ number column ∷ sign (ascii "H") ∷ []
+form (plain LabelsEmpty) = sign (ascii "IK0") ∷ []
+form (label Left t) = sign (ascii "IK1") ∷ text t ∷ []
+form (label Right t) = sign (ascii "IK2") ∷ text t ∷ []
+form (plain (IconS n)) = sign (ascii "IS") ∷ number n ∷ []
+form (plain (IconU n)) = sign (ascii "IU") ∷ number n ∷ []
+form (plain (IconF n)) = sign (ascii "IF") ∷ number n ∷ []
+form (plain (IconR n)) = sign (ascii "IR") ∷ number n ∷ []
+form (plain (IconP n)) = sign (ascii "IP") ∷ number n ∷ []
+form (plain (IconW n)) = sign (ascii "IW") ∷ number n ∷ []
+form (plain (Private n)) = sign (ascii "IL") ∷ number n ∷ []
+form (plain (Handsfree n)) = sign (ascii "IJ") ∷ number n ∷ []
+form (plain (HandsfreeOfNote n)) = sign (ascii "II") ∷ number n ∷ []
+form (plain (Mute n)) = sign (ascii "IM") ∷ number n ∷ []
+form (plain (KeyTimes time1 time2)) = sign (ascii "IT") ∷ number time1 ∷ sign (ascii ";") ∷ number time2 ∷ []
+form (plain (Buzzer n)) = sign (ascii "IB") ∷ number n ∷ []
+form (plain (Light n)) = sign (ascii "IE") ∷ number n ∷ []
+form (plain LightOn) = sign (ascii "IEE") ∷ []
+form (plain LightAutoStart) = sign (ascii "IEA") ∷ []
+form (plain LightAuto) = sign (ascii "IES") ∷ []
+form (plain DefaultDuration) = sign (ascii "IER") ∷ []
+form (plain KeypadSet) = sign (ascii "IEe") ∷ []
+form (plain KeypadCleared) = sign (ascii "IEr") ∷ []
+form (draw row cs) = sign (ascii "Gr") ∷ digit row ∷ sign (ascii ",") ∷ columns cs ∷ sign (ascii "z") ∷ []
+
+-- the frame spells the order
+abbrev pub Spells : Order → List ℕ → Type 0
+Spells order frame = Matches (form order) frame
