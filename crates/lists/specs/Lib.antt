@@ -1,3 +1,4 @@
 pub mod Both
 pub mod Codes
 pub mod Every
+pub mod Padded

@@ -11,7 +11,7 @@ use borrow.Author.Tests.{le-leb, lt-leb}
 use Rattle.picture.specs.declared.FirstItem.{FirstItem}
 use Rattle.picture.specs.declared.FirstItem.the-variants.{Bad, Run}
 use Rattle.picture.specs.declared.Columns.{Columns}
-use Rattle.picture.specs.Places.{padded, lengthen}
+use Rattle.lists.specs.Padded.{padded, lengthen}
 use Rattle.picture.specs.Reading.{isLetter, timesOf, areDigits, columnOf, onto, drawn, items, few, columnsOf, columnsIn, columnsRead, pairOf, firstOf}
 
 never : {n v w : ℕ} → Bad ≡ Run n v w → ⊥

@@ -10,7 +10,7 @@ use lib.ListN.{length, getD, drop, length-append, drop-of-length-le}
 use lib.Seq.{sets, drop-cons}
 use borrow.Author.Tests.{le-leb, lt-leb, ltb-true}
 use Rattle.picture.specs.declared.Data.{Data}
-use Rattle.picture.specs.Places.{padded, lengthen}
+use Rattle.lists.specs.Padded.{padded, lengthen}
 use Rattle.picture.specs.Writing.{itemText, runs, encode, textOf, dataIn, dataWritten}
 use Rattle.picture.specs.WriteLaws.{item-length}
 

@@ -1,4 +1,3 @@
-pub mod Places
 pub mod Data
 pub mod Reading
 pub mod ReadLaws

@@ -12,7 +12,7 @@ use borrow.Author.Tests.{le-leb, lt-leb, leb-true}
 use Rattle.lists.specs.Every.{every}
 use Rattle.picture.specs.Data.{Digit, decimal, letter, Item, single, several, Items, Draws, Bytes}
 use Rattle.picture.specs.Data as told
-use Rattle.picture.specs.Places.{held}
+use Rattle.lists.specs.Padded.{held}
 use Rattle.picture.specs.Reading.{isDecimal, isCapital, isLetter, hexOf, timesOf, columnOf, onto, drawn, items, few, columnsOf, columnsRead}
 
 -- a digit has its value and is no letter a to y

@@ -6,7 +6,7 @@ use mathlib.Core.List.{List, [], _∷_, _++_}
 use mathlib.Core.Option.{Option, none, some}
 use lib.Dec.{leb}
 use lib.ListN.{length, replicate}
-use Rattle.picture.specs.Places.{padded}
+use Rattle.lists.specs.Padded.{padded}
 use Rattle.picture.specs.declared.FirstItem.{FirstItem}
 use Rattle.picture.specs.declared.FirstItem.the-variants.{Bad, Run}
 use Rattle.picture.specs.declared.Columns.{Columns}

@@ -10,7 +10,7 @@ use lib.ListN.{length, take, replicate, length-append, length-replicate}
 use borrow.Author.Tests.{eqb-true, eqb-false, eq-eqb, ne-eqb, lt-ltb, le-leb, ltb-true, ltb-false}
 use Rattle.picture.specs.Data.{Digit, decimal, letter, Item, single, several, Items, Draws, Bytes}
 use Rattle.picture.specs.Data as told
-use Rattle.picture.specs.Places.{held}
+use Rattle.lists.specs.Padded.{held}
 use Rattle.picture.specs.Reading.{columnsOf}
 use Rattle.picture.specs.ReadLaws.{complete}
 use Rattle.picture.specs.Writing.{hexCode, itemText, runs, encode, Cut, last, full, differs, textOf, dataWritten}

@@ -7,7 +7,7 @@ use mathlib.Core.List.{List, [], _∷_, _++_}
 use mathlib.Core.Path.{_≡_}
 use lib.Dec.{ltb, leb, eqb}
 use lib.ListN.{length, replicate}
-use Rattle.picture.specs.Places.{padded}
+use Rattle.lists.specs.Padded.{padded}
 use Rattle.picture.specs.declared.Data.{Data}
 
 -- the digit 0-9 or A-F of a value below 16

@@ -5,7 +5,7 @@ ghost use Prim.Native.Nat.{_+_, _*_, _≤_, _<_};
 ghost use mathlib.Core.List.{[]};
 ghost use lib.ListN.{length, replicate};
 ghost use lib.Seq.{sets};
-ghost use Rattle.picture.specs.Places.{padded};
+ghost use Rattle.lists.specs.Padded.{padded};
 ghost use Rattle.picture.specs.Reading.{hexOf, timesOf, pairOf, firstOf, columnsIn, columnsRead};
 ghost use Rattle.picture.specs.Writing.{hexCode, itemText, dataWritten};
 

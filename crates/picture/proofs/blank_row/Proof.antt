@@ -1,6 +1,6 @@
 -- A row of 96 zeros. Assumes nothing.
 use mathlib.Core.Path.{refl}
-use Rattle.picture.specs.Places.{padded}
+use Rattle.lists.specs.Padded.{padded}
 use Rattle.picture.proofs.blank_row.Statement.{statement}
 use Rattle.picture.proofs.blank_row.Tie as tie
 

@@ -1,6 +1,6 @@
 -- Data's 192 places, all zero. Assumes nothing.
 use mathlib.Core.Path.{refl}
-use Rattle.picture.specs.Places.{padded}
+use Rattle.lists.specs.Padded.{padded}
 use Rattle.picture.proofs.blank_text.Statement.{statement}
 use Rattle.picture.proofs.blank_text.Tie as tie
 

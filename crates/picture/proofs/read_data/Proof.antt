@@ -6,7 +6,7 @@ use lib.ListN.{length, drop}
 use denote.Ref.{now}
 use borrow.Author.Needs.{needs}
 use Rattle.picture.specs.declared.FirstItem.the-variants.{Run}
-use Rattle.picture.specs.Places.{length-padded}
+use Rattle.lists.specs.Padded.{length-padded}
 use Rattle.picture.specs.Reading.{firstOf}
 use Rattle.picture.proofs.Drawing.{Drawing, starts, begins, moves, draws-on, no-data, over-full, ends}
 use Rattle.picture.proofs.read_data.Statement.{statement}

@@ -4,7 +4,7 @@ use native.Mathlib.Omega.{arith}
 use lib.ListN.{length}
 use denote.Ref.{now}
 use borrow.Author.Needs.{needs}
-use Rattle.picture.specs.Places.{length-padded}
+use Rattle.lists.specs.Padded.{length-padded}
 use Rattle.picture.specs.WriteLaws.{item-length}
 use Rattle.picture.proofs.Encoding.{Encoding, nothing-written, too-many, opens, one-more, next-item, closes}
 use Rattle.picture.proofs.write_data.Statement.{statement}
