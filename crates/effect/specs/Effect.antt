@@ -1,0 +1,117 @@
+-- What each order does: document 01's third column, line by line ("The good frames"), and what a text byte does. Each line is a
+-- setter of the fields that it names, so nothing else changes. Assumes nothing.
+use Prim.Native.Nat.{ℕ, _+_, _*_, _%_}
+use mathlib.Core.Bool.{Bool, true, false, cond}
+use mathlib.Core.List.{List, [], map}
+use mathlib.Core.Option.{Option, none, some}
+use lib.Dec.{eqb, ltb}
+use lib.ListN.{length, set, replicate}
+use lib.Seq.{sets}
+use Rattle.lists.specs.Codes.{blank}
+use Rattle.lists.specs.Padded.{padded}
+use Rattle.record.specs.declared.Screen.{Screen}
+use Rattle.record.specs.declared.Label.{Label}
+use Rattle.record.specs.declared.Volume.{Volume}
+use Rattle.record.specs.declared.Backlight.{Backlight}
+use Rattle.record.specs.Range.{lastColumnOf}
+use Rattle.record.specs.With.{withShown, withLeft, withRight, withTimes, withBuzzer, withDisplay, withMode, withOverlay, withRow, withColumn, withIconS, withIconU, withIconF, withIconR, withIconP, withIconW, withWhich, withLevel, withMute, withHidden, withLight, withDuration, withSecondsLeft, withKeypad}
+use Rattle.command.specs.Order.{Order, plain, label, draw}
+use Rattle.command.specs.InRange.{isOverlay, inRangeInMode}
+use Rattle.command.specs.declared.Command.the-variants.{DisplayOff, DisplayOn, Mode, CursorShown, CursorHidden, Clear, Position, LabelsEmpty, IconS, IconU, IconF, IconR, IconP, IconW, Private, Handsfree, HandsfreeOfNote, Mute, KeyTimes, Buzzer, Light, LightOn, LightAutoStart, LightAuto, DefaultDuration, KeypadSet, KeypadCleared}
+use Rattle.command.specs.declared.Side.the-variants.{Left, Right}
+use Rattle.effect.specs.Core.{Core, onPanel, onText, onPicture, onScreen, onIcons, onVolume, onBacklight}
+
+-- Parts of a line -------------------------------------------------------------------------------------------------
+
+-- cursor position row, column
+abbrev pub at : Screen → ℕ → ℕ → Screen
+at s row column = withColumn (withRow s row) column
+
+-- text mode n, overlay none, cursor position 0,0
+abbrev pub inMode : Screen → ℕ → Screen
+inMode s n = at (withOverlay (withMode s n) 0) 0 0
+
+-- all text to 0x20: the five rows
+unfoldable pub blanks : List ℕ
+blanks = replicate (5 * 16) blank
+
+-- the label t: its codes, and zero in the unused places
+abbrev pub labelOf : List ℕ → Label
+labelOf t = record { len = length t; codes = padded 7 t }
+
+-- above 0: private or handsfree at n, hidden no. 0: none, hidden yes. Mute stays.
+abbrev pub atLevel : Volume → ℕ → ℕ → Volume
+atLevel v which n = cond (eqb n 0) (withHidden (withLevel (withWhich v 0) 0) true) (withHidden (withLevel (withWhich v which) n) false)
+
+-- mute; 1 also sets hidden no
+abbrev pub muted : Volume → ℕ → Volume
+muted v n = cond (eqb n 0) (withMute v false) (withHidden (withMute v true) false)
+
+-- backlight modes off, on, auto
+abbrev pub off : ℕ
+off = 0
+
+abbrev pub on : ℕ
+on = 1
+
+abbrev pub auto : ℕ
+auto = 2
+
+abbrev pub noSeconds : Backlight → Backlight
+noSeconds b = withSecondsLeft b (record { 0 = 0 })
+
+-- IEn: 0 is off, left 0; 1-255 the duration
+abbrev pub lightAt : Backlight → ℕ → Backlight
+lightAt b n = cond (eqb n 0) (noSeconds (withLight b off)) (withDuration b (record { 0 = n }))
+
+-- in row 6 only the five low bits of a column are kept
+abbrev pub keptIn : ℕ → ℕ → ℕ
+keptIn row column = cond (eqb row 6) (column % 32) column
+
+-- picture row r from column 0 takes the columns; every column past them stays
+unfoldable pub drawn : List ℕ → ℕ → List ℕ → List ℕ
+drawn picture row columns = sets picture (row * 96) (map (keptIn row) columns)
+
+-- The table -------------------------------------------------------------------------------------------------------
+
+abbrev pub effect : Order → Core → Core
+effect (plain DisplayOff) c = onScreen c (withDisplay (c .panel .screen) false)
+effect (plain DisplayOn) c = onScreen c (withDisplay (c .panel .screen) true)
+effect (plain (Mode n)) c = onScreen c (cond (isOverlay n) (withOverlay (c .panel .screen) n) (inMode (c .panel .screen) n))
+effect (plain CursorShown) c = onPanel c (withShown (c .panel) true)
+effect (plain CursorHidden) c = onPanel c (withShown (c .panel) false)
+effect (plain Clear) c = onText (onScreen c (at (c .panel .screen) 0 0)) blanks
+effect (plain (Position row column)) c = onScreen c (at (c .panel .screen) row column)
+effect (plain LabelsEmpty) c = onPanel c (withRight (withLeft (c .panel) (labelOf [])) (labelOf []))
+effect (label Left t) c = onPanel c (withLeft (c .panel) (labelOf t))
+effect (label Right t) c = onPanel c (withRight (c .panel) (labelOf t))
+effect (plain (IconS n)) c = onIcons c (withIconS (c .panel .icons) n)
+effect (plain (IconU n)) c = onIcons c (withIconU (c .panel .icons) n)
+effect (plain (IconF n)) c = onIcons c (withIconF (c .panel .icons) n)
+effect (plain (IconR n)) c = onIcons c (withIconR (c .panel .icons) n)
+effect (plain (IconP n)) c = onIcons c (withIconP (c .panel .icons) n)
+effect (plain (IconW n)) c = onIcons c (withIconW (c .panel .icons) n)
+effect (plain (Private n)) c = onVolume c (atLevel (c .panel .volume) 1 n)
+effect (plain (Handsfree n)) c = onVolume c (atLevel (c .panel .volume) 2 n)
+effect (plain (HandsfreeOfNote n)) c = onVolume c (atLevel (c .panel .volume) 2 n)
+effect (plain (Mute n)) c = onVolume c (muted (c .panel .volume) n)
+effect (plain (KeyTimes time1 time2)) c = onPanel c (withTimes (c .panel) (record { time1 = record { 0 = time1 }; time2 = record { 0 = time2 } }))
+effect (plain (Buzzer n)) c = onPanel c (withBuzzer (c .panel) (record { 0 = n }))
+effect (plain (Light n)) c = onBacklight c (lightAt (c .panel .backlight) n)
+effect (plain LightOn) c = onBacklight c (noSeconds (withLight (c .panel .backlight) on))
+effect (plain LightAutoStart) c = onBacklight c (withSecondsLeft (withLight (c .panel .backlight) auto) (c .panel .backlight .duration))
+effect (plain LightAuto) c = onBacklight c (withLight (c .panel .backlight) auto)
+effect (plain DefaultDuration) c = onBacklight c (withDuration (c .panel .backlight) (record { 0 = 30 }))
+effect (plain KeypadSet) c = onBacklight c (withKeypad (c .panel .backlight) true)
+effect (plain KeypadCleared) c = onBacklight c (withKeypad (c .panel .backlight) false)
+effect (draw row columns) c = onPicture c (drawn (c .picture) row columns)
+
+-- with a number out of range an order is passed over, else obeyed
+unfoldable pub carryOut : Order → Core → Core
+carryOut order c = cond (inRangeInMode (c .panel .screen .mode) order) (effect order c) c
+
+-- a text byte is stored at the cursor and the column rises by one; at column 16 it is dropped
+unfoldable pub storeText : Core → ℕ → Core
+storeText c b =
+    let s = c .panel .screen in
+    cond (ltb (s .column) (lastColumnOf (s .mode))) (onText (onScreen c (withColumn s (s .column + 1))) (set (c .text) (s .row * 16 + s .column) b)) c
