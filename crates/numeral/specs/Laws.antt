@@ -116,6 +116,29 @@ written n h = cases (ltb n 10) (ltb n 100) refl refl
 pub read-back : (n : ℕ) → n < 1000 → numberOf (decimal n) ≡ Value n
 read-back n h = complete (written n h)
 
+-- Any number is written with one to three codes, all of them digits.
+pub digit-count : (n : ℕ) → (1 ≤ length (decimal n)) × (length (decimal n) ≤ 3)
+digit-count n = cases (ltb n 10) (ltb n 100)
+  where
+    cases : (u v : Bool)
+        → let d = cond u (lastDigit n ∷ []) (cond v (lastDigit (n / 10) ∷ lastDigit n ∷ []) (lastDigit (n / 100) ∷ lastDigit (n / 10) ∷ lastDigit n ∷ [])) in
+        (1 ≤ length d) × (length d ≤ 3)
+    cases true v = (omega arith, omega arith)
+    cases false true = (omega arith, omega arith)
+    cases false false = (omega arith, omega arith)
+
+last-is-digit : (n : ℕ) → isDigit (lastDigit n) ≡ true
+last-is-digit n = is-digit (n % 10) (omega arith)
+
+pub digits-written : (n : ℕ) → every isDigit (decimal n) ≡ true
+digits-written n = cases (ltb n 10) (ltb n 100)
+  where
+    cases : (u v : Bool)
+        → every isDigit (cond u (lastDigit n ∷ []) (cond v (lastDigit (n / 10) ∷ lastDigit n ∷ []) (lastDigit (n / 100) ∷ lastDigit (n / 10) ∷ lastDigit n ∷ []))) ≡ true
+    cases true v = rw (last-is-digit n)
+    cases false true = rw (last-is-digit (n / 10), last-is-digit n)
+    cases false false = rw (last-is-digit (n / 100), last-is-digit (n / 10), last-is-digit n)
+
 -- The digits' used places hold the number as it is written.
 pub held-digits : (n : ℕ) → take (digitsOf n .len) (digitsOf n .bytes) ≡ decimal n
 held-digits n = take-append-seam (decimal n) _

@@ -5,9 +5,9 @@ use native.Mathlib.Omega.{arith}
 use mathlib.Core.Bool.{Bool, true, false, cond, _&&_}
 use mathlib.Core.List.{List, [], _∷_, _++_, append-nil}
 use mathlib.Core.Path.{_≡_, refl, sym, _∙_, ap, subst}
-use lib.Dec.{eqb, ltb}
+use lib.Dec.{eqb, ltb, leb}
 use lib.ListN.{length, take, replicate, length-append, length-replicate}
-use borrow.Author.Tests.{eqb-true, eqb-false, eq-eqb, ne-eqb, lt-ltb, le-leb, ltb-true, ltb-false}
+use borrow.Author.Tests.{eqb-true, eqb-false, eq-eqb, ne-eqb, lt-ltb, le-leb, leb-true, ltb-true, ltb-false}
 use Rattle.picture.specs.Data.{Digit, decimal, letter, Item, single, several, Items, Draws, Bytes}
 use Rattle.picture.specs.Data as told
 use Rattle.lists.specs.Padded.{held}
@@ -149,6 +149,14 @@ encoded-size (column ∷ rest) = size-cut (cut column rest)
 -- The writer's text for at most 96 columns, and the places that hold it.
 pub text-of-few : (columns : List ℕ) → length columns ≤ 96 → textOf columns ≡ encode columns
 text-of-few columns h = rw (le-leb (length columns) 96 h)
+
+-- Data fits its places, whatever the columns.
+pub text-fits : (columns : List ℕ) → length (textOf columns) ≤ 192
+text-fits columns = cases (leb (length columns) 96) refl
+  where
+    cases : (few : Bool) → leb (length columns) 96 ≡ few → length (cond few (encode columns) []) ≤ 192
+    cases true e = omega (arith, encoded-size columns, leb-true (length columns) 96 e)
+    cases false e = omega arith
 
 pub held-text : (columns : List ℕ) → take (dataWritten columns .len) (dataWritten columns .bytes) ≡ textOf columns
 held-text columns = held 192 (textOf columns)
