@@ -1,0 +1,76 @@
+-- `seen::contents_of` keeps its promise. Assumes nothing.
+use borrow.Author.Tests.{ltb-true}
+use borrow.Author.Needs.{needs}
+use Rattle.seen.specs.Rows.{contents}
+use Rattle.seen.proofs.contents_of.Statement.{statement}
+use Rattle.seen.proofs.contents_of.Tie as tie
+
+nothing-seen-requires : tie.Need-nothing-seen-requires
+nothing-seen-requires c κs = search needs
+
+enum-told : tie.Need-enum-told
+enum-told c = search needs
+
+enum-told-2 : tie.Need-enum-told-2
+enum-told-2 c = search needs
+
+bar-of-requires : tie.Need-bar-of-requires
+bar-of-requires c κs = search needs
+
+enum-known-owner : tie.Need-enum-known-owner
+enum-known-owner c = search needs
+
+text-row-requires : tie.Need-text-row-requires
+text-row-requires c κs = ltb-true _ _ (rw (c .before .before .before .owner .given .1) at (c .before .before .before .before .before .before .pre))
+
+enum-known-owner-2 : tie.Need-enum-known-owner-2
+enum-known-owner-2 c = search needs
+
+picture-row-requires : tie.Need-picture-row-requires
+picture-row-requires c κs = ltb-true _ _ (rw (c .before .before .before .owner2 .given .1) at (c .before .before .before .before .before .before .pre))
+
+enum-told-3 : tie.Need-enum-told-3
+enum-told-3 c = search needs
+
+labels-of-requires : tie.Need-labels-of-requires
+labels-of-requires c κs = search needs
+
+returns : tie.Need-returns
+unfolding contents
+returns c = rw (c .enum-told .given .1, c .before .before .nothing-seen .ensures)
+
+returns-2 : tie.Need-returns-2
+unfolding contents
+returns-2 c = rw (c .before .before .before .before .before .enum-told2 .given .1, c .before .before .before .before .before .before .before .nothing-seen .ensures, c .before .before .before .bar-of .ensures)
+
+returns-3 : tie.Need-returns-3
+unfolding contents
+returns-3 c = rw (c .before .before .before .before .before .before .before .owner .given .1, c .before .before .before .before .before .before .before .before .before .nothing-seen .ensures, c .before .before .before .text-row .ensures)
+
+returns-4 : tie.Need-returns-4
+unfolding contents
+returns-4 c = rw (c .before .before .before .before .before .before .before .owner2 .given .1, c .before .before .before .before .before .before .before .before .before .nothing-seen .ensures, c .before .before .before .picture-row .ensures)
+
+returns-5 : tie.Need-returns-5
+unfolding contents
+returns-5 c = rw (c .before .before .before .before .before .enum-told3 .given .1, c .before .before .before .before .before .before .before .nothing-seen .ensures, c .before .before .before .labels-of .ensures)
+
+pub contents-of-spec : {M : Type 1} → statement M
+contents-of-spec =
+    tie.close
+    (tie.spec
+    nothing-seen-requires
+    enum-told
+    enum-told-2
+    bar-of-requires
+    enum-known-owner
+    text-row-requires
+    enum-known-owner-2
+    picture-row-requires
+    enum-told-3
+    labels-of-requires
+    returns
+    returns-2
+    returns-3
+    returns-4
+    returns-5)

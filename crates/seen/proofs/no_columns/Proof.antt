@@ -1,0 +1,12 @@
+-- `seen::no_columns` keeps its promise. Assumes nothing.
+use mathlib.Core.Path.{refl}
+use Rattle.seen.specs.Rows.{noColumns}
+use Rattle.seen.proofs.no_columns.Statement.{statement}
+use Rattle.seen.proofs.no_columns.Tie as tie
+
+returns : tie.Need-returns
+unfolding noColumns
+returns c = refl
+
+pub no-columns-spec : {M : Type 1} → statement M
+no-columns-spec = tie.close (tie.spec returns)

@@ -1,0 +1,136 @@
+-- What follows from the definitions: display off, one owner for each row, the cursor, and whose the contents are. Assumes nothing.
+use Prim.Native.Nat.{ℕ, _+_, _*_, _-_, _≤_, _<_}
+use native.Mathlib.Omega.{arith}
+use mathlib.Core.Path.{_≡_, refl, ap, _∙_}
+use mathlib.Core.Bool.{Bool, true, false, not, cond, _&&_}
+use mathlib.Core.List.{List}
+use lib.Dec.{leb, ltb, eqb}
+use lib.ListN.{getD}
+use lib.Seq.{getD-drop, getD-take}
+use borrow.Author.Tests.{leb-true, lt-ltb, le-ltb}
+use Rattle.lists.specs.Both.{both}
+use Rattle.record.specs.Answer.{numberOf}
+use Rattle.record.specs.Range.{inRange}
+use Rattle.record.specs.With.{withPanel, withScreen, withShown, withRow, withColumn}
+use Rattle.record.specs.declared.Answer.the-variants.{Done, NotListed}
+use Rattle.record.specs.declared.Record.{Record}
+use Rattle.record.specs.declared.Screen.{Screen}
+use Rattle.seen.specs.declared.Owner.{Owner}
+use Rattle.seen.specs.declared.Owner.the-variants.{Nothing, IconBar, TextRow, PictureRow, SoftKeys}
+use Rattle.seen.specs.declared.Row.{Row}
+use Rattle.seen.specs.Places.{firstTextRow, covered, underBar, underLabels, underText, ownerOn, ownerAt, rowOwner, placed}
+use Rattle.seen.specs.Tests.{by-test}
+use Rattle.seen.specs.Rows.{rowOf, nothingSeen, contents, rowSeen, smsSeen, volumeSeen}
+
+-- The row question, once it is not refused.
+pub seen-row : (r : Record) (row : ℕ) → inRange r ≡ true → row ≤ 6 → rowSeen r row ≡ contents r (rowOwner r row)
+unfolding rowSeen
+seen-row r row ok h = rw (ok, le-ltb 6 row h)
+
+-- Numbers -------------------------------------------------------------------------------------------------------
+
+contents-done : (r : Record) (o : Owner) → contents r o .answer ≡ Done
+unfolding contents
+contents-done r Nothing = refl
+contents-done r IconBar = refl
+contents-done r (TextRow n) = refl
+contents-done r (PictureRow n) = refl
+contents-done r SoftKeys = refl
+
+-- The row question hands back 1 for a field out of range, then 4 for a display row above 6, else 0.
+pub row-number : (r : Record) (row : ℕ) → numberOf (rowSeen r row .answer) ≡ cond (not (inRange r)) 1 (cond (ltb 6 row) 4 0)
+unfolding rowSeen
+row-number r row =
+    by-test (inRange r)
+    (λ ok. by-test (ltb 6 row) (λ above. rw (ok, above)) (λ above. rw (ok, above, contents-done r (rowOwner r row))))
+    (λ bad. rw bad)
+
+-- The panels' questions hand back 1 for a field out of range, else 0.
+pub panel-numbers : (r : Record)
+    → (numberOf (smsSeen r .answer) ≡ cond (not (inRange r)) 1 0) × (numberOf (volumeSeen r .answer) ≡ cond (not (inRange r)) 1 0)
+unfolding smsSeen volumeSeen
+panel-numbers r = by-test (inRange r) (λ ok. (rw ok, rw ok)) (λ bad. (rw bad, rw bad))
+
+-- Display off -----------------------------------------------------------------------------------------------------
+
+-- With the display off every row of every record shows nothing.
+pub off-shows-nothing : (r : Record) (row : ℕ) → r .panel .screen .display ≡ false → rowSeen r row ≡ nothingSeen (rowSeen r row .answer)
+unfolding rowSeen ownerOn contents
+off-shows-nothing r row off =
+    by-test (inRange r)
+    (λ ok. by-test (ltb 6 row) (λ above. rw (ok, above)) (λ above. rw (ok, above, off)))
+    (λ bad. rw bad)
+
+-- One owner -------------------------------------------------------------------------------------------------------
+
+-- Every column of a row has the row's owner.
+pub one-owner : (r : Record) (row column : ℕ) → ownerAt r row column ≡ rowOwner r row
+unfolding ownerOn
+one-owner r row column = refl
+
+-- The six choices of a place, with any tests.
+choices-placed : (off picture bar labels text : Bool) (row n : ℕ) → row < 7 → (text ≡ true → n < 5)
+    → placed (cond off Nothing (cond picture (PictureRow row) (cond bar IconBar (cond labels SoftKeys (cond text (TextRow n) Nothing))))) ≡ true
+choices-placed true picture bar labels text row n h k = refl
+choices-placed false true bar labels text row n h k = lt-ltb row 7 h
+choices-placed false false true labels text row n h k = refl
+choices-placed false false false true text row n h k = refl
+choices-placed false false false false true row n h k = lt-ltb n 5 (k refl)
+choices-placed false false false false false row n h k = refl
+
+-- Where text stands: from its first row down to row 4.
+pub text-between : (s : Screen) (row : ℕ) → underText s row ≡ true → (firstTextRow (s .mode) ≤ row) × (row ≤ 4)
+unfolding underText
+text-between s row e =
+    let parts : ((eqb (s .overlay) 0 && leb (firstTextRow (s .mode)) row) ≡ true) × (leb row 4 ≡ true) = both e in
+    let above : (eqb (s .overlay) 0 ≡ true) × (leb (firstTextRow (s .mode)) row ≡ true) = both (parts .0) in
+    (leb-true (firstTextRow (s .mode)) row (above .1), leb-true row 4 (parts .1))
+
+-- An owner of a display row names a row that the record has.
+pub owner-placed : (s : Screen) (row column : ℕ) → row ≤ 6 → placed (ownerOn s row column) ≡ true
+unfolding ownerOn
+owner-placed s row column h =
+    choices-placed (not (s .display)) (covered s row) (underBar s row) (underLabels s row) (underText s row) row (row - firstTextRow (s .mode)) (omega arith)
+    (λ e. omega (arith, text-between s row e .1))
+
+-- The cursor ------------------------------------------------------------------------------------------------------
+
+-- the record with another cursor: shown or not, and its position
+abbrev pub withCursor : Record → Bool → ℕ → ℕ → Record
+withCursor r shown row column =
+    withPanel r (withShown (withScreen (r .panel) (withColumn (withRow (r .panel .screen) row) column)) shown)
+
+contents-alike : (r : Record) (shown : Bool) (row column : ℕ) (o : Owner) → contents (withCursor r shown row column) o ≡ contents r o
+unfolding contents
+contents-alike r shown row column Nothing = refl
+contents-alike r shown row column IconBar = refl
+contents-alike r shown row column (TextRow n) = refl
+contents-alike r shown row column (PictureRow n) = refl
+contents-alike r shown row column SoftKeys = refl
+
+-- Two records in range that differ only in the cursor are seen alike: every row, and both panels.
+pub cursor-unseen : (r : Record) (shown : Bool) (row column : ℕ) → inRange r ≡ true → inRange (withCursor r shown row column) ≡ true
+    → ((at : ℕ) → rowSeen (withCursor r shown row column) at ≡ rowSeen r at)
+    × (smsSeen (withCursor r shown row column) ≡ smsSeen r)
+    × (volumeSeen (withCursor r shown row column) ≡ volumeSeen r)
+unfolding rowSeen smsSeen volumeSeen ownerOn covered underBar underLabels underText
+cursor-unseen r shown row column ok ok′ =
+    (λ at. rw (ok, ok′) (ap (λ (q : Row). cond (ltb 6 at) (nothingSeen NotListed) q) (contents-alike r shown row column (rowOwner r at))), rw (ok, ok′), rw (ok, ok′))
+
+-- The contents ----------------------------------------------------------------------------------------------------
+
+-- Place i of row n is place width * n + i of the field.
+row-at : (width : ℕ) (cells : List ℕ) (n i : ℕ) → i < width → getD (rowOf width cells n) i 0 ≡ getD cells (width * n + i) 0
+row-at width cells n i h = getD-drop (width * n) _ i 0 ∙ getD-take (width * n + width) cells (width * n + i) 0 (omega arith)
+
+-- Text row n shows codes 16n to 16n + 15 of the text.
+pub text-row-own : (r : Record) (row n i : ℕ) → inRange r ≡ true → row ≤ 6 → rowOwner r row ≡ TextRow n → i < 16
+    → getD (rowSeen r row .codes) i 0 ≡ getD (r .text) (16 * n + i) 0
+unfolding contents
+text-row-own r row n i ok h e k = rw (seen-row r row ok h, e) (row-at 16 (r .text) n i k)
+
+-- Picture row n shows columns 96n to 96n + 95 of the picture.
+pub picture-row-own : (r : Record) (row n i : ℕ) → inRange r ≡ true → row ≤ 6 → rowOwner r row ≡ PictureRow n → i < 96
+    → getD (rowSeen r row .columns) i 0 ≡ getD (r .picture) (96 * n + i) 0
+unfolding contents
+picture-row-own r row n i ok h e k = rw (seen-row r row ok h, e) (row-at 96 (r .picture) n i k)

@@ -1,0 +1,7 @@
+pub mod Tests
+pub mod Panels
+pub mod Places
+pub mod Rows
+pub mod Table
+pub mod Laws
+pub mod Cases
