@@ -1,0 +1,8 @@
+pub mod Codes
+pub mod Rules
+pub mod Log
+pub mod Laws
+pub mod Turns
+pub mod Ranges
+pub mod Cuts
+pub mod Cases

@@ -1,0 +1,5 @@
+pub mod Taking
+pub mod Room
+pub mod Calls
+pub mod Loop
+pub mod Begins
