@@ -1,3 +1,10 @@
 pub mod Order
 pub mod Grammar
 pub mod InRange
+pub mod Reading
+pub mod Complete
+pub mod Sound
+pub mod Agree
+pub mod Facts
+pub mod Found
+pub mod Cases

@@ -1,5 +1,13 @@
 // The commands, and which of them a frame spells. A frame is the bytes between ESC and CR.
 // The grammar is in specs/Grammar.antt, which knows nothing of this reader.
+ghost use mathlib.Core.Path.{_≡_};
+ghost use mathlib.Core.Bool.{_||_};
+ghost use lib.Dec.{leb};
+ghost use Rattle.record.specs.Range.{modeInRange, iconUInRange, iconFInRange, iconPInRange, iconWInRange, time1InRange, time2InRange, buzzerInRange};
+ghost use Rattle.command.specs.InRange.{isOverlay, isColumn, isLevel, isLight, commandInRange};
+ghost use Rattle.command.specs.Reading.{soleOf, semicolonAt, paired, twoNumbers, withNumber, oneNumber, keyTimes, numberFrame, displayOf, lightOf, isText, onlyIf, labelOf, afterI, cursorSign, positionAt, positionOf, readOf, opensPicture, rowWith, noPicture, rowOf, drawnRow, pictureOf};
+use numeral::Numeral;
+use picture::Columns;
 
 // A command of letters, signs and numbers, with its numbers as they were spelt, 0 to 999, in range or not.
 pub enum Command {
@@ -36,4 +44,491 @@ pub enum Command {
 pub enum Side {
     Left,
     Right,
+}
+
+// The ranges of a command's numbers, document 01's second column.
+
+// 0-1: icons S and R, and mute
+fn is_flag(n: u16) -> bool
+    ensures same { λ r. ⌜ r ≡ leb n 1 ⌝ }
+{
+    match n {
+        0..=1 => true,
+        _ => false,
+    }
+}
+
+// A text mode 0, 1, 5 or 6, or an overlay 11, 12 or 13.
+fn is_mode(n: u16) -> bool
+    ensures same { λ r. ⌜ r ≡ (modeInRange n || isOverlay n) ⌝ }
+{
+    match n {
+        0..=1 => true,
+        5..=6 => true,
+        11..=13 => true,
+        _ => false,
+    }
+}
+
+fn is_column(n: u16) -> bool
+    ensures same { λ r. ⌜ r ≡ isColumn n ⌝ }
+{
+    match n {
+        0..=15 => true,
+        _ => false,
+    }
+}
+
+fn is_icon_u(n: u16) -> bool
+    ensures same { λ r. ⌜ r ≡ iconUInRange n ⌝ }
+{
+    match n {
+        0..=1 => true,
+        255 => true,
+        _ => false,
+    }
+}
+
+fn is_icon_f(n: u16) -> bool
+    ensures same { λ r. ⌜ r ≡ iconFInRange n ⌝ }
+{
+    match n {
+        0..=6 => true,
+        _ => false,
+    }
+}
+
+fn is_icon_p(n: u16) -> bool
+    ensures same { λ r. ⌜ r ≡ iconPInRange n ⌝ }
+{
+    match n {
+        0..=19 => true,
+        _ => false,
+    }
+}
+
+fn is_icon_w(n: u16) -> bool
+    ensures same { λ r. ⌜ r ≡ iconWInRange n ⌝ }
+{
+    match n {
+        0..=3 => true,
+        _ => false,
+    }
+}
+
+fn is_level(n: u16) -> bool
+    ensures same { λ r. ⌜ r ≡ isLevel n ⌝ }
+{
+    match n {
+        0..=10 => true,
+        _ => false,
+    }
+}
+
+fn is_time1(n: u16) -> bool
+    ensures same { λ r. ⌜ r ≡ time1InRange n ⌝ }
+{
+    match n {
+        4..=50 => true,
+        _ => false,
+    }
+}
+
+// No repeat, or as Time1.
+fn is_time2(n: u16) -> bool
+    ensures same { λ r. ⌜ r ≡ time2InRange n ⌝ }
+{
+    match n {
+        0 => true,
+        _ => is_time1(n),
+    }
+}
+
+fn is_buzzer(n: u16) -> bool
+    ensures same { λ r. ⌜ r ≡ buzzerInRange n ⌝ }
+{
+    match n {
+        0..=255 => true,
+        _ => false,
+    }
+}
+
+// Off, or a duration.
+fn is_light(n: u16) -> bool
+    ensures same { λ r. ⌜ r ≡ isLight n ⌝ }
+{
+    match n {
+        0 => true,
+        1..=255 => true,
+        _ => false,
+    }
+}
+
+// Whether a command's numbers are in range in a text mode of so many rows.
+pub fn in_range(c: Command, rows: u8) -> bool
+    ensures same { λ r. ⌜ r ≡ commandInRange rows c ⌝ }
+{
+    match c {
+        Command::DisplayOff => true,
+        Command::DisplayOn => true,
+        Command::Mode(n) => is_mode(n),
+        Command::CursorShown => true,
+        Command::CursorHidden => true,
+        Command::Clear => true,
+        Command::Position(row, column) => (row < rows as u16) & is_column(column),
+        Command::LabelsEmpty => true,
+        Command::IconS(n) => is_flag(n),
+        Command::IconU(n) => is_icon_u(n),
+        Command::IconF(n) => is_icon_f(n),
+        Command::IconR(n) => is_flag(n),
+        Command::IconP(n) => is_icon_p(n),
+        Command::IconW(n) => is_icon_w(n),
+        Command::Private(n) => is_level(n),
+        Command::Handsfree(n) => is_level(n),
+        Command::HandsfreeOfNote(n) => is_level(n),
+        Command::Mute(n) => is_flag(n),
+        Command::KeyTimes(time1, time2) => is_time1(time1) & is_time2(time2),
+        Command::Buzzer(n) => is_buzzer(n),
+        Command::Light(n) => is_light(n),
+        Command::LightOn => true,
+        Command::LightAutoStart => true,
+        Command::LightAuto => true,
+        Command::DefaultDuration => true,
+        Command::KeypadSet => true,
+        Command::KeypadCleared => true,
+    }
+}
+
+// What a frame that is no picture says. A label's codes are the frame's own from its fourth byte on.
+pub enum Reading {
+    Bad,
+    Plain(Command),
+    Label(Side),
+}
+
+// A picture frame's row and columns; a frame outside the grammar gives no columns, row 0 and zeros.
+pub struct PictureFrame {
+    pub row: u8,
+    pub columns: Columns,
+}
+
+enum NumberPair {
+    None,
+    Both(u16, u16),
+}
+
+// The lowest code of a text.
+const BLANK: u8 = 0x20;
+
+const LONGEST_LABEL: usize = 7;
+
+// The only byte of a slice of one; 0 of any other.
+fn sole(s: &[u8]) -> u8
+    ensures same { λ r. ⌜ r ≡ soleOf (now (s .entry)) ⌝ }
+{
+    let n = s.len();
+    match n {
+        1 => s[0],
+        _ => 0,
+    }
+}
+
+// Where the first ';' stands; the length where there is none.
+fn semicolon_at(s: &[u8]) -> usize
+    ensures same { λ r. ⌜ r ≡ semicolonAt (now (s .entry)) ⌝ }
+{
+    let mut i = 0;
+    while i < s.len() {
+        if s[i] == b';' {
+            return i;
+        }
+        i += 1;
+    }
+    i
+}
+
+fn paired(a: Numeral, b: Numeral) -> NumberPair
+    ensures same { λ r. ⌜ r ≡ paired a b ⌝ }
+{
+    match a {
+        Numeral::None => NumberPair::None,
+        Numeral::Value(m) => match b {
+            Numeral::None => NumberPair::None,
+            Numeral::Value(n) => NumberPair::Both(m, n),
+        },
+    }
+}
+
+// Two numbers with a ';' between them.
+fn two_numbers(s: &[u8]) -> NumberPair
+    ensures same { λ r. ⌜ r ≡ twoNumbers (now (s .entry)) ⌝ }
+{
+    let i = semicolon_at(s);
+    if i < s.len() {
+        paired(
+            numeral::read_number(&s[..i]),
+            numeral::read_number(&s[i + 1..]),
+        )
+    } else {
+        NumberPair::None
+    }
+}
+
+// The command of a letter and its number.
+fn with_number(letter: u8, n: u16) -> Reading
+    ensures same { λ r. ⌜ r ≡ withNumber letter n ⌝ }
+{
+    match letter {
+        b'D' => Reading::Plain(Command::Mode(n)),
+        b'S' => Reading::Plain(Command::IconS(n)),
+        b'U' => Reading::Plain(Command::IconU(n)),
+        b'F' => Reading::Plain(Command::IconF(n)),
+        b'R' => Reading::Plain(Command::IconR(n)),
+        b'P' => Reading::Plain(Command::IconP(n)),
+        b'W' => Reading::Plain(Command::IconW(n)),
+        b'L' => Reading::Plain(Command::Private(n)),
+        b'J' => Reading::Plain(Command::Handsfree(n)),
+        b'I' => Reading::Plain(Command::HandsfreeOfNote(n)),
+        b'M' => Reading::Plain(Command::Mute(n)),
+        b'B' => Reading::Plain(Command::Buzzer(n)),
+        b'E' => Reading::Plain(Command::Light(n)),
+        _ => Reading::Bad,
+    }
+}
+
+fn one_number(letter: u8, value: Numeral) -> Reading
+    ensures same { λ r. ⌜ r ≡ oneNumber letter value ⌝ }
+{
+    match value {
+        Numeral::None => Reading::Bad,
+        Numeral::Value(n) => with_number(letter, n),
+    }
+}
+
+fn key_times(pair: NumberPair) -> Reading
+    ensures same { λ r. ⌜ r ≡ keyTimes pair ⌝ }
+{
+    match pair {
+        NumberPair::None => Reading::Bad,
+        NumberPair::Both(time1, time2) => Reading::Plain(Command::KeyTimes(time1, time2)),
+    }
+}
+
+// The frames of an I, a letter and a number or two.
+fn number_frame(letter: u8, rest: &[u8]) -> Reading
+    ensures same { λ r. ⌜ r ≡ numberFrame letter (now (rest .entry)) ⌝ }
+{
+    match letter {
+        b'T' => key_times(two_numbers(rest)),
+        _ => one_number(letter, numeral::read_number(rest)),
+    }
+}
+
+// After ID: a letter, or a number.
+fn display(rest: &[u8]) -> Reading
+    ensures same { λ r. ⌜ r ≡ displayOf (now (rest .entry)) ⌝ }
+{
+    let letter = sole(rest);
+    match letter {
+        b'D' => Reading::Plain(Command::DisplayOff),
+        b'E' => Reading::Plain(Command::DisplayOn),
+        _ => number_frame(b'D', rest),
+    }
+}
+
+// After IE: a letter, or a number.
+fn light(rest: &[u8]) -> Reading
+    ensures same { λ r. ⌜ r ≡ lightOf (now (rest .entry)) ⌝ }
+{
+    let letter = sole(rest);
+    match letter {
+        b'E' => Reading::Plain(Command::LightOn),
+        b'A' => Reading::Plain(Command::LightAutoStart),
+        b'S' => Reading::Plain(Command::LightAuto),
+        b'R' => Reading::Plain(Command::DefaultDuration),
+        b'e' => Reading::Plain(Command::KeypadSet),
+        b'r' => Reading::Plain(Command::KeypadCleared),
+        _ => number_frame(b'E', rest),
+    }
+}
+
+// A label's text: at most 7 codes, none below 0x20.
+fn is_text(t: &[u8]) -> bool
+    ensures same { λ r. ⌜ r ≡ isText (now (t .entry)) ⌝ }
+{
+    if LONGEST_LABEL < t.len() {
+        return false;
+    }
+    let mut i = 0;
+    while i < t.len() {
+        if t[i] < BLANK {
+            return false;
+        }
+        i += 1;
+    }
+    true
+}
+
+fn only_if(good: bool, reading: Reading) -> Reading
+    ensures same { λ r. ⌜ r ≡ onlyIf good reading ⌝ }
+{
+    if good { reading } else { Reading::Bad }
+}
+
+// After IK: 0 and no more, or 1 or 2 and a text.
+fn label(rest: &[u8]) -> Reading
+    ensures same { λ r. ⌜ r ≡ labelOf (now (rest .entry)) ⌝ }
+{
+    let n = rest.len();
+    if n == 0 {
+        return Reading::Bad;
+    }
+    let sign = rest[0];
+    match sign {
+        b'0' => only_if(n == 1, Reading::Plain(Command::LabelsEmpty)),
+        b'1' => only_if(is_text(&rest[1..]), Reading::Label(Side::Left)),
+        b'2' => only_if(is_text(&rest[1..]), Reading::Label(Side::Right)),
+        _ => Reading::Bad,
+    }
+}
+
+// The byte after I picks the command.
+fn after_i(letter: u8, rest: &[u8]) -> Reading
+    ensures same { λ r. ⌜ r ≡ afterI letter (now (rest .entry)) ⌝ }
+{
+    match letter {
+        b'D' => display(rest),
+        b'E' => light(rest),
+        b'K' => label(rest),
+        _ => number_frame(letter, rest),
+    }
+}
+
+// After &.
+fn cursor_sign(sign: u8) -> Reading
+    ensures same { λ r. ⌜ r ≡ cursorSign sign ⌝ }
+{
+    match sign {
+        b'C' => Reading::Plain(Command::CursorShown),
+        b'D' => Reading::Plain(Command::CursorHidden),
+        b'#' => Reading::Plain(Command::Clear),
+        _ => Reading::Bad,
+    }
+}
+
+fn position_at(pair: NumberPair) -> Reading
+    ensures same { λ r. ⌜ r ≡ positionAt pair ⌝ }
+{
+    match pair {
+        NumberPair::None => Reading::Bad,
+        NumberPair::Both(row, column) => Reading::Plain(Command::Position(row, column)),
+    }
+}
+
+// After [: two numbers and an H.
+fn position(s: &[u8]) -> Reading
+    ensures same { λ r. ⌜ r ≡ positionOf (now (s .entry)) ⌝ }
+{
+    let n = s.len();
+    if n == 0 {
+        return Reading::Bad;
+    }
+    let end = n - 1;
+    if s[end] == b'H' {
+        position_at(two_numbers(&s[..end]))
+    } else {
+        Reading::Bad
+    }
+}
+
+// The command that a frame spells, or the label that it sets; Bad for a picture frame, which read_picture reads.
+pub fn read_command(f: &[u8]) -> Reading
+    ensures same { λ r. ⌜ r ≡ readOf (now (f .entry)) ⌝ }
+{
+    if f.len() < 2 {
+        return Reading::Bad;
+    }
+    let first = f[0];
+    let letter = f[1];
+    match first {
+        b'I' => after_i(letter, &f[2..]),
+        b'&' => cursor_sign(sole(&f[1..])),
+        b'[' => position(&f[1..]),
+        _ => Reading::Bad,
+    }
+}
+
+// Whether a frame is to be read as a picture.
+pub fn opens_picture(f: &[u8]) -> bool
+    ensures same { λ r. ⌜ r ≡ opensPicture (now (f .entry)) ⌝ }
+{
+    if f.len() < 2 {
+        return false;
+    }
+    (f[0] == b'G') & (f[1] == b'r')
+}
+
+fn no_picture() -> PictureFrame
+    ensures same { λ r. ⌜ r ≡ noPicture ⌝ }
+{
+    PictureFrame {
+        row: 0,
+        columns: picture::read_data(b""),
+    }
+}
+
+// A row and its columns; without columns there is no row.
+fn row_with(row: u8, columns: Columns) -> PictureFrame
+    ensures same { λ r. ⌜ r ≡ rowWith row columns ⌝ }
+{
+    let len = columns.len;
+    match len {
+        0 => PictureFrame {
+            row: 0,
+            columns: columns,
+        },
+        _ => PictureFrame {
+            row: row,
+            columns: columns,
+        },
+    }
+}
+
+// The row's digit and the data.
+fn row_of(digit: u8, codes: &[u8]) -> PictureFrame
+    ensures same { λ r. ⌜ r ≡ rowOf digit (now (codes .entry)) ⌝ }
+{
+    match digit {
+        b'0'..=b'9' => row_with(digit - b'0', picture::read_data(codes)),
+        _ => no_picture(),
+    }
+}
+
+// The row's digit and what follows the comma: data and a z.
+fn drawn_row(digit: u8, rest: &[u8]) -> PictureFrame
+    ensures same { λ r. ⌜ r ≡ drawnRow digit (now (rest .entry)) ⌝ }
+{
+    let n = rest.len();
+    if n == 0 {
+        return no_picture();
+    }
+    let end = n - 1;
+    if rest[end] == b'z' {
+        row_of(digit, &rest[..end])
+    } else {
+        no_picture()
+    }
+}
+
+// The row and the columns that a picture frame draws.
+pub fn read_picture(f: &[u8]) -> PictureFrame
+    ensures same { λ r. ⌜ r ≡ pictureOf (now (f .entry)) ⌝ }
+{
+    if f.len() < 4 {
+        return no_picture();
+    }
+    if (f[0] == b'G') & (f[1] == b'r') & (f[3] == b',') {
+        return drawn_row(f[2], &f[4..]);
+    }
+    no_picture()
 }

@@ -1,0 +1,71 @@
+-- The numbers of a command in range are bytes. Assumes nothing.
+use Prim.Native.Nat.{ℕ, _≤_, _<_}
+use native.Mathlib.Omega.{arith}
+use mathlib.Core.Bool.{Bool, true, false, true≢false, cond, _&&_, _||_}
+use mathlib.Core.Path.{_≡_, refl, sym, subst, _∙_}
+use lib.Dec.{leb, ltb, eqb}
+use borrow.Author.Tests.{leb-true, leb-false, ltb-true, eqb-true, eqb-false, ne-eqb}
+use Rattle.lists.specs.Both.{both}
+use Rattle.record.specs.Range.{rowsOf, modeInRange, iconUInRange, time1InRange, time2InRange}
+use Rattle.command.specs.InRange.{isOverlay, isColumn, commandInRange}
+use Rattle.command.specs.declared.Command.{Command}
+use Rattle.command.specs.declared.Command.the-variants.{Position, KeyTimes}
+
+-- a test that no number above 255 passes
+small-by : (test : ℕ → Bool) → ((n : ℕ) → 255 < n → test n ≡ false) → (n : ℕ) → test n ≡ true → n ≤ 255
+small-by test high n h = cases (leb n 255) refl
+  where
+    cases : (b : Bool) → leb n 255 ≡ b → n ≤ 255
+    cases true e = leb-true n 255 e
+    cases false e = absurd (true≢false (sym h ∙ high n (leb-false n 255 e)))
+
+pub at-most : (most n : ℕ) → most ≤ 255 → leb n most ≡ true → n ≤ 255
+at-most most n l h = omega (arith, leb-true n most h)
+
+pub small-mode : (n : ℕ) → (modeInRange n || isOverlay n) ≡ true → n ≤ 255
+small-mode =
+    small-by (λ n. modeInRange n || isOverlay n)
+    (λ n h. simp (ne-eqb n 0 (λ e. omega arith), ne-eqb n 1 (λ e. omega arith), ne-eqb n 5 (λ e. omega arith), ne-eqb n 6 (λ e. omega arith), ne-eqb n 11 (λ e. omega arith), ne-eqb n 12 (λ e. omega arith), ne-eqb n 13 (λ e. omega arith)))
+
+pub small-icon-u : (n : ℕ) → iconUInRange n ≡ true → n ≤ 255
+small-icon-u = small-by iconUInRange (λ n h. simp (ne-eqb n 0 (λ e. omega arith), ne-eqb n 1 (λ e. omega arith), ne-eqb n 255 (λ e. omega arith)))
+
+-- 0, or a number from the least to the most
+pub small-from : (least most n : ℕ) → most ≤ 255 → (eqb n 0 || (leb least n && leb n most)) ≡ true → n ≤ 255
+small-from least most n l h = cases (eqb n 0) refl h
+  where
+    cases : (b : Bool) → eqb n 0 ≡ b → (b || (leb least n && leb n most)) ≡ true → n ≤ 255
+    cases true e k = omega (arith, eqb-true n 0 e)
+    cases false e k = at-most most n l (both {a = leb least n} k .1)
+
+-- a row of a text mode and a column
+pub small-position : {k : Command} {row column : ℕ} (mode : ℕ) → k ≡ Position row column → commandInRange (rowsOf mode) k ≡ true → (row ≤ 255) × (column ≤ 255)
+small-position {k} {row} {column} mode e h =
+    let b = both {a = ltb row (rowsOf mode)} {b = isColumn column} (subst (λ (x : Command). commandInRange (rowsOf mode) x ≡ true) e h) in
+    (cases (leb mode 1) (ltb-true row (rowsOf mode) (b .0)), at-most 15 column (omega arith) (b .1))
+  where
+    cases : (b : Bool) → row < cond b 4 5 → row ≤ 255
+    cases true l = omega arith
+    cases false l = omega arith
+
+-- Time1 and Time2
+pub small-times : {k : Command} {time1 time2 : ℕ} (rows : ℕ) → k ≡ KeyTimes time1 time2 → commandInRange rows k ≡ true → (time1 ≤ 255) × (time2 ≤ 255)
+small-times {k} {time1} {time2} rows e h =
+    let b = both {a = time1InRange time1} {b = time2InRange time2} (subst (λ (x : Command). commandInRange rows x ≡ true) e h) in
+    (at-most 50 time1 (omega arith) (both {a = leb 4 time1} (b .0) .1), small-from 4 50 time2 (omega arith) (b .1))
+
+-- 11, 12 and 13 are the overlays, and no other number is
+pub overlays : (n : ℕ) → 11 ≤ n → n ≤ 13 → true ≡ isOverlay n
+overlays n low high = cases (eqb n 11) (eqb n 12) refl refl
+  where
+    cases : (b d : Bool) → eqb n 11 ≡ b → eqb n 12 ≡ d → true ≡ isOverlay n
+    cases true d e f = rw (eqb-true n 11 e)
+    cases false true e f = rw (eqb-true n 12 f)
+    cases false false e f = let q : n ≡ 13 = omega (arith, eqb-false n 11 e, eqb-false n 12 f) in rw q
+
+pub no-overlay : (n : ℕ) → (11 ≤ n → n ≤ 13 → ⊥) → isOverlay n ≡ false
+no-overlay n out = cases (eqb n 0) refl
+  where
+    cases : (b : Bool) → eqb n 0 ≡ b → isOverlay n ≡ false
+    cases true e = rw (eqb-true n 0 e)
+    cases false e = simp (e, ne-eqb n 11 (λ q. out (omega arith) (omega arith)), ne-eqb n 12 (λ q. out (omega arith) (omega arith)), ne-eqb n 13 (λ q. out (omega arith) (omega arith)))

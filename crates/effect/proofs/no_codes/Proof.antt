@@ -1,0 +1,11 @@
+use mathlib.Core.Path.{refl}
+use Rattle.lists.specs.Padded.{padded}
+use Rattle.effect.proofs.no_codes.Statement.{statement}
+use Rattle.effect.proofs.no_codes.Tie as tie
+
+returns : tie.Need-returns
+unfolding padded
+returns c = refl
+
+pub no-codes-spec : {M : Type 1} → statement M
+no-codes-spec = tie.close (tie.spec returns)

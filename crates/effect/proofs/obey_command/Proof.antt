@@ -1,0 +1,31 @@
+-- A command in range is carried out, another is passed over. Assumes nothing.
+use mathlib.Core.Path.{sym, _∙_}
+use Rattle.effect.specs.Effect.{carryOut}
+use borrow.Author.Needs.{needs}
+use Rattle.effect.proofs.obey_command.Statement.{statement}
+use Rattle.effect.proofs.obey_command.Tie as tie
+
+rows-requires : tie.Need-rows-requires
+rows-requires c κs = search needs
+
+in-range-requires : tie.Need-in-range-requires
+in-range-requires c κs = search needs
+
+changed-requires : tie.Need-changed-requires
+changed-requires c κs = rw (c .before .before .before .rows .ensures) at (sym (c .before .before .in-range .ensures) ∙ c .before .if1 .taken)
+
+returns : tie.Need-returns
+unfolding carryOut
+returns c =
+    let passed = rw (c .before .before .before .before .rows .ensures) at (sym (c .before .before .before .in-range .ensures) ∙ c .before .before .if1 .taken) in
+    λ g. rw passed (c .changed .ensures g)
+
+returns-2 : tie.Need-returns-2
+unfolding carryOut
+returns-2 c =
+    let refused = rw (c .before .before .rows .ensures) at (sym (c .before .in-range .ensures) ∙ c .if1 .left) in
+    λ g. rw refused
+
+pub obey-command-spec : {M : Type 1} → statement M
+obey-command-spec =
+    tie.close (tie.spec rows-requires in-range-requires changed-requires returns returns-2)

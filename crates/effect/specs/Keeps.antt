@@ -1,0 +1,319 @@
+-- Whatever a frame orders and whatever text byte comes, the core stays within its ranges. Assumes nothing.
+use Prim.Native.Nat.{ℕ, suc, _+_, _*_, _-_, _%_, _<_, _≤_}
+use native.Mathlib.Omega.{arith}
+use native.Mathlib.Nat.{mod-lt}
+use mathlib.Core.Bool.{Bool, true, false, true≢false, cond, not, _&&_, _||_}
+use mathlib.Core.List.{List, [], _∷_, _++_, map}
+use mathlib.Core.Option.{Option, none, some}
+use mathlib.Core.Path.{_≡_, refl, sym, ap, _∙_}
+use lib.Dec.{leb, ltb, eqb}
+use lib.ListN.{length, set, take, drop, replicate, length-set, length-map}
+use lib.Seq.{sets, slice, length-sets, take-all, drop-append-seam}
+use borrow.Author.Tests.{leb-true, ltb-true, lt-ltb, le-leb, eq-eqb, eqb-true, eqb-false}
+use Rattle.lists.specs.Both.{both, and-both}
+use Rattle.lists.specs.Every.{every}
+use Rattle.lists.specs.Padded.{padded, held, length-padded}
+use Rattle.record.specs.declared.Record.{Record}
+use Rattle.record.specs.declared.Panel.{Panel}
+use Rattle.record.specs.declared.Screen.{Screen}
+use Rattle.record.specs.declared.Icons.{Icons}
+use Rattle.record.specs.declared.Volume.{Volume}
+use Rattle.record.specs.declared.Backlight.{Backlight}
+use Rattle.record.specs.declared.Label.{Label}
+use Rattle.record.specs.declared.Held.{Held}
+use Rattle.record.specs.declared.Frame.{Frame}
+use Rattle.record.specs.Laws.{Ranges}
+use Rattle.record.specs.Range.{rowsOf, lastColumnOf, isCode, isLowColumn, isUnused, modeInRange, overlayInRange, cursorInRange, textInRange, labelInRange, pictureInRange, iconSInRange, iconUInRange, iconFInRange, iconRInRange, iconPInRange, iconWInRange, iconsInRange, whichInRange, levelInRange, volumeInRange, timesInRange, buzzerInRange, durationInRange, backlightInRange, heldInRange, frameInRange}
+use Rattle.record.specs.With.{withLeft, withRight, withShown, withIconS, withIconU, withIconF, withIconR, withIconP, withIconW}
+use Rattle.command.specs.Order.{Order, plain, label, draw}
+use Rattle.command.specs.InRange.{isOverlay, inRangeInMode}
+use Rattle.command.specs.Grammar.{Spells}
+use Rattle.command.specs.Reading.{orderOf}
+use Rattle.command.specs.Sound.{sound}
+use Rattle.command.specs.Facts.{LabelText, PictureRow, read-label, read-row}
+use Rattle.command.specs.declared.Command.the-variants.{DisplayOff, DisplayOn, Mode, CursorShown, CursorHidden, Clear, Position, LabelsEmpty, IconS, IconU, IconF, IconR, IconP, IconW, Private, Handsfree, HandsfreeOfNote, Mute, KeyTimes, Buzzer, Light, LightOn, LightAutoStart, LightAuto, DefaultDuration, KeypadSet, KeypadCleared}
+use Rattle.command.specs.declared.Side.the-variants.{Left, Right}
+use Rattle.effect.specs.Core.{Core, coreOf, onPanel, onText, onPicture, onScreen, onIcons, onVolume, onBacklight}
+use Rattle.effect.specs.Effect.{at, inMode, blanks, labelOf, atLevel, muted, lightAt, keptIn, drawn, effect, carryOut, storeText}
+use Rattle.effect.specs.Obey.{obeyOrder}
+use Rattle.effect.specs.Sets.{every-set, every-replicate, sets-keep}
+
+-- The rows of document 01's table that a core has.
+pub record CoreInRange (c : Core) : Type 0 where
+  pub mode : modeInRange (c .panel .screen .mode) ≡ true
+  pub overlay : overlayInRange (c .panel .screen .overlay) ≡ true
+  pub cursor : cursorInRange (c .panel .screen) ≡ true
+  pub text : textInRange (c .text) ≡ true
+  pub left : labelInRange (c .panel .left) ≡ true
+  pub right : labelInRange (c .panel .right) ≡ true
+  pub picture : pictureInRange (c .picture) ≡ true
+  pub icons : iconsInRange (c .panel .icons) ≡ true
+  pub volume : volumeInRange (c .panel .volume) ≡ true
+  pub times : timesInRange (c .panel .times) ≡ true
+  pub buzzer : buzzerInRange (c .panel .buzzer .0) ≡ true
+  pub backlight : backlightInRange (c .panel .backlight) ≡ true
+
+-- A record in range has its core in range; a core, a held key and a frame in range make a record in range.
+pub core-of-record : (r : Record) → Ranges r → CoreInRange (coreOf r)
+core-of-record r k =
+    record { mode = k .mode; overlay = k .overlay; cursor = k .cursor; text = k .text; left = k .left; right = k .right; picture = k .picture; icons = k .icons; volume = k .volume; times = k .times; buzzer = k .buzzer; backlight = k .backlight }
+
+abbrev pub recordOf : Core → Held → Frame → Record
+recordOf c held frame = record { panel = c .panel; text = c .text; picture = c .picture; held = held; frame = frame }
+
+pub record-of-core : (c : Core) (held : Held) (frame : Frame) → CoreInRange c → heldInRange held ≡ true → frameInRange frame ≡ true → Ranges (recordOf c held frame)
+record-of-core c held frame k h f =
+    record { mode = k .mode; overlay = k .overlay; cursor = k .cursor; text = k .text; left = k .left; right = k .right; picture = k .picture; icons = k .icons; volume = k .volume; times = k .times; buzzer = k .buzzer; backlight = k .backlight; held = h; frame = f }
+
+-- One part changed ------------------------------------------------------------------------------------------------
+
+module _ (c : Core) (k : CoreInRange c) where
+  on-screen : (s : Screen) → modeInRange (s .mode) ≡ true → overlayInRange (s .overlay) ≡ true → cursorInRange s ≡ true → CoreInRange (onScreen c s)
+  on-screen s m o p =
+      record { mode = m; overlay = o; cursor = p; text = k .text; left = k .left; right = k .right; picture = k .picture; icons = k .icons; volume = k .volume; times = k .times; buzzer = k .buzzer; backlight = k .backlight }
+
+  on-shown : (b : Bool) → CoreInRange (onPanel c (withShown (c .panel) b))
+  on-shown b =
+      record { mode = k .mode; overlay = k .overlay; cursor = k .cursor; text = k .text; left = k .left; right = k .right; picture = k .picture; icons = k .icons; volume = k .volume; times = k .times; buzzer = k .buzzer; backlight = k .backlight }
+
+  on-labels : (l r : Label) → labelInRange l ≡ true → labelInRange r ≡ true → CoreInRange (onPanel c (withRight (withLeft (c .panel) l) r))
+  on-labels l r h g =
+      record { mode = k .mode; overlay = k .overlay; cursor = k .cursor; text = k .text; left = h; right = g; picture = k .picture; icons = k .icons; volume = k .volume; times = k .times; buzzer = k .buzzer; backlight = k .backlight }
+
+  on-icons : (i : Icons) → iconsInRange i ≡ true → CoreInRange (onIcons c i)
+  on-icons i h =
+      record { mode = k .mode; overlay = k .overlay; cursor = k .cursor; text = k .text; left = k .left; right = k .right; picture = k .picture; icons = h; volume = k .volume; times = k .times; buzzer = k .buzzer; backlight = k .backlight }
+
+  on-volume : (v : Volume) → volumeInRange v ≡ true → CoreInRange (onVolume c v)
+  on-volume v h =
+      record { mode = k .mode; overlay = k .overlay; cursor = k .cursor; text = k .text; left = k .left; right = k .right; picture = k .picture; icons = k .icons; volume = h; times = k .times; buzzer = k .buzzer; backlight = k .backlight }
+
+  on-backlight : (b : Backlight) → backlightInRange b ≡ true → CoreInRange (onBacklight c b)
+  on-backlight b h =
+      record { mode = k .mode; overlay = k .overlay; cursor = k .cursor; text = k .text; left = k .left; right = k .right; picture = k .picture; icons = k .icons; volume = k .volume; times = k .times; buzzer = k .buzzer; backlight = h }
+
+  on-text : (t : List ℕ) → textInRange t ≡ true → CoreInRange (onText c t)
+  on-text t h =
+      record { mode = k .mode; overlay = k .overlay; cursor = k .cursor; text = h; left = k .left; right = k .right; picture = k .picture; icons = k .icons; volume = k .volume; times = k .times; buzzer = k .buzzer; backlight = k .backlight }
+
+  on-picture : (g : List ℕ) → pictureInRange g ≡ true → CoreInRange (onPicture c g)
+  on-picture g h =
+      record { mode = k .mode; overlay = k .overlay; cursor = k .cursor; text = k .text; left = k .left; right = k .right; picture = h; icons = k .icons; volume = k .volume; times = k .times; buzzer = k .buzzer; backlight = k .backlight }
+
+-- The parts -------------------------------------------------------------------------------------------------------
+
+-- either test holds
+or-right : {a b : Bool} → (a || b) ≡ true → a ≡ false → b ≡ true
+or-right {a = true} h e = absurd (true≢false e)
+or-right {a = false} h e = h
+
+or-left : {a b : Bool} → (a || b) ≡ true → b ≡ false → a ≡ true
+or-left {a = true} h e = refl
+or-left {a = false} h e = absurd (true≢false (sym h ∙ e))
+
+or-true : (a : Bool) → (a || true) ≡ true
+or-true true = refl
+or-true false = refl
+
+-- position 0,0 is in every mode
+home : (mode : ℕ) → (ltb 0 (rowsOf mode) && leb 0 (lastColumnOf mode)) ≡ true
+home mode = cases (leb mode 1)
+  where
+    cases : (b : Bool) → (ltb 0 (cond b 4 5) && leb 0 16) ≡ true
+    cases true = refl
+    cases false = refl
+
+mode-keeps : (c : Core) (n : ℕ) → CoreInRange c → (modeInRange n || isOverlay n) ≡ true → CoreInRange (effect (plain (Mode n)) c)
+mode-keeps c n k h = cases (isOverlay n) refl
+  where
+    cases : (b : Bool) → isOverlay n ≡ b → CoreInRange (onScreen c (cond b (record { display = c .panel .screen .display; mode = c .panel .screen .mode; overlay = n; row = c .panel .screen .row; column = c .panel .screen .column }) (inMode (c .panel .screen) n)))
+    cases true e = on-screen c k _ (k .mode) (both {a = overlayInRange n} e .0) (k .cursor)
+    cases false e = on-screen c k (inMode (c .panel .screen) n) (or-left h e) refl (home n)
+
+unused-codes : (t : List ℕ) → every isUnused (drop (length t) (padded 7 t)) ≡ true
+unfolding padded
+unused-codes t = rw (drop-append-seam t (replicate (7 - length t) 0)) (every-replicate isUnused (7 - length t) 0 refl)
+
+-- a label of the grammar
+label-keeps : (t : List ℕ) → LabelText t → labelInRange (labelOf t) ≡ true
+unfolding labelInRange
+label-keeps t l =
+    and-both (and-both (and-both (eq-eqb (length (padded 7 t)) 7 (length-padded 7 t (l .most))) (le-leb (length t) 7 (l .most))) (rw (held 7 t) (l .good)))
+    (rw (take-all 7 (padded 7 t) (omega (arith, length-padded 7 t (l .most)))) (unused-codes t))
+
+no-label : labelInRange (labelOf []) ≡ true
+unfolding labelInRange padded
+no-label = refl
+
+blanks-in-range : textInRange blanks ≡ true
+unfolding textInRange blanks
+blanks-in-range = refl
+
+-- the icons, each by itself
+record EachIcon (i : Icons) : Type 0 where
+  s : iconSInRange (i .s) ≡ true
+  u : iconUInRange (i .u) ≡ true
+  f : iconFInRange (i .f) ≡ true
+  r : iconRInRange (i .r) ≡ true
+  p : iconPInRange (i .p) ≡ true
+  w : iconWInRange (i .w) ≡ true
+
+each-icon : (i : Icons) → iconsInRange i ≡ true → EachIcon i
+each-icon i h =
+    let e5 = both {b = iconWInRange (i .w)} h in
+    let e4 = both {b = iconPInRange (i .p)} (e5 .0) in
+    let e3 = both {b = iconRInRange (i .r)} (e4 .0) in
+    let e2 = both {b = iconFInRange (i .f)} (e3 .0) in
+    let e1 = both {a = iconSInRange (i .s)} {b = iconUInRange (i .u)} (e2 .0) in
+    record { s = e1 .0; u = e1 .1; f = e2 .1; r = e3 .1; p = e4 .1; w = e5 .1 }
+
+all-icons : (i : Icons) → EachIcon i → iconsInRange i ≡ true
+all-icons i e = and-both (and-both (and-both (and-both (and-both (e .s) (e .u)) (e .f)) (e .r)) (e .p)) (e .w)
+
+icon-keeps : (c : Core) → CoreInRange c → (i : Icons) → (EachIcon (c .panel .icons) → EachIcon i) → CoreInRange (onIcons c i)
+icon-keeps c k i step = on-icons c k i (all-icons i (step (each-icon (c .panel .icons) (k .icons))))
+
+-- a volume at a level
+level-keeps : (c : Core) (which n : ℕ) → CoreInRange c → leb which 2 ≡ true → eqb which 0 ≡ false → leb n 10 ≡ true → CoreInRange (onVolume c (atLevel (c .panel .volume) which n))
+level-keeps c which n k w z h = cases (eqb n 0) refl
+  where
+    cases : (b : Bool) → eqb n 0 ≡ b → CoreInRange (onVolume c (cond b (record { which = 0; level = 0; mute = c .panel .volume .mute; hidden = true }) (record { which = which; level = n; mute = c .panel .volume .mute; hidden = false })))
+    cases true e = on-volume c k _ refl
+    cases false e = on-volume c k _ (rw (w, z, le-leb 1 n (omega (arith, eqb-false n 0 e)), h))
+
+mute-keeps : (c : Core) (n : ℕ) → CoreInRange c → CoreInRange (onVolume c (muted (c .panel .volume) n))
+mute-keeps c n k = cases (eqb n 0)
+  where
+    cases : (b : Bool) → CoreInRange (onVolume c (cond b (record { which = c .panel .volume .which; level = c .panel .volume .level; mute = false; hidden = c .panel .volume .hidden }) (record { which = c .panel .volume .which; level = c .panel .volume .level; mute = true; hidden = false })))
+    cases true = on-volume c k _ (k .volume)
+    cases false =
+        on-volume c k _
+        (and-both (both {a = whichInRange (c .panel .volume .which) && levelInRange (c .panel .volume .which) (c .panel .volume .level)} (k .volume) .0) (or-true (eqb (c .panel .volume .which) 0)))
+
+-- a backlight mode and a duration in range, with no seconds left unless in auto
+light-keeps : (c : Core) (b : Backlight) → CoreInRange c → leb (b .mode) 2 ≡ true → durationInRange (b .duration .0) ≡ true → (eqb (b .left .0) 0 || eqb (b .mode) 2) ≡ true → CoreInRange (onBacklight c b)
+light-keeps c b k m d l = on-backlight c k b (and-both (and-both m d) l)
+
+duration-of : (b : Backlight) → backlightInRange b ≡ true → durationInRange (b .duration .0) ≡ true
+duration-of b h = both {a = leb (b .mode) 2} (both {a = leb (b .mode) 2 && durationInRange (b .duration .0)} h .0) .1
+
+mode-of : (b : Backlight) → backlightInRange b ≡ true → leb (b .mode) 2 ≡ true
+mode-of b h = both {a = leb (b .mode) 2} {b = durationInRange (b .duration .0)} (both {a = leb (b .mode) 2 && durationInRange (b .duration .0)} h .0) .0
+
+left-of : (b : Backlight) → backlightInRange b ≡ true → (eqb (b .left .0) 0 || eqb (b .mode) 2) ≡ true
+left-of b h = both {a = leb (b .mode) 2 && durationInRange (b .duration .0)} h .1
+
+number-keeps : (c : Core) (n : ℕ) → CoreInRange c → (eqb n 0 || durationInRange n) ≡ true → CoreInRange (onBacklight c (lightAt (c .panel .backlight) n))
+number-keeps c n k h = cases (eqb n 0) refl
+  where
+    cases : (b : Bool) → eqb n 0 ≡ b → CoreInRange (onBacklight c (cond b (record { mode = 0; duration = c .panel .backlight .duration; left = record { 0 = 0 }; keypad = c .panel .backlight .keypad }) (record { mode = c .panel .backlight .mode; duration = record { 0 = n }; left = c .panel .backlight .left; keypad = c .panel .backlight .keypad })))
+    cases true e = light-keeps c _ k refl (duration-of (c .panel .backlight) (k .backlight)) refl
+    cases false e = light-keeps c _ k (mode-of (c .panel .backlight) (k .backlight)) (or-right h e) (left-of (c .panel .backlight) (k .backlight))
+
+-- in picture row 6 only low columns are stored, and no other row reaches it
+low-columns : (columns : List ℕ) → every isLowColumn (map (keptIn 6) columns) ≡ true
+low-columns [] = refl
+low-columns (x ∷ xs) = and-both (lt-ltb (x % 32) 32 (mod-lt x (omega arith))) (low-columns xs)
+
+picture-keeps : (g : List ℕ) (row : ℕ) (columns : List ℕ) → row ≤ 6 → length columns ≤ 96 → pictureInRange g ≡ true → pictureInRange (drawn g row columns) ≡ true
+unfolding pictureInRange drawn
+picture-keeps g row columns r l h =
+    let b = both {a = eqb (length g) (7 * 96)} h in
+    and-both {a = eqb (length (sets g (row * 96) (map (keptIn row) columns))) (7 * 96)} (rw (length-sets g (row * 96) (map (keptIn row) columns)) (b .0))
+    (sets-keep isLowColumn (6 * 96) (7 * 96) g (row * 96) (map (keptIn row) columns) (λ reach. low reach) (b .1))
+  where
+    low : 6 * 96 < row * 96 + length (map (keptIn row) columns) → every isLowColumn (map (keptIn row) columns) ≡ true
+    low reach =
+        let last : row ≡ 6 = omega (arith, length-map columns (keptIn row)) in
+        rw last (low-columns columns)
+
+-- Every order -----------------------------------------------------------------------------------------------------
+
+-- what the grammar says of an order's label or columns
+abbrev Carries : Order → Type 0
+Carries (plain c) = _≡_ {A = ℕ} 0 0
+Carries (label side t) = LabelText t
+Carries (draw row columns) = PictureRow row columns
+
+carries : (o : Order) (f : List ℕ) → Spells o f → Carries o
+carries (plain c) f s = refl
+carries (label side t) f s = read-label side s
+carries (draw row columns) f s = read-row s
+
+effect-keeps : (o : Order) (c : Core) → Carries o → CoreInRange c → inRangeInMode (c .panel .screen .mode) o ≡ true → CoreInRange (effect o c)
+effect-keeps (plain DisplayOff) c v k h = on-screen c k _ (k .mode) (k .overlay) (k .cursor)
+effect-keeps (plain DisplayOn) c v k h = on-screen c k _ (k .mode) (k .overlay) (k .cursor)
+effect-keeps (plain (Mode n)) c v k h = mode-keeps c n k h
+effect-keeps (plain CursorShown) c v k h = on-shown c k _
+effect-keeps (plain CursorHidden) c v k h = on-shown c k _
+effect-keeps (plain Clear) c v k h =
+    on-text (onScreen c (at (c .panel .screen) 0 0)) (on-screen c k _ (k .mode) (k .overlay) (home (c .panel .screen .mode))) blanks blanks-in-range
+effect-keeps (plain (Position row column)) c v k h =
+    let b = both {a = ltb row (rowsOf (c .panel .screen .mode))} h in
+    on-screen c k _ (k .mode) (k .overlay) (and-both (b .0) (le-leb column 16 (omega (arith, leb-true column 15 (b .1)))))
+effect-keeps (plain LabelsEmpty) c v k h = on-labels c k _ _ no-label no-label
+effect-keeps (label Left t) c v k h = on-labels c k (labelOf t) (c .panel .right) (label-keeps t v) (k .right)
+effect-keeps (label Right t) c v k h = on-labels c k (c .panel .left) (labelOf t) (k .left) (label-keeps t v)
+effect-keeps (plain (IconS n)) c v k h = icon-keeps c k (withIconS (c .panel .icons) n) (λ e. record { s = h; u = e .u; f = e .f; r = e .r; p = e .p; w = e .w })
+effect-keeps (plain (IconU n)) c v k h = icon-keeps c k (withIconU (c .panel .icons) n) (λ e. record { s = e .s; u = h; f = e .f; r = e .r; p = e .p; w = e .w })
+effect-keeps (plain (IconF n)) c v k h = icon-keeps c k (withIconF (c .panel .icons) n) (λ e. record { s = e .s; u = e .u; f = h; r = e .r; p = e .p; w = e .w })
+effect-keeps (plain (IconR n)) c v k h = icon-keeps c k (withIconR (c .panel .icons) n) (λ e. record { s = e .s; u = e .u; f = e .f; r = h; p = e .p; w = e .w })
+effect-keeps (plain (IconP n)) c v k h = icon-keeps c k (withIconP (c .panel .icons) n) (λ e. record { s = e .s; u = e .u; f = e .f; r = e .r; p = h; w = e .w })
+effect-keeps (plain (IconW n)) c v k h = icon-keeps c k (withIconW (c .panel .icons) n) (λ e. record { s = e .s; u = e .u; f = e .f; r = e .r; p = e .p; w = h })
+effect-keeps (plain (Private n)) c v k h = level-keeps c 1 n k refl refl h
+effect-keeps (plain (Handsfree n)) c v k h = level-keeps c 2 n k refl refl h
+effect-keeps (plain (HandsfreeOfNote n)) c v k h = level-keeps c 2 n k refl refl h
+effect-keeps (plain (Mute n)) c v k h = mute-keeps c n k
+effect-keeps (plain (KeyTimes time1 time2)) c v k h =
+    record { mode = k .mode; overlay = k .overlay; cursor = k .cursor; text = k .text; left = k .left; right = k .right; picture = k .picture; icons = k .icons; volume = k .volume; times = h; buzzer = k .buzzer; backlight = k .backlight }
+effect-keeps (plain (Buzzer n)) c v k h =
+    record { mode = k .mode; overlay = k .overlay; cursor = k .cursor; text = k .text; left = k .left; right = k .right; picture = k .picture; icons = k .icons; volume = k .volume; times = k .times; buzzer = h; backlight = k .backlight }
+effect-keeps (plain (Light n)) c v k h = number-keeps c n k h
+effect-keeps (plain LightOn) c v k h = light-keeps c _ k refl (duration-of (c .panel .backlight) (k .backlight)) refl
+effect-keeps (plain LightAutoStart) c v k h = light-keeps c _ k refl (duration-of (c .panel .backlight) (k .backlight)) (or-true (eqb (c .panel .backlight .duration .0) 0))
+effect-keeps (plain LightAuto) c v k h = light-keeps c _ k refl (duration-of (c .panel .backlight) (k .backlight)) (or-true (eqb (c .panel .backlight .left .0) 0))
+effect-keeps (plain DefaultDuration) c v k h = light-keeps c _ k (mode-of (c .panel .backlight) (k .backlight)) refl (left-of (c .panel .backlight) (k .backlight))
+effect-keeps (plain KeypadSet) c v k h = on-backlight c k _ (k .backlight)
+effect-keeps (plain KeypadCleared) c v k h = on-backlight c k _ (k .backlight)
+effect-keeps (draw row columns) c v k h = on-picture c k _ (picture-keeps (c .picture) row columns (leb-true row 6 h) (v .most) (k .picture))
+
+carry-keeps : (o : Order) (c : Core) → Carries o → CoreInRange c → CoreInRange (carryOut o c)
+unfolding carryOut
+carry-keeps o c v k = cases (inRangeInMode (c .panel .screen .mode) o) refl
+  where
+    cases : (b : Bool) → inRangeInMode (c .panel .screen .mode) o ≡ b → CoreInRange (cond b (effect o c) c)
+    cases true e = effect-keeps o c v k e
+    cases false e = k
+
+-- Whatever a frame is, the core stays in range.
+pub obey-keeps : (c : Core) (frame : List ℕ) → CoreInRange c → CoreInRange (obeyOrder c (orderOf frame))
+obey-keeps c frame k = cases (orderOf frame) refl
+  where
+    cases : (found : Option Order) → orderOf frame ≡ found → CoreInRange (obeyOrder c found)
+    cases none e = k
+    cases (some o) e = carry-keeps o c (carries o frame (sound frame e)) k
+
+text-stored : (t : List ℕ) (i b : ℕ) → textInRange t ≡ true → 0x20 ≤ b → textInRange (set t i b) ≡ true
+unfolding textInRange
+text-stored t i b g h =
+    let e = both {a = eqb (length t) (5 * 16)} g in
+    and-both {a = eqb (length (set t i b)) (5 * 16)} (rw (length-set t i b) (e .0)) (every-set isCode t i b (le-leb 0x20 b h) (e .1))
+
+-- Whatever text byte comes, the core stays in range.
+pub store-keeps : (c : Core) (b : ℕ) → CoreInRange c → 0x20 ≤ b → CoreInRange (storeText c b)
+unfolding storeText
+store-keeps c b k h = cases (ltb (c .panel .screen .column) 16) refl
+  where
+    cases : (small : Bool) → ltb (c .panel .screen .column) 16 ≡ small → CoreInRange (cond small (onText (onScreen c (record { display = c .panel .screen .display; mode = c .panel .screen .mode; overlay = c .panel .screen .overlay; row = c .panel .screen .row; column = c .panel .screen .column + 1 })) (set (c .text) (c .panel .screen .row * 16 + c .panel .screen .column) b)) c)
+    cases true e =
+        let p = both {a = ltb (c .panel .screen .row) (rowsOf (c .panel .screen .mode))} (k .cursor) in
+        on-text _ (on-screen c k _ (k .mode) (k .overlay) (and-both (p .0) (le-leb (c .panel .screen .column + 1) 16 (omega (arith, ltb-true (c .panel .screen .column) 16 e))))) _ (text-stored (c .text) _ b (k .text) h)
+    cases false e = k
+
+-- A bad frame, and a frame with a number out of range, leave the core as it is.
+pub bad-keeps : (c : Core) (frame : List ℕ) → orderOf frame ≡ none → obeyOrder c (orderOf frame) ≡ c
+bad-keeps c frame e = ap (obeyOrder c) e
+
+pub out-of-range-keeps : (c : Core) (frame : List ℕ) (o : Order) → orderOf frame ≡ some o → inRangeInMode (c .panel .screen .mode) o ≡ false → obeyOrder c (orderOf frame) ≡ c
+unfolding carryOut
+out-of-range-keeps c frame o e h = ap (obeyOrder c) e ∙ rw h

@@ -1,0 +1,39 @@
+-- A test that holds over a part of a list holds after stores of values that pass it. Assumes nothing.
+use Prim.Native.Nat.{ℕ, zero, suc, _+_, _<_, _≤_}
+use native.Mathlib.Omega.{arith}
+use mathlib.Core.Bool.{Bool, true, _&&_}
+use mathlib.Core.List.{List, [], _∷_}
+use mathlib.Core.Path.{_≡_, refl}
+use lib.ListN.{length, set, replicate}
+use lib.Seq.{sets, slice}
+use Rattle.lists.specs.Both.{both, and-both}
+use Rattle.lists.specs.Every.{every}
+
+module _ (test : ℕ → Bool) where
+  pub every-set : (l : List ℕ) (i v : ℕ) → test v ≡ true → every test l ≡ true → every test (set l i v) ≡ true
+  every-set [] i v t h = h
+  every-set (x ∷ xs) zero v t h = and-both t (both {a = test x} h .1)
+  every-set (x ∷ xs) (suc i) v t h = let b = both {a = test x} h in and-both (b .0) (every-set xs i v t (b .1))
+
+  pub every-replicate : (n v : ℕ) → test v ≡ true → every test (replicate n v) ≡ true
+  every-replicate zero v t = refl
+  every-replicate (suc n) v t = and-both t (every-replicate n v t)
+
+  -- in the part from a to e
+  set-keeps : (a e : ℕ) (l : List ℕ) (i v : ℕ) → (a ≤ i → test v ≡ true) → every test (slice a e l) ≡ true → every test (slice a e (set l i v)) ≡ true
+  set-keeps a e [] i v t h = h
+  set-keeps a zero (x ∷ xs) zero v t h = h
+  set-keeps a zero (x ∷ xs) (suc i) v t h = h
+  set-keeps zero (suc e) (x ∷ xs) zero v t h = and-both (t (omega arith)) (both {a = test x} h .1)
+  set-keeps zero (suc e) (x ∷ xs) (suc i) v t h =
+      let b = both {a = test x} h in
+      and-both (b .0) (set-keeps zero e xs i v (λ l. t (omega arith)) (b .1))
+  set-keeps (suc a) (suc e) (x ∷ xs) zero v t h = h
+  set-keeps (suc a) (suc e) (x ∷ xs) (suc i) v t h = set-keeps a e xs i v (λ l. t (omega arith)) h
+
+  pub sets-keep : (a e : ℕ) (l : List ℕ) (i : ℕ) (vs : List ℕ) → (a < i + length vs → every test vs ≡ true)
+      → every test (slice a e l) ≡ true → every test (slice a e (sets l i vs)) ≡ true
+  sets-keep a e l i [] t h = h
+  sets-keep a e l i (v ∷ vs) t h =
+      sets-keep a e (set l i v) (suc i) vs (λ r. both {a = test v} (t (omega arith)) .1)
+      (set-keeps a e l i v (λ r. both {a = test v} (t (omega arith)) .0) h)
