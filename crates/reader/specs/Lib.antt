@@ -1,0 +1,4 @@
+pub mod Stream
+pub mod Turns
+pub mod Frames
+pub mod Demand

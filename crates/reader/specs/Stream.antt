@@ -1,0 +1,102 @@
+-- The handset's meaning for the parting's theory, how the record keeps a frame, and what the stream call hands back. Assumes nothing.
+use Prim.Native.Nat.{ℕ, _+_, _-_, _*_, _≤_}
+use mathlib.Core.Path.{_≡_}
+use mathlib.Core.Bool.{true, cond}
+use mathlib.Core.List.{List, [], _∷_, _++_}
+use lib.Dec.{eqb, ltb}
+use lib.ListN.{length, take, drop, set, replicate}
+use Rattle.lists.specs.Codes.{questionMark}
+use Rattle.lists.specs.Padded.{padded}
+use Rattle.record.specs.declared.Answer.the-variants.{Done, FieldOutOfRange}
+use Rattle.record.specs.declared.Panel.{Panel}
+use Rattle.record.specs.declared.Held.{Held}
+use Rattle.record.specs.declared.Frame.{Frame as KeptFrame}
+use Rattle.record.specs.declared.Record.{Record}
+use Rattle.record.specs.Range.{inRange, lastColumnOf}
+use Rattle.parting.specs.Rules.{Frame, noFrame, openFrame, overlong, limit}
+use Rattle.parting.specs.Meaning.{Answered, Meaning, State}
+use Rattle.parting.specs.Room.{Ran, run}
+use Rattle.effect.specs.Core.{Core, coreOf}
+use Rattle.effect.specs.Effect.{storeText}
+use Rattle.command.specs.Reading.{orderOf}
+use Rattle.effect.specs.Obey.{obeyOrder, isGood}
+use Rattle.effect.specs.Keeps.{CoreInRange}
+use Rattle.reader.specs.declared.Fed.{Fed}
+use Rattle.reader.specs.declared.Done.{Done as ReadDone}
+
+-- THE HANDSET: a text byte is stored, a good frame is obeyed in silence, a bad frame changes nothing and gets one '?'
+abbrev pub obeyFrame : Core → List ℕ → Answered Core
+obeyFrame c frame = record { core = obeyOrder c (orderOf frame); answers = cond (isGood (orderOf frame)) [] (questionMark ∷ []) }
+
+abbrev pub handset : Meaning
+handset = record { Core = Core; store = storeText; obey = obeyFrame; badAnswer = λ c. questionMark ∷ [] }
+
+-- How the record keeps a frame: states none 0, open 1, overlong 2; unused places hold zero.
+abbrev pub keptFrame : Frame → KeptFrame
+keptFrame noFrame = record { state = 0; len = 0; bytes = padded limit [] }
+keptFrame (openFrame body) = record { state = 1; len = length body; bytes = padded limit body }
+keptFrame overlong = record { state = 2; len = 0; bytes = padded limit [] }
+
+-- and which frame is kept so
+unfoldable pub frameIn : ℕ → ℕ → List ℕ → Frame
+frameIn state len bytes = cond (eqb state 0) noFrame (cond (eqb state 1) (openFrame (take len bytes)) overlong)
+
+-- the record with its frame apart, and put together again; the held key is no concern of a stream
+abbrev pub stateOf : Record → State Core
+stateOf r = record { core = coreOf r; frame = frameIn (r .frame .state) (r .frame .len) (r .frame .bytes) }
+
+abbrev pub recordOf : Held → State Core → Record
+recordOf held s = record { panel = s .core .panel; text = s .core .text; picture = s .core .picture; held = held; frame = keptFrame (s .frame) }
+
+-- THE STREAM CALL: number 1 and the record as it came for one out of range; else number 0 and the run
+abbrev pub fedBy : Held → Ran Core → Fed
+fedBy held ran = record { answer = Done; «record» = recordOf held (ran .state); used = ran .used; written = length (ran .answers) }
+
+abbrev pub refused : Record → Fed
+refused r = record { answer = FieldOutOfRange; «record» = r; used = 0; written = 0 }
+
+unfoldable pub fedOf : Record → List ℕ → ℕ → Fed
+fedOf r bytes room = cond (inRange r) (fedBy (r .held) (run handset (stateOf r) bytes room)) (refused r)
+
+-- the buffer for answers afterwards: places past the written count stay
+abbrev pub writtenOver : List ℕ → List ℕ → List ℕ
+writtenOver answers before = answers ++ drop (length answers) before
+
+unfoldable pub answersAfter : Record → List ℕ → List ℕ → List ℕ
+answersAfter r bytes before = cond (inRange r) (writtenOver (run handset (stateOf r) bytes (length before) .answers) before) before
+
+-- What the inner functions do -------------------------------------------------------------------------------------
+
+abbrev pub columnAfter : ℕ → ℕ
+columnAfter column = cond (ltb column 16) (column + 1) column
+
+abbrev pub textAfter : List ℕ → ℕ → ℕ → ℕ → List ℕ
+textAfter text row column b = cond (ltb column 16) (set text (row * 16 + column) b) text
+
+unfoldable pub emptied : List ℕ → ℕ → List ℕ
+emptied bytes len = take len bytes ++ replicate (limit - len) 0
+
+abbrev pub wholeOf : Panel → List ℕ → List ℕ → Held → ℕ → ℕ → List ℕ → Record
+wholeOf panel text picture held state len bytes =
+    record { panel = panel; text = text; picture = picture; held = held; frame = record { state = state; len = len; bytes = emptied bytes len } }
+
+-- the state that the loop's locals stand for
+abbrev pub standing : Panel → List ℕ → List ℕ → ℕ → ℕ → List ℕ → State Core
+standing panel text picture state len bytes = record { core = record { panel = panel; text = text; picture = picture }; frame = frameIn state len bytes }
+
+pub record Fits (state len : ℕ) (bytes : List ℕ) : Type 0 where
+  pub known : state ≤ 2
+  pub short : len ≤ limit
+  pub none : (state ≡ 1 → ⊥) → len ≡ 0
+  pub full : length bytes ≡ limit
+
+pub record Ready (r : Record) : Type 0 where
+  pub range : CoreInRange (coreOf r)
+  pub fits : Fits (r .frame .state) (r .frame .len) (r .frame .bytes)
+
+-- what the loop leaves
+pub record Reads (done : ReadDone) (r : Record) (before after : List ℕ) (ran : Ran Core) : Type 0 where
+  pub same : done .record ≡ recordOf (r .held) (ran .state)
+  pub used : done .used ≡ ran .used
+  pub written : done .written ≡ length (ran .answers)
+  pub buffer : after ≡ writtenOver (ran .answers) before

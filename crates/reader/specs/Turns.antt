@@ -1,0 +1,272 @@
+-- The turns of the reader's loop: what each kind of byte does to the state that the loop's locals stand for. Assumes nothing.
+use Prim.Native.Nat.{ℕ, zero, suc, _+_, _-_, _≤_, _<_}
+use native.Mathlib.Omega.{arith}
+use native.Mathlib.Numerals.{add-one}
+use native.Mathlib.Nat.{add-zero}
+use mathlib.Core.Path.{_≡_, refl, sym, ap, _∙_, subst}
+use mathlib.Core.Bool.{Bool, true, false, cond, true≢false}
+use mathlib.Core.Option.{Option, none, some}
+use mathlib.Core.List.{List, [], _∷_, _++_, append-nil, append-assoc}
+use lib.Dec.{eqb, ltb, leb}
+use lib.ListN.{length, take, drop, set, getD, replicate, length-set}
+use lib.Seq.{take-suc-set, length-take-le, take-all}
+use borrow.Author.Tests.{eqb-true, eqb-false, ne-eqb, ltb-true, leb-true}
+use Rattle.lists.specs.Codes.{escape, carriageReturn, blank, questionMark}
+use Rattle.lists.specs.Padded.{padded}
+use Rattle.record.specs.declared.Panel.{Panel}
+use Rattle.record.specs.declared.Frame.{Frame as KeptFrame}
+use Rattle.record.specs.declared.Record.{Record}
+use Rattle.lists.specs.Both.{both}
+use Rattle.record.specs.Range.{rowsOf}
+use Rattle.record.specs.With.{withScreen, withColumn}
+use Rattle.parting.specs.Rules.{Frame, noFrame, openFrame, overlong, limit}
+use Rattle.parting.specs.Meaning.{Taken, State}
+use Rattle.parting.specs.Reading.{step, step-opens, step-stores, step-skips, step-abandons, step-closes, step-ends-overlong, step-collects, step-overflows, step-waits}
+use Rattle.parting.specs.Room.{run}
+use Rattle.parting.specs.Loop.{walk, walk-turn, walk-stop, still, walked}
+use Rattle.command.specs.Order.{Order}
+use Rattle.effect.specs.declared.Obeyed.{Obeyed}
+use Rattle.effect.specs.Core.{Core}
+use Rattle.effect.specs.Effect.{storeText}
+use Rattle.command.specs.Reading.{orderOf}
+use Rattle.effect.specs.Obey.{obeyOrder, isGood, core, Obeys}
+use Rattle.effect.specs.Keeps.{CoreInRange, obey-keeps, store-keeps}
+use Rattle.reader.specs.declared.Done.{Done}
+use Rattle.reader.specs.Stream.{handset, keptFrame, frameIn, columnAfter, textAfter, emptied, wholeOf, standing, stateOf, recordOf, Fits, Reads}
+
+-- a byte that is answered with nothing, and one that is answered with '?'
+abbrev pub quietly : State Core → Taken Core
+quietly v = record { state = v; answers = [] }
+
+abbrev pub asking : State Core → Taken Core
+asking v = record { state = v; answers = questionMark ∷ [] }
+
+module _ (s v : State Core) (bytes : List ℕ) (i w : ℕ) (buf : List ℕ) (h : i < length bytes) where
+  pub quiet : step handset s (getD bytes i 0) ≡ quietly v → walk handset s (drop i bytes) i w buf ≡ walk handset v (drop (i + 1) bytes) (i + 1) w buf
+  quiet e = walk-turn handset s bytes i w buf (quietly v) h e (omega arith) ∙ ap (λ (k : ℕ). walk handset v (drop (i + 1) bytes) (i + 1) k buf) (add-zero w)
+
+  pub loud : step handset s (getD bytes i 0) ≡ asking v → w < length buf → walk handset s (drop i bytes) i w buf ≡ walk handset v (drop (i + 1) bytes) (i + 1) (w + 1) (set buf w questionMark)
+  loud e l = walk-turn handset s bytes i w buf (asking v) h e (omega arith)
+
+  pub halt : step handset s (getD bytes i 0) ≡ asking v → length buf ≤ w → walk handset s (drop i bytes) i w buf ≡ still s i w buf
+  halt e l = walk-stop handset s bytes i w buf (asking v) h e (omega arith)
+
+-- the frame that the locals show
+shows-noFrame : (state len : ℕ) (bs : List ℕ) → state ≡ 0 → frameIn state len bs ≡ noFrame
+unfolding frameIn
+shows-noFrame state len bs e = rw e
+
+shows-open : (state len : ℕ) (bs : List ℕ) → state ≡ 1 → frameIn state len bs ≡ openFrame (take len bs)
+unfolding frameIn
+shows-open state len bs e = rw e
+
+shows-long : (state len : ℕ) (bs : List ℕ) → (state ≡ 0 → ⊥) → (state ≡ 1 → ⊥) → frameIn state len bs ≡ overlong
+unfolding frameIn
+shows-long state len bs n m = rw (ne-eqb state 0 n, ne-eqb state 1 m)
+
+shows-new : (len : ℕ) (bs : List ℕ) → len ≡ 0 → frameIn 1 len bs ≡ openFrame []
+shows-new len bs e = shows-open 1 len bs refl ∙ ap (λ (k : ℕ). openFrame (take k bs)) e
+
+-- a result whose frame is shown by other locals
+inSilence : (c : Core) {f g : Frame} → f ≡ g → quietly (record { core = c; frame = f }) ≡ quietly (record { core = c; frame = g })
+inSilence c e = ap (λ (x : Frame). quietly (record { core = c; frame = x })) e
+
+queried : (c : Core) {f g : Frame} → f ≡ g → asking (record { core = c; frame = f }) ≡ asking (record { core = c; frame = g })
+queried c e = ap (λ (x : Frame). asking (record { core = c; frame = x })) e
+
+shows-some : (state len : ℕ) (bs : List ℕ) → (state ≡ 0 → ⊥) → frameIn state len bs ≡ noFrame → ⊥
+unfolding frameIn
+shows-some state len bs n = rw (ne-eqb state 0 n) (go (eqb state 1))
+  where
+    go : (x : Bool) → cond x (openFrame (take len bs)) overlong ≡ noFrame → ⊥
+    go true e = let z : _≡_ {A = ℕ} 0 1 = cc in omega arith
+    go false e = let z : _≡_ {A = ℕ} 0 1 = cc in omega arith
+
+-- a text byte changes the column and the text
+stored : (p : Panel) (t g : List ℕ) (b : ℕ)
+    → storeText (core p t g) b ≡ core (withScreen p (withColumn (p .screen) (columnAfter (p .screen .column)))) (textAfter t (p .screen .row) (p .screen .column) b) g
+unfolding storeText
+stored p t g b = go (ltb (p .screen .column) 16) refl
+  where
+    go : (x : Bool) → ltb (p .screen .column) 16 ≡ x
+        → storeText (core p t g) b ≡ core (withScreen p (withColumn (p .screen) (columnAfter (p .screen .column)))) (textAfter t (p .screen .row) (p .screen .column) b) g
+    go true e = rw e
+    go false e = rw e
+
+-- a bad frame is obeyed by nothing
+bad-same : (c : Core) (o : Option Order) → isGood o ≡ false → obeyOrder c o ≡ c
+bad-same c none e = refl
+bad-same c (some o) e = absurd (true≢false e)
+
+module _ (p : Panel) (t g : List ℕ) (state len : ℕ) (fr : List ℕ) (b : ℕ) where
+  abbrev here : State Core
+  here = standing p t g state len fr
+
+  -- no frame open
+  pub turn-text : (next : ℕ) (t′ : List ℕ) → state ≡ 0 → blank ≤ b → next ≡ columnAfter (p .screen .column) → t′ ≡ textAfter t (p .screen .row) (p .screen .column) b
+      → step handset (standing p t g state len fr) b ≡ quietly (standing (withScreen p (withColumn (p .screen) next)) t′ g state len fr)
+  turn-text next t′ e h x y =
+      step-stores handset here b (shows-noFrame state len fr e) h
+      ∙ ap (λ (c : Core). quietly (record { core = c; frame = frameIn state len fr })) (stored p t g b ∙ (λ j. core (withScreen p (withColumn (p .screen) (sym x j))) (sym y j) g))
+
+  pub turn-open : state ≡ 0 → len ≡ 0 → b ≡ escape → step handset (standing p t g state len fr) b ≡ quietly (standing p t g 1 len fr)
+  turn-open e z h = step-opens handset here b (shows-noFrame state len fr e) h ∙ inSilence (core p t g) (sym (shows-new len fr z))
+
+  pub turn-skip : state ≡ 0 → b < blank → (b ≡ escape → ⊥) → step handset (standing p t g state len fr) b ≡ quietly (standing p t g state len fr)
+  turn-skip e l n = step-skips handset here b (shows-noFrame state len fr e) l n
+
+  -- ESC in a frame
+  pub loud-esc : (state ≡ 0 → ⊥) → b ≡ escape → step handset (standing p t g state len fr) b ≡ asking (standing p t g 1 0 fr)
+  loud-esc n h = step-abandons handset here b (shows-some state len fr n) h ∙ queried (core p t g) (sym (shows-new 0 fr refl))
+
+  -- CR in an overlong frame
+  pub loud-long : (state ≡ 0 → ⊥) → (state ≡ 1 → ⊥) → b ≡ carriageReturn → step handset (standing p t g state len fr) b ≡ asking (standing p t g 0 0 fr)
+  loud-long n m h = step-ends-overlong handset here b (shows-long state len fr n m) h ∙ queried (core p t g) (sym (shows-noFrame 0 0 fr refl))
+
+  -- CR in an open frame
+  module _ (o : Obeyed) (t′ g′ : List ℕ) (e : state ≡ 1) (h : b ≡ carriageReturn) (q : Obeys (take len fr) (core p t g) o (core (o .panel) t′ g′)) where
+    pub turn-good : o .good ≡ true → step handset (standing p t g state len fr) b ≡ quietly (standing (o .panel) t′ g′ 0 0 fr)
+    turn-good x =
+        let y : isGood (orderOf (take len fr)) ≡ true = sym (q .good) ∙ x in
+        step-closes handset here b (take len fr) (shows-open state len fr e) h
+        ∙ (λ j. record { state = record { core = sym (q .same) j; frame = sym (shows-noFrame 0 0 fr refl) j }; answers = cond (y j) [] (questionMark ∷ []) })
+
+    bad-core : o .good ≡ false → obeyOrder (core p t g) (orderOf (take len fr)) ≡ core p t g
+    bad-core x = bad-same (core p t g) (orderOf (take len fr)) (sym (q .good) ∙ x)
+
+    pub bad-keeps : o .good ≡ false → core p t g ≡ core p t′ g′
+    bad-keeps x =
+        let z : core (o .panel) t′ g′ ≡ core p t g = q .same ∙ bad-core x in
+        λ j. record { panel = p; text = sym z j .text; picture = sym z j .picture }
+
+    pub range-bad : o .good ≡ false → CoreInRange (core p t g) → CoreInRange (core p t′ g′)
+    range-bad x k = rw (← bad-keeps x) k
+
+    pub loud-bad : o .good ≡ false → step handset (standing p t g state len fr) b ≡ asking (standing p t′ g′ 0 0 fr)
+    loud-bad x =
+        let y : isGood (orderOf (take len fr)) ≡ false = sym (q .good) ∙ x in
+        step-closes handset here b (take len fr) (shows-open state len fr e) h
+        ∙ (λ j. record { state = record { core = (bad-core x ∙ bad-keeps x) j; frame = sym (shows-noFrame 0 0 fr refl) j }; answers = cond (y j) [] (questionMark ∷ []) })
+
+  -- any other byte in a frame
+  pub turn-collect : Fits state len fr → state ≡ 1 → (b ≡ escape → ⊥) → (b ≡ carriageReturn → ⊥) → len < limit → step handset (standing p t g state len fr) b ≡ quietly (standing p t g state (len + 1) (set fr len b))
+  turn-collect k e n m l =
+      let taken : take (len + 1) (set fr len b) ≡ take len fr ++ b ∷ [] = ap (λ (x : ℕ). take x (set fr len b)) (add-one len) ∙ take-suc-set fr len b (omega (arith, k .full)) in
+      step-collects handset here b (take len fr) (shows-open state len fr e) (record { not-escape = n; not-return = m }) (omega (arith, length-take-le len fr (omega (arith, k .full, l))))
+      ∙ inSilence (core p t g) (ap openFrame (sym taken) ∙ sym (shows-open state (len + 1) (set fr len b) e))
+
+  pub turn-over : Fits state len fr → state ≡ 1 → (b ≡ escape → ⊥) → (b ≡ carriageReturn → ⊥) → limit ≤ len → step handset (standing p t g state len fr) b ≡ quietly (standing p t g 2 0 fr)
+  turn-over k e n m l =
+      step-overflows handset here b (take len fr) (shows-open state len fr e) (record { not-escape = n; not-return = m }) (omega (arith, length-take-le len fr (omega (arith, k .full, k .short))))
+      ∙ inSilence (core p t g) (sym (shows-long 2 0 fr (λ x. omega arith) (λ x. omega arith)))
+
+  pub turn-lost : (state ≡ 0 → ⊥) → (state ≡ 1 → ⊥) → (b ≡ escape → ⊥) → (b ≡ carriageReturn → ⊥) → step handset (standing p t g state len fr) b ≡ quietly (standing p t g state len fr)
+  turn-lost x y n m = step-waits handset here b (shows-long state len fr x y) (record { not-escape = n; not-return = m })
+
+-- the places of the frame after each turn
+pub fits-none : (state : ℕ) (bs : List ℕ) → state ≤ 2 → length bs ≡ limit → Fits state 0 bs
+fits-none state bs k f = record { known = k; short = omega arith; none = λ n. refl; full = f }
+
+pub fits-more : {state len : ℕ} {bs : List ℕ} (b : ℕ) → state ≡ 1 → Fits state len bs → len < limit → Fits state (len + 1) (set bs len b)
+fits-more {state} {len} {bs} b e k l = record { known = k .known; short = omega arith; none = λ n. absurd (n e); full = length-set bs len b ∙ k .full }
+
+pub fits-open : {state len : ℕ} {bs : List ℕ} → len ≡ 0 → Fits state len bs → Fits 1 len bs
+fits-open {state} {len} {bs} z k = record { known = omega arith; short = k .short; none = λ n. z; full = k .full }
+
+-- the record put together is the code of the state
+pub coded : (state len : ℕ) (bs : List ℕ) → Fits state len bs → record { state = state; len = len; bytes = emptied bs len } ≡ keptFrame (frameIn state len bs)
+unfolding emptied padded
+coded state len bs k = go (eqb state 0) (eqb state 1) refl refl
+  where
+    empty : (n : ℕ) → state ≡ n → len ≡ 0 → _≡_ {A = KeptFrame} (record { state = state; len = len; bytes = take len bs ++ replicate (limit - len) 0 }) (record { state = n; len = 0; bytes = padded limit [] })
+    empty n e z = λ j. record { state = e j; len = z j; bytes = take (z j) bs ++ replicate (limit - z j) 0 }
+
+    full : state ≡ 1 → _≡_ {A = KeptFrame} (record { state = state; len = len; bytes = take len bs ++ replicate (limit - len) 0 }) (keptFrame (openFrame (take len bs)))
+    full e = let q : len ≡ length (take len bs) = sym (length-take-le len bs (omega (arith, k .full, k .short))) in λ j. record { state = e j; len = q j; bytes = take len bs ++ replicate (limit - q j) 0 }
+
+    go : (x y : Bool) → eqb state 0 ≡ x → eqb state 1 ≡ y → _≡_ {A = KeptFrame} (record { state = state; len = len; bytes = take len bs ++ replicate (limit - len) 0 }) (keptFrame (frameIn state len bs))
+    go x true e f = full (eqb-true state 1 f) ∙ ap keptFrame (sym (shows-open state len bs (eqb-true state 1 f)))
+    go true false e f = empty 0 (eqb-true state 0 e) (k .none (eqb-false state 1 f)) ∙ ap keptFrame (sym (shows-noFrame state len bs (eqb-true state 0 e)))
+    go false false e f =
+        let n = eqb-false state 0 e in
+        let m = eqb-false state 1 f in
+        let two : state ≡ 2 = omega (arith, k .known) in
+        empty 2 two (k .none m) ∙ ap keptFrame (sym (shows-long state len bs n m))
+
+pub fed : (r x : Record) (n : ℕ) (p : Panel) (t g : List ℕ) (state len : ℕ) (fr bytes : List ℕ) (i w : ℕ) (before after : List ℕ)
+    → n ≡ r .frame .len → Fits state len fr → x ≡ wholeOf p t g (r .held) state len fr
+    → walk handset (standing (r .panel) (r .text) (r .picture) (r .frame .state) n (r .frame .bytes)) bytes 0 0 before ≡ still (standing p t g state len fr) i w after
+    → Reads (record { «record» = x; used = i; written = w }) r before after (run handset (stateOf r) bytes (length before))
+fed r x n p t g state len fr bytes i w before after a k d e =
+    let start : standing (r .panel) (r .text) (r .picture) (r .frame .state) n (r .frame .bytes) ≡ stateOf r = ap (λ (m : ℕ). standing (r .panel) (r .text) (r .picture) (r .frame .state) m (r .frame .bytes)) a in
+    let q = walked handset (stateOf r) bytes (standing p t g state len fr) i w before after (ap (λ (s : State Core). walk handset s bytes 0 0 before) (sym start) ∙ e) in
+    record {
+      same = d ∙ ap (λ (y : KeptFrame). record { panel = p; text = t; picture = g; held = r .held; frame = y }) (coded state len fr k) ∙ ap (recordOf (r .held)) (q .0);
+      used = q .1;
+      written = q .2;
+      buffer = q .3;
+    }
+
+-- blanking, a place at a time
+pub blank-more : (bs : List ℕ) (i : ℕ) → i < limit → length bs ≡ limit → emptied bs i ≡ emptied (set bs i 0) (i + 1)
+unfolding emptied
+blank-more bs i l f =
+    ap (λ (k : ℕ). take i bs ++ replicate k 0) {x = limit - i} {y = suc (limit - (i + 1))} (omega arith)
+    ∙ sym (append-assoc (take i bs) (0 ∷ []) (replicate (limit - (i + 1)) 0))
+    ∙ ap (λ (x : List ℕ). x ++ replicate (limit - (i + 1)) 0) (sym (ap (λ (k : ℕ). take k (set bs i 0)) (add-one i) ∙ take-suc-set bs i 0 (omega (arith, f, l))))
+
+pub blank-end : (bs : List ℕ) (i : ℕ) → limit ≤ i → i ≤ limit → length bs ≡ limit → emptied bs i ≡ bs
+unfolding emptied
+blank-end bs i l k f =
+    ap (λ (n : ℕ). take i bs ++ replicate n 0) {x = limit - i} {y = 0} (omega arith) ∙ append-nil (take i bs) ∙ take-all i bs (omega (arith, f, l))
+
+-- what holds at the head of the loop: the rest from here gives the same end
+pub record Going (bytes before : List ℕ) (s : State Core) (answers : List ℕ) (p : Panel) (t g : List ℕ) (state len : ℕ) (fr : List ℕ) (i w : ℕ) : Type 0 where
+  pub inside : i ≤ length bytes
+  pub room : w ≤ length answers
+  pub even : length answers ≡ length before
+  pub range : CoreInRange (core p t g)
+  pub fits : Fits state len fr
+  pub rest : walk handset s bytes 0 0 before ≡ walk handset (standing p t g state len fr) (drop i bytes) i w answers
+
+module _ {bytes before : List ℕ} {s : State Core} {answers : List ℕ} {p : Panel} {t g : List ℕ} {state len : ℕ} {fr : List ℕ} {i w : ℕ} (k : Going bytes before s answers p t g state len fr i w) (h : i < length bytes) where
+  pub go-quiet : {p′ : Panel} {t′ g′ : List ℕ} {state′ len′ : ℕ} {fr′ : List ℕ} → CoreInRange (core p′ t′ g′) → Fits state′ len′ fr′ → step handset (standing p t g state len fr) (getD bytes i 0) ≡ quietly (standing p′ t′ g′ state′ len′ fr′)
+      → Going bytes before s answers p′ t′ g′ state′ len′ fr′ (i + 1) w
+  go-quiet {p′} {t′} {g′} {state′} {len′} {fr′} x y e =
+      record { inside = omega arith; room = k .room; even = k .even; range = x; fits = y; rest = k .rest ∙ quiet (standing p t g state len fr) (standing p′ t′ g′ state′ len′ fr′) bytes i w answers h e }
+
+  pub go-loud : {p′ : Panel} {t′ g′ : List ℕ} {state′ len′ : ℕ} {fr′ : List ℕ} → CoreInRange (core p′ t′ g′) → Fits state′ len′ fr′ → step handset (standing p t g state len fr) (getD bytes i 0) ≡ asking (standing p′ t′ g′ state′ len′ fr′) → w < length answers
+      → Going bytes before s (set answers w questionMark) p′ t′ g′ state′ len′ fr′ (i + 1) (w + 1)
+  go-loud {p′} {t′} {g′} {state′} {len′} {fr′} x y e l =
+      record {
+        inside = omega arith;
+        room = omega (arith, length-set answers w questionMark);
+        even = length-set answers w questionMark ∙ k .even;
+        range = x;
+        fits = y;
+        rest = k .rest ∙ loud (standing p t g state len fr) (standing p′ t′ g′ state′ len′ fr′) bytes i w answers h e l;
+      }
+
+  pub go-halt : {v : State Core} → step handset (standing p t g state len fr) (getD bytes i 0) ≡ asking v → length answers ≤ w → walk handset s bytes 0 0 before ≡ still (standing p t g state len fr) i w answers
+  go-halt {v} e l = k .rest ∙ halt (standing p t g state len fr) v bytes i w answers h e l
+
+-- the core stays in range
+pub range-obeyed : (o : Obeyed) (p : Panel) (t g f t′ g′ : List ℕ) → Obeys f (core p t g) o (core (o .panel) t′ g′) → CoreInRange (core p t g) → CoreInRange (core (o .panel) t′ g′)
+range-obeyed o p t g f t′ g′ q h = rw (q .same) (obey-keeps (core p t g) f h)
+
+pub range-stored : (p : Panel) (t g : List ℕ) (b next : ℕ) (t′ : List ℕ) → blank ≤ b → next ≡ columnAfter (p .screen .column) → t′ ≡ textAfter t (p .screen .row) (p .screen .column) b
+    → CoreInRange (core p t g) → CoreInRange (core (withScreen p (withColumn (p .screen) next)) t′ g)
+range-stored p t g b next t′ h x y k = rw (x, y, ← stored p t g b) (store-keeps (core p t g) b k h)
+
+rows-at-most : (mode row : ℕ) → ltb row (rowsOf mode) ≡ true → row < 5
+rows-at-most mode row = cases (leb mode 1)
+  where
+    cases : (few : Bool) → ltb row (cond few 4 5) ≡ true → row < 5
+    cases true h = omega (arith, ltb-true row 4 h)
+    cases false h = omega (arith, ltb-true row 5 h)
+
+-- the cursor of a core in range is at a place of the text, or past the end of its row
+pub in-place : {p : Panel} {t g : List ℕ} → CoreInRange (core p t g) → (p .screen .row < 5) × (p .screen .column ≤ 16)
+in-place {p} k =
+    let e = both {a = ltb (p .screen .row) (rowsOf (p .screen .mode))} (k .cursor) in
+    (rows-at-most (p .screen .mode) (p .screen .row) (e .0), leb-true (p .screen .column) 16 (e .1))
