@@ -1,17 +1,17 @@
 -- The order that the reader's findings give, and the promise of obeying it. Assumes nothing.
-use Prim.Native.Nat.{ℕ, _≤_}
+use Prim.Native.Nat.{ℕ}
 use mathlib.Core.Bool.{Bool, true, false, cond}
 use mathlib.Core.List.{List}
 use mathlib.Core.Option.{Option, none, some}
 use mathlib.Core.Path.{_≡_, refl, sym, ap, _∙_}
-use lib.ListN.{length, take, drop}
+use lib.ListN.{take, drop}
 use borrow.Author.Tests.{eq-eqb, ne-eqb}
-use Rattle.command.specs.Order.{Order, label, draw}
-use Rattle.command.specs.InRange.{isPictureRow}
+use Rattle.record.specs.Range.{rowsOf}
+use Rattle.command.specs.Order.{Order, draw}
+use Rattle.command.specs.InRange.{isPictureRow, commandInRange}
+use Rattle.command.specs.declared.Command.{Command}
 use Rattle.command.specs.Reading.{readOf, opensPicture, pictureOf, orderRead, orderOf}
-use Rattle.command.specs.Facts.{read-label}
-use Rattle.command.specs.Sound.{sound}
-use Rattle.command.specs.declared.Side.{Side}
+use Rattle.command.specs.Found.{order-drawn, order-read}
 use Rattle.command.specs.declared.Reading.{Reading}
 use Rattle.command.specs.declared.PictureFrame.{PictureFrame}
 use Rattle.effect.specs.declared.Obeyed.{Obeyed}
@@ -25,21 +25,18 @@ obeys {before = before} e g s = record { good = g ∙ ap isGood (sym e); same = 
 
 module _ (f : List ℕ) {opens : Bool} (o : opens ≡ opensPicture f) where
   pub no-drawing : (p : PictureFrame) → opens ≡ true → p ≡ pictureOf f → p .columns .len ≡ 0 → orderOf f ≡ none
-  unfolding orderOf
-  no-drawing p t e z = rw (sym o ∙ t, ← e, eq-eqb (p .columns .len) 0 z)
+  no-drawing p t e z = order-drawn f (sym o ∙ t) ∙ rw (← e, eq-eqb (p .columns .len) 0 z)
 
   pub a-drawing : (p : PictureFrame) → opens ≡ true → p ≡ pictureOf f → (p .columns .len ≡ 0 → ⊥)
       → orderOf f ≡ some (draw (p .row) (take (p .columns .len) (p .columns .bytes)))
-  unfolding orderOf
-  a-drawing p t e z = rw (sym o ∙ t, ← e, ne-eqb (p .columns .len) 0 z)
+  a-drawing p t e z = order-drawn f (sym o ∙ t) ∙ rw (← e, ne-eqb (p .columns .len) 0 z)
 
   pub a-reading : {found r : Reading} → opens ≡ false → found ≡ readOf f → found ≡ r → orderOf f ≡ orderRead r (drop 3 f)
-  unfolding orderOf
-  a-reading t q e = rw (sym o ∙ t, ← q, e)
+  a-reading t q e = order-read f (sym o ∙ t) ∙ ap (λ (x : Reading). orderRead x (drop 3 f)) (sym q ∙ e)
 
--- a label's codes have their places
-pub label-fits : {side : Side} (f : List ℕ) → orderOf f ≡ some (label side (drop 3 f)) → length (drop 3 f) ≤ 7
-label-fits {side} f e = read-label side (sound f e) .most
+-- what was asked of the ranges, in the text mode's rows
+pub judged : {rows : ℕ} {ok : Bool} (mode : ℕ) (c : Command) (b : Bool) → rows ≡ rowsOf mode → ok ≡ commandInRange rows c → ok ≡ b → commandInRange (rowsOf mode) c ≡ b
+judged mode c b e h t = ap (λ (n : ℕ). commandInRange n c) (sym e) ∙ sym h ∙ t
 
 -- a drawn row is the order carried out
 pub row-drawn : (before : Core) (picture : List ℕ) (row : ℕ) (columns : List ℕ)

@@ -1,9 +1,9 @@
 // What an obeyed frame does to the record: document 01's third column. specs/Effect.antt has it line by line.
 // The text and the picture are changed in place; all that is small goes by value.
 ghost use mathlib.Core.Path.{_≡_};
-ghost use mathlib.Core.Bool.{Bool, true, cond};
+ghost use mathlib.Core.Bool.{true, cond};
 ghost use mathlib.Core.List.{List, []};
-ghost use Prim.Native.Nat.{ℕ, _≤_, _+_, _*_};
+ghost use Prim.Native.Nat.{ℕ, _≤_};
 ghost use lib.ListN.{length, take, drop};
 ghost use Rattle.lists.specs.Padded.{padded};
 ghost use Rattle.record.specs.Range.{rowsOf};
@@ -26,6 +26,23 @@ use record::Seconds;
 use record::Tenths;
 use record::Times;
 use record::Volume;
+
+// Which volume icon.
+const PRIVATE: u8 = 1;
+
+const HANDSFREE: u8 = 2;
+
+// The modes of the backlight, and its duration by default.
+const OFF: u8 = 0;
+
+const ON: u8 = 1;
+
+const AUTO: u8 = 2;
+
+const DEFAULT_DURATION: u8 = 30;
+
+// A picture row holds so many columns.
+const ROW_COLUMNS: usize = 96;
 
 // The panel after a frame, and whether the frame is of the grammar.
 pub struct Obeyed {
@@ -247,7 +264,7 @@ fn light_at(b: Backlight, n: u8) -> Backlight
     ensures same { λ r. ⌜ r ≡ lightAt b n ⌝ }
 {
     match n {
-        0 => without_seconds(b, 0),
+        0 => without_seconds(b, OFF),
         1..=255 => with_duration(b, n),
     }
 }
@@ -258,7 +275,7 @@ fn started(b: Backlight) -> Backlight
 {
     let left = b.duration;
     Backlight {
-        mode: 2,
+        mode: AUTO,
         left: left,
         ..b
     }
@@ -267,7 +284,7 @@ fn started(b: Backlight) -> Backlight
 fn in_auto(b: Backlight) -> Backlight
     ensures same { λ r. ⌜ r ≡ withLight b auto ⌝ }
 {
-    Backlight { mode: 2, ..b }
+    Backlight { mode: AUTO, ..b }
 }
 
 fn with_keypad(b: Backlight, keypad: bool) -> Backlight
@@ -352,7 +369,7 @@ fn draw(picture: &mut [u8; 672], row: u8, columns: Columns)
     if 6 < row {
         return;
     }
-    let start = wide(row) * 96;
+    let start = wide(row) * ROW_COLUMNS;
     let count = wide(columns.len);
     let mut i = 0;
     while i < count {
@@ -388,17 +405,17 @@ fn changed(p: Panel, text: &mut [u8; 80], c: Command) -> Panel
         Command::IconR(n) => with_icons(p, with_icon_r(p.icons, byte(n))),
         Command::IconP(n) => with_icons(p, with_icon_p(p.icons, byte(n))),
         Command::IconW(n) => with_icons(p, with_icon_w(p.icons, byte(n))),
-        Command::Private(n) => with_volume(p, at_level(p.volume, 1, byte(n))),
-        Command::Handsfree(n) => with_volume(p, at_level(p.volume, 2, byte(n))),
-        Command::HandsfreeOfNote(n) => with_volume(p, at_level(p.volume, 2, byte(n))),
+        Command::Private(n) => with_volume(p, at_level(p.volume, PRIVATE, byte(n))),
+        Command::Handsfree(n) => with_volume(p, at_level(p.volume, HANDSFREE, byte(n))),
+        Command::HandsfreeOfNote(n) => with_volume(p, at_level(p.volume, HANDSFREE, byte(n))),
         Command::Mute(n) => with_volume(p, with_mute(p.volume, byte(n))),
         Command::KeyTimes(time1, time2) => with_times(p, byte(time1), byte(time2)),
         Command::Buzzer(n) => with_buzzer(p, byte(n)),
         Command::Light(n) => with_backlight(p, light_at(p.backlight, byte(n))),
-        Command::LightOn => with_backlight(p, without_seconds(p.backlight, 1)),
+        Command::LightOn => with_backlight(p, without_seconds(p.backlight, ON)),
         Command::LightAutoStart => with_backlight(p, started(p.backlight)),
         Command::LightAuto => with_backlight(p, in_auto(p.backlight)),
-        Command::DefaultDuration => with_backlight(p, with_duration(p.backlight, 30)),
+        Command::DefaultDuration => with_backlight(p, with_duration(p.backlight, DEFAULT_DURATION)),
         Command::KeypadSet => with_backlight(p, with_keypad(p.backlight, true)),
         Command::KeypadCleared => with_backlight(p, with_keypad(p.backlight, false)),
     }

@@ -1,3 +1,4 @@
+-- Level 0 hides, another level shows. Assumes nothing.
 use native.Mathlib.Omega.{arith}
 use borrow.Author.Tests.{ne-eqb}
 use Rattle.effect.proofs.at_level.Statement.{statement}

@@ -1,3 +1,4 @@
+-- All text is blank. Assumes nothing.
 use mathlib.Core.Path.{refl}
 use Rattle.effect.specs.Effect.{blanks}
 use Rattle.effect.proofs.clear.Statement.{statement}

@@ -1,3 +1,4 @@
+-- Row 6 keeps five bits. Assumes nothing.
 use borrow.Author.Tests.{ne-eqb}
 use Rattle.effect.proofs.kept.Statement.{statement}
 use Rattle.effect.proofs.kept.Tie as tie

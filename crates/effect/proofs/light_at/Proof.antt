@@ -1,3 +1,4 @@
+-- 0 is off, another number is the duration. Assumes nothing.
 use native.Mathlib.Omega.{arith}
 use borrow.Author.Tests.{ne-eqb}
 use borrow.Author.Needs.{needs}

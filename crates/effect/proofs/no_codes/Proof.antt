@@ -1,3 +1,4 @@
+-- Seven places hold zero. Assumes nothing.
 use mathlib.Core.Path.{refl}
 use Rattle.lists.specs.Padded.{padded}
 use Rattle.effect.proofs.no_codes.Statement.{statement}

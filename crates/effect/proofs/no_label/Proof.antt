@@ -1,3 +1,4 @@
+-- An empty label. Assumes nothing.
 use borrow.Author.Needs.{needs}
 use Rattle.effect.proofs.no_label.Statement.{statement}
 use Rattle.effect.proofs.no_label.Tie as tie

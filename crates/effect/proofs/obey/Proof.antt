@@ -1,9 +1,9 @@
 -- Each reading of the frame gives its order, and what was done carries it out. Assumes nothing.
-use mathlib.Core.Path.{refl}
+use mathlib.Core.Path.{refl, sym, _∙_}
 use Rattle.effect.specs.Effect.{carryOut}
-use Rattle.effect.specs.Few.{columns-few}
+use Rattle.command.specs.Found.{label-found, picture-fits}
 use Rattle.effect.specs.Obey.{core}
-use Rattle.effect.proofs.Orders.{obeys, no-drawing, a-drawing, a-reading, label-fits, row-drawn}
+use Rattle.effect.proofs.Orders.{obeys, no-drawing, a-drawing, a-reading, row-drawn}
 use borrow.Author.Needs.{needs}
 use Rattle.effect.proofs.obey.Statement.{statement}
 use Rattle.effect.proofs.obey.Tie as tie
@@ -18,7 +18,7 @@ returns : tie.Need-returns
 returns c = obeys (no-drawing (c .before .before .before .before .before .before .before .args .frame .now) (c .before .before .before .before .before .opens-picture .ensures) _ (c .before .before .before .before .if1 .taken) (c .before .before .before .read-picture .ensures) (c .if2 .taken)) refl refl
 
 draw-requires : tie.Need-draw-requires
-draw-requires c κs = rw (c .before .before .before .before .read-picture .ensures) (columns-few (c .before .before .before .before .before .before .before .before .args .frame .now))
+draw-requires c κs = rw (c .before .before .before .before .read-picture .ensures) (picture-fits (c .before .before .before .before .before .before .before .before .args .frame .now) .few-columns)
 
 returns-2 : tie.Need-returns-2
 returns-2 c =
@@ -43,8 +43,7 @@ enum-known-reading-2 : tie.Need-enum-known-reading-2
 enum-known-reading-2 c = search needs
 
 obey-label-requires : tie.Need-obey-label-requires
-obey-label-requires c κs =
-    label-fits (c .before .before .before .before .before .before .before .args .frame .now) (a-reading (c .before .before .before .before .before .before .before .args .frame .now) (c .before .before .before .before .before .opens-picture .ensures) (c .before .before .before .before .if1 .left) (c .before .before .before .read-command .ensures) (c .before .reading2 .given .1))
+obey-label-requires c κs = label-found (c .before .before .before .before .before .before .before .args .frame .now) (sym (c .before .before .before .read-command .ensures) ∙ c .before .reading2 .given .1) .codes .most
 
 returns-3 : tie.Need-returns-3
 returns-3 c = obeys (a-reading (c .before .before .before .before .before .before .args .frame .now) (c .before .before .before .before .opens-picture .ensures) (c .before .before .before .if1 .left) (c .before .before .read-command .ensures) (c .enum-told .given .1)) refl refl

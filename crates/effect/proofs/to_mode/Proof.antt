@@ -1,3 +1,4 @@
+-- 11 to 13 are overlays, the other numbers text modes. Assumes nothing.
 use native.Mathlib.Omega.{arith}
 use mathlib.Core.Logic.{⊎-elim}
 use mathlib.Core.Path.{sym}

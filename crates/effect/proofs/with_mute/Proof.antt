@@ -1,3 +1,4 @@
+-- 1 mutes and shows, 0 takes mute away. Assumes nothing.
 use native.Mathlib.Omega.{arith}
 use borrow.Author.Tests.{ne-eqb}
 use Rattle.effect.proofs.with_mute.Statement.{statement}

@@ -1,0 +1,106 @@
+// Reads a stream from standard input, from the power-on record, and prints the fields of the screen.
+// Codes outside 0x20 to 0x7E are printed as '.'. A frame that is still open at the end is not seen.
+use libc::STDOUT_FILENO;
+use record::Label;
+use record::Panel;
+use record::Record;
+
+fn say(words: &[u8]) {
+    io::write_all(STDOUT_FILENO, words);
+}
+
+fn say_number(words: &[u8], n: u64) {
+    say(words);
+    io::print_decimal(STDOUT_FILENO, n);
+}
+
+fn say_flag(words: &[u8], flag: bool) {
+    if flag {
+        say_number(words, 1);
+    } else {
+        say_number(words, 0);
+    }
+}
+
+fn printable(code: u8) -> u8 {
+    if code < 0x20 {
+        return b'.';
+    }
+    if 0x7E < code {
+        return b'.';
+    }
+    code
+}
+
+// The first n codes, in brackets.
+fn say_codes(codes: &[u8], n: usize) {
+    say(b"[");
+    for i in 0..n {
+        if i < codes.len() {
+            let one = [printable(codes[i])];
+            say(&one);
+        }
+    }
+    say(b"]\n");
+}
+
+fn say_label(words: &[u8], label: Label) {
+    say(words);
+    say_codes(&label.codes, label.len as usize);
+}
+
+fn say_text(text: [u8; 80]) {
+    for row in 0..5 {
+        say_number(b"TEXT ", row as u64);
+        say(b" ");
+        say_codes(&text[row * 16..row * 16 + 16], 16);
+    }
+}
+
+fn say_screen(p: Panel) {
+    let s = p.screen;
+    say_number(b"MODE ", s.mode as u64);
+    say_number(b" OVER ", s.overlay as u64);
+    say_flag(b" DISPLAY ", s.display);
+    say_flag(b"\nCURSOR ", p.shown);
+    say_number(b" ", s.row as u64);
+    say_number(b" ", s.column as u64);
+    say(b"\n");
+}
+
+fn say_icons(p: Panel) {
+    let i = p.icons;
+    say_number(b"ICONS ", i.s as u64);
+    say_number(b" ", i.u as u64);
+    say_number(b" ", i.f as u64);
+    say_number(b" ", i.r as u64);
+    say_number(b" ", i.p as u64);
+    say_number(b" ", i.w as u64);
+    say(b"\n");
+}
+
+fn say_volume(p: Panel) {
+    let v = p.volume;
+    say_number(b"VOLUME ", v.which as u64);
+    say_number(b" ", v.level as u64);
+    say_flag(b" ", v.mute);
+    say_flag(b" ", v.hidden);
+    say(b"\n");
+}
+
+fn main() {
+    let heard = listen::hear(Record::power_on());
+    say_number(b"REPLIES ", heard.replies);
+    say(b"\n");
+    let r = heard.record;
+    let p = r.panel;
+    let text = r.text;
+    let left = p.left;
+    let right = p.right;
+    say_screen(p);
+    say_text(text);
+    say_label(b"LEFT ", left);
+    say_label(b"RIGHT ", right);
+    say_icons(p);
+    say_volume(p);
+}

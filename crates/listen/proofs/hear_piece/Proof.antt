@@ -1,0 +1,59 @@
+-- `listen::hear_piece` keeps its promise. Assumes nothing.
+use Prim.Native.Nat.{_-_, _≤_}
+use lib.ListN.{length}
+use borrow.Author.Needs.{needs}
+use Rattle.listen.proofs.hear_piece.Statement.{statement}
+use Rattle.listen.proofs.hear_piece.Tie as tie
+
+abbrev Inv-loop : tie.InvT-loop
+Inv-loop piece now₀ at₀ now at = at ≤ length piece
+
+abbrev μ-loop : tie.MeasureT-loop
+μ-loop piece now₀ at₀ now at = length piece - at
+
+loop-holds : tie.Need-loop-holds Inv-loop μ-loop
+loop-holds c = search needs
+
+sub-one-call : tie.Need-sub-one-call Inv-loop μ-loop
+sub-one-call c = search needs
+
+part-one-call-start : tie.Need-part-one-call-start Inv-loop μ-loop
+part-one-call-start c = search needs
+
+part-one-call-end : tie.Need-part-one-call-end Inv-loop μ-loop
+part-one-call-end c = search needs
+
+one-call-requires : tie.Need-one-call-requires Inv-loop μ-loop
+one-call-requires c κs = search needs
+
+more-requires : tie.Need-more-requires Inv-loop μ-loop
+more-requires c κs = search needs
+
+next-place-requires : tie.Need-next-place-requires Inv-loop μ-loop
+next-place-requires c κs = search needs
+
+loop-less : tie.Need-loop-less Inv-loop μ-loop
+loop-less c = search needs
+
+loop-again : tie.Need-loop-again Inv-loop μ-loop
+loop-again c = search needs
+
+returns : tie.Need-returns Inv-loop μ-loop
+returns c = search needs
+
+pub hear-piece-spec : {M : Type 1} → statement M
+hear-piece-spec =
+    tie.close
+    (tie.spec
+    Inv-loop
+    μ-loop
+    loop-holds
+    sub-one-call
+    part-one-call-start
+    part-one-call-end
+    one-call-requires
+    more-requires
+    next-place-requires
+    loop-less
+    loop-again
+    returns)

@@ -1,0 +1,45 @@
+-- What a label and a picture row in range are, and what the count and the room then say. Assumes nothing.
+use Prim.Native.Nat.{ℕ, _≤_}
+use native.Mathlib.Omega.{arith}
+use mathlib.Core.Bool.{Bool, true, false, cond}
+use mathlib.Core.List.{List, _++_}
+use mathlib.Core.Path.{_≡_, refl}
+use lib.Dec.{leb}
+use lib.ListN.{length, take, drop}
+use lib.Seq.{take-append-seam, drop-at}
+use borrow.Author.Tests.{leb-true}
+use Rattle.lists.specs.Both.{both}
+use Rattle.lists.specs.Every.{every}
+use Rattle.record.specs.Range.{isCode}
+use Rattle.record.specs.declared.Answer.the-variants.{Done, CommandOutOfRange, NoRoom}
+use Rattle.writer.specs.Writing.{isLabel, isRow, reply, writtenOf, roomAfter}
+
+pub label-told : (codes : List ℕ) → isLabel codes ≡ true → (length codes ≤ 7) × (every isCode codes ≡ true)
+unfolding isLabel
+label-told codes h = let w = both h in (leb-true (length codes) 7 (w .0), w .1)
+
+pub record RowTold (row : ℕ) (columns : List ℕ) : Type 0 where
+  pub least : 1 ≤ length columns
+  pub most : length columns ≤ 96
+  pub low : row ≤ 6
+
+pub row-told : (row : ℕ) (columns : List ℕ) → isRow row columns ≡ true → RowTold row columns
+unfolding isRow
+row-told row columns h =
+    let w = both (both h .0) in
+    let v = both (w .0) in
+    record { least = leb-true 1 (length columns) (v .0); most = leb-true (length columns) 96 (v .1); low = leb-true row 6 (w .1) }
+
+-- Where a writer answers 0, the order was in range, the first count bytes of the room are the frame, and the others are as they were.
+pub done-told : (ok : Bool) (frame room : List ℕ) → writtenOf ok frame room .answer ≡ Done
+    → (ok ≡ true) × (take (writtenOf ok frame room .count) (roomAfter ok frame room) ≡ frame) × (drop (writtenOf ok frame room .count) (roomAfter ok frame room) ≡ drop (length frame) room)
+unfolding writtenOf roomAfter
+done-told ok frame room h = cases ok (leb (length frame) (length room)) h
+  where
+    cases : (inside fits : Bool) → cond inside (cond fits (reply Done (length frame)) (reply NoRoom 0)) (reply CommandOutOfRange 0) .answer ≡ Done
+        → (inside ≡ true)
+        × (take (cond inside (cond fits (reply Done (length frame)) (reply NoRoom 0)) (reply CommandOutOfRange 0) .count) (cond inside (cond fits (frame ++ drop (length frame) room) room) room) ≡ frame)
+        × (drop (cond inside (cond fits (reply Done (length frame)) (reply NoRoom 0)) (reply CommandOutOfRange 0) .count) (cond inside (cond fits (frame ++ drop (length frame) room) room) room) ≡ drop (length frame) room)
+    cases true true h = (refl, take-append-seam frame (drop (length frame) room), drop-at frame (drop (length frame) room) (length frame) refl)
+    cases true false h = let z : _≡_ {A = ℕ} 0 1 = cc in absurd (omega arith)
+    cases false fits h = let z : _≡_ {A = ℕ} 0 1 = cc in absurd (omega arith)

@@ -1,0 +1,324 @@
+// The writers, for those who build collectors: a command, a label or a picture row becomes the bytes of its frame.
+// A frame is built once, in a line of its own, and copied once into the lent room. One that is out of range or finds no room
+// leaves the room as it was.
+ghost use mathlib.Core.Path.{_≡_};
+ghost use mathlib.Core.Bool.{true};
+ghost use mathlib.Core.List.{[], _∷_, _++_};
+ghost use Prim.Native.Nat.{_+_, _≤_};
+ghost use lib.ListN.{length, drop};
+ghost use Rattle.lists.specs.Codes.{escape, carriageReturn, lineFeed};
+ghost use Rattle.lists.specs.Every.{every};
+ghost use Rattle.numeral.specs.Numeral.{decimal};
+ghost use Rattle.picture.specs.Writing.{encode};
+ghost use Rattle.command.specs.InRange.{commandInRange, mostRows};
+ghost use Rattle.writer.specs.Writing.{bodyOf, labelBody, rowBody, frameOf, isLabel, isRow, writtenOf, roomAfter};
+ghost use Rattle.writer.specs.Lines.{held, Added, planBody, testOf};
+use command::Command;
+use command::Side;
+use command::in_range;
+use numeral::digits_of;
+use picture::write_data;
+use record::Answer;
+
+const ESCAPE: u8 = 0x1B;
+
+const CARRIAGE_RETURN: u8 = 0x0D;
+
+const LINE_FEED: u8 = 0x0A;
+
+// A writer knows no text mode: it takes the cursor rows of the mode that has most.
+const MOST_ROWS: u8 = 5;
+
+const LOWEST_CODE: u8 = 0x20;
+
+const LONGEST_LABEL: usize = 7;
+
+const MOST_COLUMNS: usize = 96;
+
+const LAST_ROW: u8 = 6;
+
+// The last picture row has five dots in a column, so its columns stay below this.
+const LOW_COLUMN_END: u8 = 32;
+
+// How a writer ended, and how many bytes of the room it wrote.
+pub struct Written {
+    pub answer: Answer,
+    pub count: usize,
+}
+
+// A frame as it grows. The longest is a picture row's: ESC, Gr, the row, a comma, 192 codes, z, CR LF.
+struct Line {
+    len: usize,
+    bytes: [u8; 200],
+}
+
+// How a command's frame is made up: signs alone; I, a letter and a number; the key times; a place on the display.
+enum Plan {
+    TwoSigns(u8, u8),
+    ThreeSigns(u8, u8, u8),
+    Number(u8, u16),
+    TwoTimes(u16, u16),
+    Place(u16, u16),
+}
+
+// What a lent slice is made of.
+enum Kind {
+    LabelCode,
+    LowColumn,
+}
+
+// A line that holds ESC.
+fn opened() -> Line
+    ensures { λ r. ⌜ (held r ≡ escape ∷ []) × (r .len ≡ 1) ⌝ }
+{
+    let mut bytes = [0u8; 200];
+    bytes[0] = ESCAPE;
+    Line {
+        len: 1,
+        bytes: bytes,
+    }
+}
+
+// More codes at the end of a line.
+fn add(line: Line, codes: &[u8]) -> Line
+    requires { ⌜ line .len + length (now codes) ≤ 200 ⌝ }
+    ensures { λ r. ⌜ Added line (now (codes .entry)) (length (now (codes .entry))) r ⌝ }
+{
+    let start = line.len;
+    let mut bytes = line.bytes;
+    let mut i = 0;
+    while i < codes.len() {
+        bytes[start + i] = codes[i];
+        i += 1;
+    }
+    Line {
+        len: start + i,
+        bytes: bytes,
+    }
+}
+
+// A number without leading zeros.
+fn add_number(line: Line, n: u16) -> Line
+    requires { ⌜ line .len + 3 ≤ 200 ⌝ }
+    ensures { λ r. ⌜ Added line (decimal n) 3 r ⌝ }
+{
+    let digits = digits_of(n);
+    let len = digits.len as usize;
+    let bytes = digits.bytes;
+    add(line, &bytes[..len])
+}
+
+fn plan_of(c: Command) -> Plan
+    ensures { λ r. ⌜ planBody r ≡ bodyOf c ⌝ }
+{
+    match c {
+        Command::DisplayOff => Plan::ThreeSigns(b'I', b'D', b'D'),
+        Command::DisplayOn => Plan::ThreeSigns(b'I', b'D', b'E'),
+        Command::Mode(n) => Plan::Number(b'D', n),
+        Command::CursorShown => Plan::TwoSigns(b'&', b'C'),
+        Command::CursorHidden => Plan::TwoSigns(b'&', b'D'),
+        Command::Clear => Plan::TwoSigns(b'&', b'#'),
+        Command::Position(row, column) => Plan::Place(row, column),
+        Command::LabelsEmpty => Plan::ThreeSigns(b'I', b'K', b'0'),
+        Command::IconS(n) => Plan::Number(b'S', n),
+        Command::IconU(n) => Plan::Number(b'U', n),
+        Command::IconF(n) => Plan::Number(b'F', n),
+        Command::IconR(n) => Plan::Number(b'R', n),
+        Command::IconP(n) => Plan::Number(b'P', n),
+        Command::IconW(n) => Plan::Number(b'W', n),
+        Command::Private(n) => Plan::Number(b'L', n),
+        Command::Handsfree(n) => Plan::Number(b'J', n),
+        Command::HandsfreeOfNote(n) => Plan::Number(b'I', n),
+        Command::Mute(n) => Plan::Number(b'M', n),
+        Command::KeyTimes(time1, time2) => Plan::TwoTimes(time1, time2),
+        Command::Buzzer(n) => Plan::Number(b'B', n),
+        Command::Light(n) => Plan::Number(b'E', n),
+        Command::LightOn => Plan::ThreeSigns(b'I', b'E', b'E'),
+        Command::LightAutoStart => Plan::ThreeSigns(b'I', b'E', b'A'),
+        Command::LightAuto => Plan::ThreeSigns(b'I', b'E', b'S'),
+        Command::DefaultDuration => Plan::ThreeSigns(b'I', b'E', b'R'),
+        Command::KeypadSet => Plan::ThreeSigns(b'I', b'E', b'e'),
+        Command::KeypadCleared => Plan::ThreeSigns(b'I', b'E', b'r'),
+    }
+}
+
+// The body of a command's frame.
+fn add_plan(line: Line, plan: Plan) -> Line
+    requires { ⌜ line .len ≤ 1 ⌝ }
+    ensures { λ r. ⌜ Added line (planBody plan) 9 r ⌝ }
+{
+    match plan {
+        Plan::TwoSigns(a, b) => add(line, &[a, b]),
+        Plan::ThreeSigns(a, b, c) => add(line, &[a, b, c]),
+        Plan::Number(letter, n) => add_number(add(line, &[b'I', letter]), n),
+        Plan::TwoTimes(time1, time2) => {
+            add_number(add(add_number(add(line, b"IT"), time1), b";"), time2)
+        }
+        Plan::Place(row, column) => {
+            add(
+                add_number(add(add_number(add(line, b"["), row), b";"), column),
+                b"H",
+            )
+        }
+    }
+}
+
+// The body of a label's frame.
+fn add_label(line: Line, side: Side, codes: &[u8]) -> Line
+    requires { ⌜ (line .len ≤ 1) × (length (now codes) ≤ 7) ⌝ }
+    ensures { λ r. ⌜ Added line (labelBody side (now (codes .entry))) 10 r ⌝ }
+{
+    match side {
+        Side::Left => add(add(line, b"IK1"), codes),
+        Side::Right => add(add(line, b"IK2"), codes),
+    }
+}
+
+// The data of picture columns.
+fn add_data(line: Line, columns: &[u8]) -> Line
+    requires { ⌜ (line .len + 192 ≤ 200) × (length (now columns) ≤ 96) ⌝ }
+    ensures { λ r. ⌜ Added line (encode (now (columns .entry))) 192 r ⌝ }
+{
+    let data = write_data(columns);
+    let len = data.len as usize;
+    let bytes = data.bytes;
+    add(line, &bytes[..len])
+}
+
+// The body of a picture row's frame.
+fn add_row(line: Line, row: u8, columns: &[u8]) -> Line
+    requires { ⌜ (line .len ≤ 1) × (row ≤ 6) × (length (now columns) ≤ 96) ⌝ }
+    ensures { λ r. ⌜ Added line (rowBody row (now (columns .entry))) 197 r ⌝ }
+{
+    add(
+        add_data(add(line, &[b'G', b'r', b'0' + row, b',']), columns),
+        b"z",
+    )
+}
+
+// A line into the room.
+fn copy(line: Line, room: &mut [u8])
+    requires { ⌜ (line .len ≤ length (now room)) × (line .len ≤ 200) ⌝ }
+    ensures { λ _. ⌜ now (room .exit) ≡ held line ++ drop (line .len) (now (room .entry)) ⌝ }
+{
+    let n = line.len;
+    let bytes = line.bytes;
+    let mut i = 0;
+    while i < n {
+        room[i] = bytes[i];
+        i += 1;
+    }
+}
+
+// A line with its CR LF into the room, where there is room for all of it.
+fn deliver(line: Line, room: &mut [u8]) -> Written
+    requires { ⌜ line .len + 2 ≤ 200 ⌝ }
+    ensures answered { λ r. ⌜ r ≡ writtenOf true (held line ++ carriageReturn ∷ lineFeed ∷ []) (now (room .entry)) ⌝ }
+    ensures left { λ _. ⌜ now (room .exit) ≡ roomAfter true (held line ++ carriageReturn ∷ lineFeed ∷ []) (now (room .entry)) ⌝ }
+{
+    let frame = add(line, &[CARRIAGE_RETURN, LINE_FEED]);
+    let n = frame.len;
+    if room.len() < n {
+        return Written {
+            answer: Answer::NoRoom,
+            count: 0,
+        };
+    }
+    copy(frame, room);
+    Written {
+        answer: Answer::Done,
+        count: n,
+    }
+}
+
+fn passes(kind: Kind, b: u8) -> bool
+    ensures { λ r. ⌜ r ≡ testOf kind b ⌝ }
+{
+    match kind {
+        Kind::LabelCode => LOWEST_CODE <= b,
+        Kind::LowColumn => b < LOW_COLUMN_END,
+    }
+}
+
+fn all_pass(s: &[u8], kind: Kind) -> bool
+    ensures { λ r. ⌜ r ≡ every (testOf kind) (now (s .entry)) ⌝ }
+{
+    let mut ok = true;
+    let mut i = 0;
+    while i < s.len() {
+        ok = ok & passes(kind, s[i]);
+        i += 1;
+    }
+    ok
+}
+
+fn label_in_range(codes: &[u8]) -> bool
+    ensures { λ r. ⌜ r ≡ isLabel (now (codes .entry)) ⌝ }
+{
+    if LONGEST_LABEL < codes.len() {
+        return false;
+    }
+    all_pass(codes, Kind::LabelCode)
+}
+
+// The columns are looked at only in row 6, and only if they are at most 96.
+fn row_in_range(row: u8, columns: &[u8]) -> bool
+    ensures { λ r. ⌜ r ≡ isRow row (now (columns .entry)) ⌝ }
+{
+    let n = columns.len();
+    if n < 1 {
+        return false;
+    }
+    if MOST_COLUMNS < n {
+        return false;
+    }
+    if LAST_ROW < row {
+        return false;
+    }
+    if row < LAST_ROW {
+        return true;
+    }
+    all_pass(columns, Kind::LowColumn)
+}
+
+// The frame of a command.
+pub fn write_command(c: Command, room: &mut [u8]) -> Written
+    ensures answered { λ r. ⌜ r ≡ writtenOf (commandInRange mostRows c) (frameOf (bodyOf c)) (now (room .entry)) ⌝ }
+    ensures left { λ _. ⌜ now (room .exit) ≡ roomAfter (commandInRange mostRows c) (frameOf (bodyOf c)) (now (room .entry)) ⌝ }
+{
+    if in_range(c, MOST_ROWS) {
+        return deliver(add_plan(opened(), plan_of(c)), room);
+    }
+    Written {
+        answer: Answer::CommandOutOfRange,
+        count: 0,
+    }
+}
+
+// The frame of a soft-key label.
+pub fn write_label(side: Side, codes: &[u8], room: &mut [u8]) -> Written
+    ensures answered { λ r. ⌜ r ≡ writtenOf (isLabel (now (codes .entry))) (frameOf (labelBody side (now (codes .entry)))) (now (room .entry)) ⌝ }
+    ensures left { λ _. ⌜ now (room .exit) ≡ roomAfter (isLabel (now (codes .entry))) (frameOf (labelBody side (now (codes .entry)))) (now (room .entry)) ⌝ }
+{
+    if label_in_range(codes) {
+        return deliver(add_label(opened(), side, codes), room);
+    }
+    Written {
+        answer: Answer::CommandOutOfRange,
+        count: 0,
+    }
+}
+
+// The frame of a picture row, from its first column on.
+pub fn write_picture_row(row: u8, columns: &[u8], room: &mut [u8]) -> Written
+    ensures answered { λ r. ⌜ r ≡ writtenOf (isRow row (now (columns .entry))) (frameOf (rowBody row (now (columns .entry)))) (now (room .entry)) ⌝ }
+    ensures left { λ _. ⌜ now (room .exit) ≡ roomAfter (isRow row (now (columns .entry))) (frameOf (rowBody row (now (columns .entry)))) (now (room .entry)) ⌝ }
+{
+    if row_in_range(row, columns) {
+        return deliver(add_row(opened(), row, columns), room);
+    }
+    Written {
+        answer: Answer::CommandOutOfRange,
+        count: 0,
+    }
+}
