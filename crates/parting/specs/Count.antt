@@ -8,12 +8,13 @@ use lib.Dec.{eqb}
 use lib.ListN.{length, length-append, take, drop, take-append-drop}
 use borrow.Author.Tests.{ne-eqb}
 use Rattle.lists.specs.Codes.{escape}
+use Rattle.turns.specs.Room.{run-stops}
 use Rattle.parting.specs.Rules.{Body, empty, collect, Part, text, skipped, closed, abandoned, bytesOf, Parted, done, unfinished, then, Parting, ends, waits, goes-on, Frame, noFrame, openFrame, overlong, inLimit, Stands, none-stands, open-stands, overlong-stands}
 use Rattle.parting.specs.Meaning.{Meaning, State, Taken, close, act, taking}
-use Rattle.parting.specs.Reading.{reading}
+use Rattle.parting.specs.Reading.{step, reading}
 use Rattle.parting.specs.Stream.{stream}
 use Rattle.parting.specs.Frames.{OfThese, EachClosed, endedBy, ended}
-use Rattle.parting.specs.Room.{run, run-stops}
+use Rattle.parting.specs.Room.{run}
 
 -- how many ESC bytes there are
 unfoldable pub escapes : List ℕ → ℕ
@@ -109,7 +110,7 @@ module _ (M : Meaning) (These : List ℕ → Type 0) (one : OneAnswer M These) w
       let n : ℕ = run M state bytes room .used in
       omega (
         arith,
-        ap (λ (x : Taken (M .Core)). length (x .answers)) (run-stops M state bytes room .does),
+        ap (λ (x : Taken (M .Core)). length (x .answers)) (run-stops (step M) state bytes room .does),
         answers-at-most state (take n bytes) standing p t,
         escapes-append (take n bytes) (drop n bytes),
         ap escapes (take-append-drop n bytes),
