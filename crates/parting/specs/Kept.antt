@@ -1,12 +1,11 @@
 -- FACTS THAT ARE KEPT: what text bytes and frames keep, every stream keeps; and the frame stays in its range. Assumes nothing.
 use Prim.Native.Nat.{ℕ, _≤_}
 use native.Mathlib.Omega.{arith}
-use mathlib.Core.Path.{_≡_, refl}
-use mathlib.Core.Bool.{Bool, true, false}
 use mathlib.Core.List.{List, [], _∷_, _++_}
 use lib.ListN.{length}
 use borrow.Author.Tests.{leb-true, ne-eqb, le-leb, lt-leb}
 use Rattle.lists.specs.Codes.{escape, carriageReturn, blank}
+use Rattle.lists.specs.Tests.{either-way}
 use Rattle.turns.specs.Taking
 use Rattle.turns.specs.Room
 use Rattle.parting.specs.Rules.{Plain, Body, empty, Frame, noFrame, openFrame, overlong, limit, inLimit, keep, FrameInRange}
@@ -27,11 +26,7 @@ pub record Keeps (M : Meaning) (Holds : M .Core → Type 0) : Type 0 where
 
 keep-in-range : (body : List ℕ) → Body body → FrameInRange (keep body)
 unfolding keep
-keep-in-range body h = go (inLimit body) refl
-  where
-    go : (x : Bool) → inLimit body ≡ x → FrameInRange (keep body)
-    go true e = rw e (h, leb-true (length body) limit e)
-    go false e = rw e tt
+keep-in-range body h = either-way FrameInRange (inLimit body) (λ e. (h, leb-true (length body) limit e)) (λ e. tt)
 
 module _ (M : Meaning) (Holds : M .Core → Type 0) (keeps : Keeps M Holds) where
   outside-keeps : (core : M .Core) (b : ℕ) → Holds core → Sound Holds (stepOutside M core b .state)

@@ -7,7 +7,7 @@ use mathlib.Core.Path.{_≡_, refl, sym, ap, _∙_, subst}
 use mathlib.Core.Bool.{Bool, true, false, cond}
 use mathlib.Core.List.{List, [], _∷_, _++_}
 use lib.Seq.{sets, length-sets, sets-eq}
-use lib.ListN.{set, length, length-set, length-append, length-drop, drop, drop-of-length-le}
+use lib.ListN.{set, length, length-append, length-drop, drop, drop-of-length-le}
 use borrow.Author.Tests.{leb-true, le-leb, lt-leb}
 use Rattle.turns.specs.Taking.{Taken, silently}
 use Rattle.turns.specs.Room.{Ran, stopped, onward, hasRoom, run, run-stops}
