@@ -4,11 +4,12 @@ use Prim.Native.Nat.{ℕ, suc, _+_, _-_, _≤_, _<_}
 use native.Mathlib.Omega.{arith}
 use native.Mathlib.Nat.{add-zero, zero-add, sub-zero}
 use mathlib.Core.Path.{_≡_, refl, sym, ap, _∙_, subst}
-use mathlib.Core.Bool.{Bool, true, false, cond}
+use mathlib.Core.Bool.{cond}
 use mathlib.Core.List.{List, [], _∷_, _++_}
 use lib.Seq.{sets, length-sets, sets-eq}
 use lib.ListN.{set, length, length-append, length-drop, drop, drop-of-length-le}
 use borrow.Author.Tests.{leb-true, le-leb, lt-leb}
+use Rattle.lists.specs.Tests.{by-test}
 use Rattle.turns.specs.Taking.{Taken, silently}
 use Rattle.turns.specs.Room.{Ran, stopped, onward, hasRoom, run, run-stops}
 
@@ -69,34 +70,21 @@ module _ {State Entry : Type 0} (step : State → Entry → Taken State) where
   unfolding walk run
   walk-is-run state [] used written buffer h = adding-none state used written buffer
   walk-is-run state (entry ∷ entries) used written buffer h =
-      go (hasRoom need room) refl (walk-is-run next entries (used + 1) (written + need) (sets buffer written first))
-    where
-      first : List ℕ
-      first = step state entry .answers
-
-      need : ℕ
-      need = length first
-
-      room : ℕ
-      room = length buffer - written
-
-      next : State
-      next = step state entry .state
-
-      further : Walked State
-      further = walk next entries (used + 1) (written + need) (sets buffer written first)
-
-      go : (x : Bool) → hasRoom need room ≡ x
-          → (written + need ≤ length (sets buffer written first)
-          → further ≡ adding (used + 1) (written + need) (sets buffer written first) (run step next entries (length (sets buffer written first) - (written + need))))
-          → cond x further (still state used written buffer) ≡ adding used written buffer (cond x (onward first (run step next entries (room - need))) (stopped state))
-      go true e ahead =
-          let same : length (sets buffer written first) ≡ length buffer = length-sets buffer written first in
-          let fits : need ≤ room = leb-true need room e in
-          let rest : length (sets buffer written first) - (written + need) ≡ room - need = omega arith in
-          ahead (omega arith) ∙ ap (λ (k : ℕ). adding (used + 1) (written + need) (sets buffer written first) (run step next entries k)) rest
-          ∙ adding-more used written buffer first _
-      go false e ahead = adding-none state used written buffer
+      let first : List ℕ = step state entry .answers in
+      let need : ℕ = length first in
+      let room : ℕ = length buffer - written in
+      let next : State = step state entry .state in
+      let after : List ℕ = sets buffer written first in
+      let same : length after ≡ length buffer = length-sets buffer written first in
+      by-test (hasRoom need room)
+      (λ e.
+      let fits : need ≤ room = leb-true need room e in
+      let rest : length after - (written + need) ≡ room - need = omega arith in
+      rw e
+      (walk-is-run next entries (used + 1) (written + need) after (omega arith)
+      ∙ ap (λ (k : ℕ). adding (used + 1) (written + need) after (run step next entries k)) rest
+      ∙ adding-more used written buffer first (run step next entries (room - need))))
+      (λ e. rw e (adding-none state used written buffer))
 
   -- A turn: the entry that comes next answers what there is room for.
   pub walk-turn : (state : State) (entries : List Entry) (entry : Entry) (used written : ℕ) (buffer : List ℕ) (taken : Taken State)

@@ -11,6 +11,7 @@ use lib.Dec.{leb}
 use lib.Seq.{take-add, take-length}
 use lib.ListN.{length, length-append, length-drop, take, drop}
 use borrow.Author.Tests.{leb-true, leb-false}
+use Rattle.lists.specs.Tests.{either-way}
 use Rattle.turns.specs.Taking.{Taken, answering, reading, cut-anywhere, reading-keeps}
 
 -- what a call has done: the state it leaves, how many entries it used, and what it answered
@@ -59,41 +60,32 @@ has-room need room e = omega (arith, leb-true)
 no-room : (need room : ℕ) → hasRoom need room ≡ false → room < need
 no-room need room e = omega (arith, leb-false)
 
+-- One entry more was used before: then too all are used, or one more would answer too much.
+one-further : (first more : List ℕ) (used all room : ℕ) → length first ≤ room → (used ≡ all) ⊎ (room - length first < length more)
+    → (suc used ≡ suc all) ⊎ (room < length (first ++ more))
+one-further first more used all room fits (inl e) = inl (ap suc e)
+one-further first more used all room fits (inr full) = inr (omega (arith, length-append first more))
+
 module _ {State Entry : Type 0} (step : State → Entry → Taken State) where
   -- A CALL DOES WHAT IS ASKED OF IT.
   pub run-stops : (state : State) (entries : List Entry) (room : ℕ) → Stops step state entries room (run step state entries room)
   unfolding run reading
   run-stops state [] room = record { within = omega arith; does = refl; fits = omega arith; stops = inl refl }
-  run-stops state (entry ∷ entries) room = go (hasRoom need room) refl (run-stops next entries (room - need))
-    where
-      first : List ℕ
-      first = step state entry .answers
-
-      need : ℕ
-      need = length first
-
-      next : State
-      next = step state entry .state
-
-      ahead : Ran State
-      ahead = run step next entries (room - need)
-
-      further : hasRoom need room ≡ true
-          → (ahead .used ≡ length entries) ⊎ (room - need < length (reading step next (take (suc (ahead .used)) entries) .answers))
-          → (suc (ahead .used) ≡ suc (length entries)) ⊎ (room < length (first ++ reading step next (take (suc (ahead .used)) entries) .answers))
-      further e (inl q) = inl (ap suc q)
-      further e (inr q) = inr (omega (arith, length-append first (reading step next (take (suc (ahead .used)) entries) .answers), has-room need room e))
-
-      go : (x : Bool) → hasRoom need room ≡ x → Stops step next entries (room - need) ahead
-          → Stops step state (entry ∷ entries) room (cond x (onward first ahead) (stopped state))
-      go true e h =
-          record {
-            within = omega (arith, h .within);
-            does = ap (answering first) (h .does);
-            fits = omega (arith, length-append first (ahead .answers), has-room need room e, h .fits);
-            stops = further e (h .stops);
-          }
-      go false e h = record { within = omega arith; does = refl; fits = omega arith; stops = inr (rw append-nil (no-room need room e)) }
+  run-stops state (entry ∷ entries) room =
+      let first : List ℕ = step state entry .answers in
+      let next : State = step state entry .state in
+      let ahead : Ran State = run step next entries (room - length first) in
+      let h = run-stops next entries (room - length first) in
+      either-way (Stops step state (entry ∷ entries) room) (hasRoom (length first) room)
+      (λ e.
+      let has : length first ≤ room = has-room (length first) room e in
+      record {
+        within = omega (arith, h .within);
+        does = ap (answering first) (h .does);
+        fits = omega (arith, length-append first (ahead .answers), h .fits);
+        stops = one-further first (reading step next (take (suc (ahead .used)) entries) .answers) (ahead .used) (length entries) room has (h .stops);
+      })
+      (λ e. record { within = omega arith; does = refl; fits = omega arith; stops = inr (rw append-nil (no-room (length first) room e)) })
 
   -- more entries are answered with no less
   longer : (state : State) (entries : List Entry) (i m : ℕ)
