@@ -28,9 +28,13 @@ edgesOf log = map (λ (e : Entry). e .edge) log
 abbrev pub logged : Record → List Entry → ℕ → Outcome
 logged r log room = outcome r (ticksOf log) (edgesOf log) room
 
+-- what it has done
+abbrev pub loggedRan : Record → List Entry → ℕ → Ran Record
+loggedRan r log room = logged r log room .ran
+
 -- calls in order, each offered what the one before left, then its own entries
 abbrev pub logging : Record → List Entry → List (Call Entry) → Session Record Entry
-logging = session (λ (r : Record) (log : List Entry) (room : ℕ). logged r log room .ran)
+logging = session loggedRan
 
 -- Two slices made of a list of entries hold that list.
 pub same-entries : (log : List Entry) → entries (ticksOf log) (edgesOf log) ≡ log
@@ -59,7 +63,7 @@ listed-back (e ∷ log) more (suc n) h =
     listed-back log more n (both {a = listed (e .edge)} {b = every listed (edgesOf (log ++ more))} h .1)
 
 -- a record in range, and listed entries still to come
-pub record Fine (r : Record) (log : List Entry) : Type 0 where
+pub record Ready (r : Record) (log : List Entry) : Type 0 where
   pub good : inRange r ≡ true
   pub all : every listed (edgesOf log) ≡ true
 
@@ -67,16 +71,16 @@ pub record Fine (r : Record) (log : List Entry) : Type 0 where
 pub logging-calls : (r : Record) (unused : List Entry) (calls : List (Call Entry)) → inRange r ≡ true → every listed (edgesOf (unused ++ offered calls)) ≡ true
     → logging r unused calls ≡ session (run step) r unused calls
 logging-calls r unused calls good all =
-    sessions-alike (λ (s : Record). s) (λ (s : Record) (log : List Entry) (room : ℕ). logged s log room .ran) (run step) Fine
+    sessions-alike (λ (s : Record). s) loggedRan (run step) Ready
     (record {
       same = same;
-      kept = λ s log later room fine. subst (λ (ran : Ran Record). Fine (ran .state) (drop (ran .used) log ++ later)) (sym (same s log later room fine))
-          (record { good = run-keeps step (λ (s : Record). inRange s ≡ true) step-in-range s log room (fine .good); all = listed-back log later (run step s log room .used) (fine .all) });
+      kept = λ s log later room ready. subst (λ (ran : Ran Record). Ready (ran .state) (drop (ran .used) log ++ later)) (sym (same s log later room ready))
+          (record { good = run-keeps step (λ (t : Record). inRange t ≡ true) step-in-range s log room (ready .good); all = listed-back log later (run step s log room .used) (ready .all) });
     })
     r unused calls (record { good = good; all = all })
   where
-    same : (s : Record) (log later : List Entry) (room : ℕ) → Fine s (log ++ later) → logged s log room .ran ≡ run step s log room
-    same s log later room fine = ap (λ (o : Outcome). o .ran) (logged-runs s log room (fine .good) (listed-front log later (fine .all)))
+    same : (s : Record) (log later : List Entry) (room : ℕ) → Ready s (log ++ later) → loggedRan s log room ≡ run step s log room
+    same s log later room ready = ap (λ (o : Outcome). o .ran) (logged-runs s log room (ready .good) (listed-front log later (ready .all)))
 
 -- A LOG CUT ELSEWHERE CHANGES NOTHING: from a record in range, calls on listed entries, the last of them with room for what is still
 -- to be sent, leave the record and send the codes of one reading of all entries.
