@@ -9,12 +9,12 @@ use Rattle.record.specs.declared.Held.{Held}
 use Rattle.record.specs.declared.Times.{Times}
 use Rattle.record.specs.declared.Backlight.{Backlight}
 use Rattle.record.specs.Answer.{numberOf}
-use Rattle.record.specs.Range.{textInRange, labelInRange, pictureInRange, frameInRange, inRange}
+use Rattle.record.specs.Range.{auto, textInRange, labelInRange, pictureInRange, frameInRange, inRange}
 use Rattle.record.specs.PowerOn.{startingWith}
 use Rattle.turns.specs.Room.{run}
 use Rattle.keys.specs.declared.Stage.the-variants.{Short, Long, Repeat}
 use Rattle.keys.specs.Codes.{none, codeOf}
-use Rattle.keys.specs.Rules.{Entry, entry, releases, polls, auto, elapsed, noneHeld, heldSince, longSince, keyed, withKeys, step}
+use Rattle.keys.specs.Rules.{Entry, entry, releases, polls, elapsed, noneHeld, heldSince, longSince, keyed, withKeys, step}
 use Rattle.keys.specs.Log.{outcome}
 use Rattle.keys.specs.Cuts.{ticksOf, edgesOf}
 

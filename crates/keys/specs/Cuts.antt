@@ -2,7 +2,7 @@
 use Prim.Native.Nat.{ℕ, zero, suc, _≤_}
 use mathlib.Core.Path.{_≡_, refl, sym, ap, _∙_, subst}
 use mathlib.Core.Bool.{true}
-use mathlib.Core.List.{List, [], _∷_, _++_, map, zipWith, append-assoc}
+use mathlib.Core.List.{List, [], _∷_, _++_, map, zipWith}
 use lib.ListN.{length, drop, length-map}
 use Rattle.lists.specs.Both.{both, and-both}
 use Rattle.lists.specs.Every.{every}
@@ -11,7 +11,7 @@ use Rattle.record.specs.declared.Answer.the-variants.{Done}
 use Rattle.record.specs.Range.{inRange}
 use Rattle.turns.specs.Taking.{reading}
 use Rattle.turns.specs.Room.{Ran, run, run-keeps}
-use Rattle.turns.specs.Calls.{Call, Called, offered, calling, calls-end-as-one}
+use Rattle.turns.specs.Calls.{Call, offered, offered-append, Session, session, takenIn, sessions-alike, calls-end-as-one}
 use Rattle.keys.specs.Rules.{Entry, listed, step}
 use Rattle.keys.specs.Log.{entries, Outcome, outcome}
 use Rattle.keys.specs.Laws.{answers-0}
@@ -28,14 +28,13 @@ edgesOf log = map (λ (e : Entry). e .edge) log
 abbrev pub logged : Record → List Entry → ℕ → Outcome
 logged r log room = outcome r (ticksOf log) (edgesOf log) room
 
+-- what it has done
+abbrev pub loggedRan : Record → List Entry → ℕ → Ran Record
+loggedRan r log room = logged r log room .ran
+
 -- calls in order, each offered what the one before left, then its own entries
-unfoldable pub logging : Record → List Entry → List (Call Entry) → Called Record Entry
-logging r left [] = record { state = r; left = left; answers = [] }
-logging r left (call ∷ calls) =
-    let offers = left ++ call .entries in
-    let done = logged r offers (call .room) in
-    let rest = logging (done .ran .state) (drop (done .ran .used) offers) calls in
-    record { state = rest .state; left = rest .left; answers = done .ran .answers ++ rest .answers }
+abbrev pub logging : Record → List Entry → List (Call Entry) → Session Record Entry
+logging = session loggedRan
 
 -- Two slices made of a list of entries hold that list.
 pub same-entries : (log : List Entry) → entries (ticksOf log) (edgesOf log) ≡ log
@@ -63,42 +62,36 @@ listed-back [] more (suc n) h = h
 listed-back (e ∷ log) more (suc n) h =
     listed-back log more n (both {a = listed (e .edge)} {b = every listed (edgesOf (log ++ more))} h .1)
 
--- Calls on listed logs are calls of the rules.
-pub logging-calls : (r : Record) (left : List Entry) (calls : List (Call Entry)) → inRange r ≡ true → every listed (edgesOf (left ++ offered calls)) ≡ true
-    → logging r left calls ≡ calling step r left calls
-unfolding logging calling offered
-logging-calls r left [] good all = refl
-logging-calls r left (call ∷ calls) good all =
-    let offers : List Entry = left ++ call .entries in
-    let apart : every listed (edgesOf (offers ++ offered calls)) ≡ true = ap (λ (t : List Entry). every listed (edgesOf t)) (append-assoc left (call .entries) (offered calls)) ∙ all in
-    let ran : Ran Record = run step r offers (call .room) in
-    ap (λ (o : Outcome).
-    let rest = logging (o .ran .state) (drop (o .ran .used) offers) calls in
-    record { state = rest .state; left = rest .left; answers = o .ran .answers ++ rest .answers })
-    (logged-runs r offers (call .room) good (listed-front offers (offered calls) apart))
-    ∙ ap (λ (rest : Called Record Entry). record { state = rest .state; left = rest .left; answers = ran .answers ++ rest .answers })
-    (logging-calls (ran .state) (drop (ran .used) offers) calls
-    (run-keeps step (λ (s : Record). inRange s ≡ true) step-in-range r offers (call .room) good)
-    (listed-back offers (offered calls) (ran .used) apart))
+-- a record in range, and listed entries still to come
+pub record Ready (r : Record) (log : List Entry) : Type 0 where
+  pub good : inRange r ≡ true
+  pub all : every listed (edgesOf log) ≡ true
 
--- The entries of calls one after another are those of the first, then those of the others.
-offered-append : (calls more : List (Call Entry)) → offered (calls ++ more) ≡ offered calls ++ offered more
-unfolding offered
-offered-append [] more = refl
-offered-append (call ∷ calls) more =
-    ap (λ (t : List Entry). call .entries ++ t) (offered-append calls more) ∙ sym (append-assoc (call .entries) (offered calls) (offered more))
+-- Calls on listed logs are calls of the rules.
+pub logging-calls : (r : Record) (unused : List Entry) (calls : List (Call Entry)) → inRange r ≡ true → every listed (edgesOf (unused ++ offered calls)) ≡ true
+    → logging r unused calls ≡ session (run step) r unused calls
+logging-calls r unused calls good all =
+    sessions-alike (λ (s : Record). s) loggedRan (run step) Ready
+    (record {
+      same = same;
+      kept = λ s log later room ready. subst (λ (ran : Ran Record). Ready (ran .state) (drop (ran .used) log ++ later)) (sym (same s log later room ready))
+          (record { good = run-keeps step (λ (t : Record). inRange t ≡ true) step-in-range s log room (ready .good); all = listed-back log later (run step s log room .used) (ready .all) });
+    })
+    r unused calls (record { good = good; all = all })
+  where
+    same : (s : Record) (log later : List Entry) (room : ℕ) → Ready s (log ++ later) → loggedRan s log room ≡ run step s log room
+    same s log later room ready = ap (λ (o : Outcome). o .ran) (logged-runs s log room (ready .good) (listed-front log later (ready .all)))
 
 -- A LOG CUT ELSEWHERE CHANGES NOTHING: from a record in range, calls on listed entries, the last of them with room for what is still
 -- to be sent, leave the record and send the codes of one reading of all entries.
 pub log-cuts : (r : Record) (calls : List (Call Entry)) (last : Call Entry) → inRange r ≡ true → every listed (edgesOf (offered (calls ++ last ∷ []))) ≡ true
-    → length (reading step (logging r [] calls .state) (logging r [] calls .left ++ last .entries) .answers) ≤ last .room
-    → record { state = logging r [] (calls ++ last ∷ []) .state; answers = logging r [] (calls ++ last ∷ []) .answers }
-    ≡ reading step r (offered (calls ++ last ∷ []))
+    → length (reading step (logging r [] calls .state) (logging r [] calls .unused ++ last .entries) .answers) ≤ last .room
+    → takenIn (logging r [] (calls ++ last ∷ [])) ≡ reading step r (offered (calls ++ last ∷ []))
 log-cuts r calls last good all room =
     let apart : every listed (edgesOf (offered calls ++ offered (last ∷ []))) ≡ true
     = ap (λ (t : List Entry). every listed (edgesOf t)) (sym (offered-append calls (last ∷ []))) ∙ all in
-    let first : logging r [] calls ≡ calling step r [] calls
+    let first : logging r [] calls ≡ session (run step) r [] calls
     = logging-calls r [] calls good (listed-front (offered calls) (offered (last ∷ [])) apart) in
-    ap (λ (s : Called Record Entry). record { state = s .state; answers = s .answers }) (logging-calls r [] (calls ++ last ∷ []) good all)
+    ap takenIn (logging-calls r [] (calls ++ last ∷ []) good all)
     ∙ calls-end-as-one step r calls last
-    (subst (λ (s : Called Record Entry). length (reading step (s .state) (s .left ++ last .entries) .answers) ≤ last .room) first room)
+    (subst (λ (s : Session Record Entry). length (reading step (s .state) (s .unused ++ last .entries) .answers) ≤ last .room) first room)

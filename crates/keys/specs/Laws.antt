@@ -10,12 +10,13 @@ use lib.ListN.{length, getD, List·getD-map}
 use borrow.Author.Tests.{leb-true, not-true, eq-eqb, ne-eqb}
 use Rattle.lists.specs.Both.{both}
 use Rattle.lists.specs.Every.{every}
+use Rattle.lists.specs.Tests.{either-way}
 use Rattle.record.specs.declared.Record.{Record}
 use Rattle.record.specs.declared.Held.{Held}
 use Rattle.record.specs.declared.Times.{Times}
 use Rattle.record.specs.declared.Backlight.{Backlight}
 use Rattle.record.specs.declared.Answer.the-variants.{Done, FieldOutOfRange, NotListed, UnequalLengths}
-use Rattle.record.specs.Range.{keyInRange, inRange}
+use Rattle.record.specs.Range.{auto, keyInRange, inRange}
 use Rattle.record.specs.With.{withSecondsLeft}
 use Rattle.turns.specs.Room.{run}
 use Rattle.keys.specs.declared.Keyed.{Keyed}
@@ -25,11 +26,6 @@ use Rattle.keys.specs.declared.Stage.the-variants.{Short, Long, Repeat}
 use Rattle.keys.specs.Codes.{none, codes, columnOf, codeOf, sent}
 use Rattle.keys.specs.Rules.{Entry, listed, isPress, isRelease, isPoll, releases, elapsed, over, repeats, noneHeld, heldSince, longSince, nothing, lit, releaseCode, keyed, withKeys, step}
 use Rattle.keys.specs.Log.{entries, Outcome, refused, outcome, handedBack, bufferAfter}
-
--- What holds of both choices holds of the one that is made.
-pub either-way : {A : Type 0} (P : A → Type 0) {x y : A} (test : Bool) → (test ≡ true → P x) → (test ≡ false → P y) → P (cond test x y)
-either-way P true chosen other = chosen refl
-either-way P false chosen other = other refl
 
 -- The wrapping subtract of two 16-bit readings is the remainder in the rules.
 pub wrapped-is-elapsed : (now held since : ℕ) → since < 65536 → held < 65536 → (since + held) % 65536 ≡ now → since ≡ elapsed now held
@@ -121,7 +117,7 @@ only-held-and-left r e =
     Alike k = k .backlight ≡ withSecondsLeft light (k .backlight .left)
 
     lit-alike : lit light ≡ withSecondsLeft light (lit light .left)
-    lit-alike = either-way (λ (b : Backlight). b ≡ withSecondsLeft light (b .left)) (eqb (light .mode) 2) (λ auto. refl) (λ other. refl)
+    lit-alike = either-way (λ (b : Backlight). b ≡ withSecondsLeft light (b .left)) (eqb (light .mode) auto) (λ lights. refl) (λ other. refl)
 
 -- The call, answer by answer, in the paper's order 1, 5, 4, 0.
 module _ (r : Record) (ticks edges : List ℕ) (room : ℕ) where

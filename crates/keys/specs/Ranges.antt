@@ -7,17 +7,18 @@ use lib.Dec.{eqb, leb}
 use lib.ListN.{length}
 use Rattle.lists.specs.Both.{both, and-both}
 use Rattle.lists.specs.Every.{every}
+use Rattle.lists.specs.Tests.{either-way}
 use Rattle.record.specs.declared.Record.{Record}
 use Rattle.record.specs.declared.Held.{Held}
 use Rattle.record.specs.declared.Times.{Times}
 use Rattle.record.specs.declared.Backlight.{Backlight}
-use Rattle.record.specs.Range.{keyInRange, heldInRange, durationInRange, backlightInRange, inRange}
+use Rattle.record.specs.Range.{auto, keyInRange, heldInRange, durationInRange, backlightInRange, inRange}
 use Rattle.record.specs.Laws.{Ranges, ranges, in-range}
 use Rattle.turns.specs.Room.{run-keeps}
 use Rattle.keys.specs.declared.Keyed.{Keyed}
 use Rattle.keys.specs.Rules.{Entry, listed, lit, longSince, keyed, step}
 use Rattle.keys.specs.Log.{Outcome, entries, outcome}
-use Rattle.keys.specs.Laws.{either-way, one-of-four}
+use Rattle.keys.specs.Laws.{one-of-four}
 
 -- the held key and the backlight are within their ranges
 abbrev Fine : Keyed → Type 0
@@ -32,14 +33,14 @@ holds held down key = rw (down, key)
 
 lit-in-range : (light : Backlight) → backlightInRange light ≡ true → backlightInRange (lit light) ≡ true
 lit-in-range light fine =
-    either-way (λ (b : Backlight). backlightInRange b ≡ true) (eqb (light .mode) 2)
-    (λ auto.
-    and-both {a = front} (both {a = front} {b = eqb (light .left .0) 0 || eqb (light .mode) 2} fine .0)
-    (ap (λ (t : Bool). eqb (light .duration .0) 0 || t) auto ∙ or-true (eqb (light .duration .0) 0)))
+    either-way (λ (b : Backlight). backlightInRange b ≡ true) (eqb (light .mode) auto)
+    (λ lights.
+    and-both {a = front} (both {a = front} {b = eqb (light .left .0) 0 || eqb (light .mode) auto} fine .0)
+    (ap (λ (t : Bool). eqb (light .duration .0) 0 || t) lights ∙ or-true (eqb (light .duration .0) 0)))
     (λ other. fine)
   where
     front : Bool
-    front = leb (light .mode) 2 && durationInRange (light .duration .0)
+    front = leb (light .mode) auto && durationInRange (light .duration .0)
 
 keyed-fine : (held : Held) (times : Times) (light : Backlight) (now edge : ℕ) → heldInRange held ≡ true → backlightInRange light ≡ true
     → Fine (keyed held times light now edge)

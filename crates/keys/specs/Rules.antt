@@ -7,7 +7,7 @@ use Rattle.record.specs.declared.Held.{Held}
 use Rattle.record.specs.declared.Times.{Times}
 use Rattle.record.specs.declared.Tenths.{Tenths}
 use Rattle.record.specs.declared.Backlight.{Backlight}
-use Rattle.record.specs.Range.{keyInRange}
+use Rattle.record.specs.Range.{auto, keyInRange}
 use Rattle.record.specs.With.{withHeld, withPanel, withBacklight, withSecondsLeft}
 use Rattle.turns.specs.Taking.{Taken}
 use Rattle.keys.specs.declared.Keyed.{Keyed}
@@ -67,10 +67,6 @@ longSince held now = record { down = held .down; key = held .key; tick = record 
 -- THE RULES. Each gives the held key and the backlight, and the code that is sent or none
 abbrev pub nothing : Held → Backlight → Keyed
 nothing held light = record { held = held; backlight = light; code = none }
-
--- the backlight's mode auto
-abbrev pub auto : ℕ
-auto = 2
 
 -- in auto, left becomes the duration
 abbrev pub lit : Backlight → Backlight

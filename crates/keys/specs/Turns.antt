@@ -9,6 +9,7 @@ use Rattle.record.specs.declared.Record.{Record}
 use Rattle.record.specs.declared.Held.{Held}
 use Rattle.record.specs.declared.Backlight.{Backlight}
 use Rattle.record.specs.declared.Answer.the-variants.{Done}
+use Rattle.turns.specs.Taking.{silently}
 use Rattle.turns.specs.Room.{run}
 use Rattle.turns.specs.Loop.{Account, Going, still, go-quiet, go-one, go-stop, go-end}
 use Rattle.turns.specs.Begins.{as-many, both-begin-with}
@@ -19,7 +20,7 @@ use Rattle.keys.specs.Rules.{Entry, entry, keyed, withKeys, taken, step}
 use Rattle.keys.specs.Log.{entries, doneWith, Takes}
 
 -- A code that is none sends nothing, and any other sends itself.
-sent-none : (r : Record) (k : Keyed) → k .code ≡ none → taken r k ≡ record { state = withKeys r (k .held) (k .backlight); answers = [] }
+sent-none : (r : Record) (k : Keyed) → k .code ≡ none → taken r k ≡ silently (withKeys r (k .held) (k .backlight))
 sent-none r k e = rw (eq-eqb (k .code) none e)
 
 sent-code : (r : Record) (k : Keyed) → (k .code ≡ none → ⊥)
@@ -46,26 +47,23 @@ module _ {r : Record} (ticks edges : List ℕ) {before : List ℕ} {held : Held}
     unfolding step here
     stepped = ap (taken r) (sym e)
 
-    inside : used < length (entries ticks edges)
-    inside = omega (arith, as-many entry ticks edges same)
-
     -- A turn that sends nothing.
     pub turn-quiet : next .code ≡ none
         → Going step r (entries ticks edges) before (withKeys r (next .held) (next .backlight)) (used + 1) written codes
-    turn-quiet q = go-quiet step going here (withKeys r (next .held) (next .backlight)) inside begins (stepped ∙ sent-none r next q)
+    turn-quiet q = go-quiet step going begins (withKeys r (next .held) (next .backlight)) (stepped ∙ sent-none r next q)
 
     -- A turn that sends a code.
     pub turn-sends : (next .code ≡ none → ⊥) → written < length codes
         → Going step r (entries ticks edges) before (withKeys r (next .held) (next .backlight)) (used + 1) (written + 1) (set codes written (next .code))
     turn-sends n room =
-        go-one step going here (withKeys r (next .held) (next .backlight)) (next .code) inside begins (stepped ∙ sent-code r next n) room
+        go-one step going begins (withKeys r (next .held) (next .backlight)) (next .code) (stepped ∙ sent-code r next n) room
 
     -- The stop before a code that has no room.
     pub turns-stop : (next .code ≡ none → ⊥) → length codes ≤ written
         → Account (run step r (entries ticks edges) (length before)) before (still (withKeys r held light) used written codes)
     turns-stop n full =
-        go-stop step going here (record { state = withKeys r (next .held) (next .backlight); answers = next .code ∷ [] }) begins
-        (stepped ∙ sent-code r next n) (omega arith)
+        go-stop step going begins (record { state = withKeys r (next .held) (next .backlight); answers = next .code ∷ [] }) (stepped ∙ sent-code r next n)
+        (omega arith)
 
 -- What the loop hands back is what the run of the rules has done.
 pub takes : {r : Record} (ticks edges : List ℕ) {before : List ℕ} {held : Held} {light : Backlight} {used written : ℕ} {codes : List ℕ} (l : Logged)

@@ -1,10 +1,10 @@
 -- TWO RECORDS THAT AGREE go on agreeing, and are answered alike. Assumes nothing.
 use Prim.Native.Nat.{ℕ, _≤_}
 use mathlib.Core.Path.{_≡_, refl, ap₂}
-use mathlib.Core.Bool.{Bool, true, false}
 use mathlib.Core.List.{List, _++_}
 use lib.ListN.{length}
 use borrow.Author.Tests.{leb-true}
+use Rattle.lists.specs.Tests.{by-test}
 use Rattle.parting.specs.Rules.{Part, text, skipped, closed, abandoned, Parted, done, unfinished, then, Parting, Frame, limit, inLimit, Stands}
 use Rattle.parting.specs.Meaning.{Answered, Meaning, Taken, with, close, act, taking}
 use Rattle.parting.specs.Reading.{reading}
@@ -30,11 +30,8 @@ pub record KeepsAgreeing (M : Meaning) (Agree : M .Core → M .Core → Type 0) 
 module _ (M : Meaning) (Agree : M .Core → M .Core → Type 0) (These : List ℕ → Type 0) (keeps : KeepsAgreeing M Agree These) where
   close-alike : (one other : M .Core) (body : List ℕ) → These body → Agree one other → AnsweredAlike Agree (close M one body) (close M other body)
   unfolding close
-  close-alike one other body t h = go (inLimit body) refl
-    where
-      go : (x : Bool) → inLimit body ≡ x → AnsweredAlike Agree (close M one body) (close M other body)
-      go true e = rw e (keeps .obeyed one other body t (leb-true (length body) limit e) h)
-      go false e = rw e (record { core = h; answers = keeps .refused one other h })
+  close-alike one other body t h =
+      by-test (inLimit body) (λ e. rw e (keeps .obeyed one other body t (leb-true (length body) limit e) h)) (λ e. rw e (record { core = h; answers = keeps .refused one other h }))
 
   act-alike : (one other : M .Core) (part : Part) → OfThese These part → Agree one other → AnsweredAlike Agree (act M one part) (act M other part)
   unfolding act

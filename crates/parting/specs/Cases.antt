@@ -8,6 +8,7 @@ use mathlib.Core.List.{List, [], _∷_, _++_, map}
 use lib.Dec.{eqb}
 use lib.ListN.{length, take, drop, getD, replicate}
 use Rattle.lists.specs.Codes.{ascii, escape, carriageReturn, lineFeed, questionMark}
+use Rattle.turns.specs.Room
 use Rattle.parting.specs.Rules.{text, skipped, closed, abandoned, Frame, noFrame, openFrame, overlong, keep, Placed, places, tailPlace}
 use Rattle.parting.specs.Meaning.{Meaning, State, with}
 use Rattle.parting.specs.Cut.{outside, cut}
@@ -57,7 +58,7 @@ callLong frame bytes room = ofRan (run (handset (questionMark ∷ carriageReturn
 
 -- two calls, the stream cut at this place, the first without room; the unused bytes are offered again (and counted)
 abbrev twoCalls : List ℕ → ℕ → Found
-twoCalls bytes at = ofSession (session (run (handset query)) (start noFrame) [] (record { bytes = take at bytes; room = 0 } ∷ record { bytes = drop at bytes; room = 9 } ∷ []))
+twoCalls bytes at = ofSession (session (run (handset query)) (start noFrame) [] (record { entries = take at bytes; room = 0 } ∷ record { entries = drop at bytes; room = 9 } ∷ []))
 
 abbrev placesOf : List ℕ → Found
 placesOf bytes = stand (places 0 (cut outside bytes)) (tailPlace 0 (cut outside bytes))
@@ -129,5 +130,5 @@ cases =
 
 -- Each case gives what is expected.
 pub table : map (λ (c : Case). c .found) cases ≡ map (λ (c : Case). c .expected) cases
-unfolding run step keep session cut places tailPlace
+unfolding Room.run step keep session cut places tailPlace
 table = refl

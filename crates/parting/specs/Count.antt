@@ -2,18 +2,20 @@
 use Prim.Native.Nat.{ℕ, _+_, _≤_}
 use native.Mathlib.Omega.{arith}
 use mathlib.Core.Path.{_≡_, refl, ap}
-use mathlib.Core.Bool.{Bool, true, false, cond}
+use mathlib.Core.Bool.{cond}
 use mathlib.Core.List.{List, [], _∷_, _++_}
 use lib.Dec.{eqb}
 use lib.ListN.{length, length-append, take, drop, take-append-drop}
 use borrow.Author.Tests.{ne-eqb}
 use Rattle.lists.specs.Codes.{escape}
+use Rattle.lists.specs.Tests.{either-way}
+use Rattle.turns.specs.Room.{run-stops}
 use Rattle.parting.specs.Rules.{Body, empty, collect, Part, text, skipped, closed, abandoned, bytesOf, Parted, done, unfinished, then, Parting, ends, waits, goes-on, Frame, noFrame, openFrame, overlong, inLimit, Stands, none-stands, open-stands, overlong-stands}
-use Rattle.parting.specs.Meaning.{Meaning, State, Taken, close, act, taking}
-use Rattle.parting.specs.Reading.{reading}
+use Rattle.parting.specs.Meaning.{Answered, Meaning, State, Taken, close, act, taking}
+use Rattle.parting.specs.Reading.{step, reading}
 use Rattle.parting.specs.Stream.{stream}
 use Rattle.parting.specs.Frames.{OfThese, EachClosed, endedBy, ended}
-use Rattle.parting.specs.Room.{run, run-stops}
+use Rattle.parting.specs.Room.{run}
 
 -- how many ESC bytes there are
 unfoldable pub escapes : List ℕ → ℕ
@@ -66,11 +68,8 @@ stands-escapes (overlong-stands h l) = omega (arith, body-escapes h)
 module _ (M : Meaning) (These : List ℕ → Type 0) (one : OneAnswer M These) where
   close-answers : (core : M .Core) (body : List ℕ) → These body → length (close M core body .answers) ≤ 1
   unfolding close
-  close-answers core body t = go (inLimit body) refl
-    where
-      go : (x : Bool) → inLimit body ≡ x → length (close M core body .answers) ≤ 1
-      go true e = rw e (one .obeyed core body t)
-      go false e = rw e (one .refused core)
+  close-answers core body t =
+      either-way (λ (a : Answered (M .Core)). length (a .answers) ≤ 1) (inLimit body) (λ e. one .obeyed core body t) (λ e. one .refused core)
 
   act-answers : (core : M .Core) (part : Part) → OfThese These part → length (act M core part .answers) ≤ endedBy part
   unfolding act
@@ -109,7 +108,7 @@ module _ (M : Meaning) (These : List ℕ → Type 0) (one : OneAnswer M These) w
       let n : ℕ = run M state bytes room .used in
       omega (
         arith,
-        ap (λ (x : Taken (M .Core)). length (x .answers)) (run-stops M state bytes room .does),
+        ap (λ (x : Taken (M .Core)). length (x .answers)) (run-stops (step M) state bytes room .does),
         answers-at-most state (take n bytes) standing p t,
         escapes-append (take n bytes) (drop n bytes),
         ap escapes (take-append-drop n bytes),

@@ -2,11 +2,12 @@
 use Prim.Native.Nat.{ℕ, _≤_, _<_}
 use native.Mathlib.Omega.{arith}
 use mathlib.Core.Path.{_≡_, refl, sym, ap, _∙_}
-use mathlib.Core.Bool.{Bool, true, false, cond}
+use mathlib.Core.Bool.{cond}
 use mathlib.Core.List.{List, [], _∷_, _++_, append-assoc, append-nil}
 use lib.Dec.{eqb, leb}
 use borrow.Author.Tests.{eqb-true, eqb-false, leb-true, leb-false, ne-eqb, le-leb, lt-leb}
 use Rattle.lists.specs.Codes.{escape, carriageReturn, blank}
+use Rattle.lists.specs.Tests.{by-test}
 use Rattle.parting.specs.Rules.{Plain, Body, empty, collect, Part, text, skipped, closed, abandoned, Lawful, bytesOf, opens, MayFollow, Parted, done, unfinished, then, Parting, ends, waits, goes-on}
 
 -- where a byte finds us: outside a frame, or inside one of which so much is collected
@@ -46,20 +47,15 @@ pub data Inside (b : ℕ) : Type 0 where
   collecting : Plain b → Inside b
 
 pub outside-of : (b : ℕ) → Outside b
-outside-of b = go (eqb b escape) (leb blank b) refl refl
-  where
-    go : (x y : Bool) → eqb b escape ≡ x → leb blank b ≡ y → Outside b
-    go true y e l = opening (eqb-true b escape e)
-    go false true e l = letter (leb-true blank b l)
-    go false false e l = skipping (leb-false blank b l) (eqb-false b escape e)
+outside-of b =
+    by-test (eqb b escape) (λ e. opening (eqb-true b escape e))
+    (λ n. by-test (leb blank b) (λ l. letter (leb-true blank b l)) (λ l. skipping (leb-false blank b l) (eqb-false b escape n)))
 
 pub inside-of : (b : ℕ) → Inside b
-inside-of b = go (eqb b escape) (eqb b carriageReturn) refl refl
-  where
-    go : (x y : Bool) → eqb b escape ≡ x → eqb b carriageReturn ≡ y → Inside b
-    go true y e r = abandoning (eqb-true b escape e)
-    go false true e r = closing (eqb-true b carriageReturn r)
-    go false false e r = collecting (record { not-escape = eqb-false b escape e; not-return = eqb-false b carriageReturn r })
+inside-of b =
+    by-test (eqb b escape) (λ e. abandoning (eqb-true b escape e))
+    (λ n. by-test (eqb b carriageReturn) (λ e. closing (eqb-true b carriageReturn e))
+    (λ m. collecting (record { not-escape = eqb-false b escape n; not-return = eqb-false b carriageReturn m })))
 
 -- what the computed parting does with each
 module _ (b : ℕ) (rest : List ℕ) where

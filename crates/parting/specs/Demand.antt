@@ -4,16 +4,18 @@ use Prim.Native.Nat.{ℕ, zero, suc, _≤_, _<_}
 use native.Mathlib.Omega.{arith}
 use mathlib.Core.Logic.{_⊎_}
 use mathlib.Core.Path.{_≡_, sym, ap, _∙_}
-use mathlib.Core.List.{List, [], _∷_, _++_, append-assoc, append-nil}
-use lib.ListN.{length, length-append, take, replicate, length-replicate}
+use mathlib.Core.List.{List, [], _∷_, _++_}
+use lib.ListN.{length, take, replicate, length-replicate}
 use Rattle.lists.specs.Codes.{blank}
+use Rattle.turns.specs.Room.{takenOf, run-stops, only-one}
+use Rattle.turns.specs.Calls.{cuts-do-not-matter, last-takes-all, rest-answers}
 use Rattle.parting.specs.Rules.{Body, empty, collect, Parted, Parting, Frame, noFrame, openFrame, overlong, limit, Stands, none-stands, open-stands, overlong-stands, FrameInRange}
-use Rattle.parting.specs.Meaning.{Meaning, State, Taken, answering, taking}
+use Rattle.parting.specs.Meaning.{Meaning, State, Taken, taking}
 use Rattle.parting.specs.Exactly.{ExactlyOne, exactly-one}
-use Rattle.parting.specs.Reading.{reading}
-use Rattle.parting.specs.Stream.{stream, cutting}
-use Rattle.parting.specs.Room.{Ran, takenOf, run, run-stops, only-one}
-use Rattle.parting.specs.Calls.{Call, offered, Session, session, takenIn, session-reads, cuts, last-takes-all}
+use Rattle.parting.specs.Reading.{step}
+use Rattle.parting.specs.Stream.{stream}
+use Rattle.parting.specs.Room.{Ran, run}
+use Rattle.parting.specs.Calls.{Call, offered, session, takenIn}
 
 -- In all of it `before` is what the record's open frame stands for.
 pub record Demand3 (M : Meaning) (call : State (M .Core) → List ℕ → ℕ → Ran (M .Core)) : Type 0 where
@@ -38,37 +40,17 @@ pub record Demand3 (M : Meaning) (call : State (M .Core) → List ℕ → ℕ �
 
 -- The proof ---------------------------------------------------------------------------------------------------------
 
-offered-last : (calls : List Call) (last : Call) → offered (calls ++ last ∷ []) ≡ offered calls ++ last .bytes
-unfolding offered
-offered-last [] last = append-nil (last .bytes)
-offered-last (call ∷ calls) last = ap (λ (l : List ℕ). call .bytes ++ l) (offered-last calls last) ∙ sym (append-assoc (call .bytes) (offered calls) (last .bytes))
-
--- what is still to be answered is no more than all answers
-rest-answers : (M : Meaning) (state : State (M .Core)) (calls : List Call) (last : Call)
-    → (let s = session (run M) state [] calls in length (reading M (s .state) (s .unused ++ last .bytes) .answers) ≤ length (reading M state (offered (calls ++ last ∷ [])) .answers))
-rest-answers M state calls last =
-    let s : Session (M .Core) = session (run M) state [] calls in
-    let w = session-reads M state [] calls in
-    let rest : List ℕ = s .unused ++ last .bytes in
-    let whole : offered (calls ++ last ∷ []) ≡ w .0 ++ rest =
-    offered-last calls last ∙ ap (λ (l : List ℕ). l ++ last .bytes) (sym (w .1)) ∙ append-assoc (w .0) (s .unused) (last .bytes)
-    in
-    let read : reading M state (offered (calls ++ last ∷ [])) ≡ answering (s .answers) (reading M (s .state) rest) =
-    ap (reading M state) whole ∙ cutting M state (w .0) rest ∙ ap (λ (t : Taken (M .Core)). answering (t .answers) (reading M (t .state) rest)) (sym (w .2))
-    in
-    omega (arith, ap (λ (t : Taken (M .Core)). length (t .answers)) read, length-append (s .answers) (reading M (s .state) rest .answers))
-
 -- THE READER MEETS DEMAND 3, whatever the handset.
 pub demand3 : (M : Meaning) → Demand3 M (run M)
 demand3 M =
     record {
       one-parting = exactly-one;
-      in-order = λ state bytes room standing p. run-stops M state bytes room .does ∙ stream M state _ standing p;
-      within = λ state bytes room. run-stops M state bytes room .within;
-      fits = λ state bytes room. run-stops M state bytes room .fits;
-      stops = λ state bytes room standing p. rw (← stream M state _ standing p) (run-stops M state bytes room .stops);
-      anywhere = λ state calls standing p none. cuts M state calls none ∙ stream M state _ standing p;
-      none-left = λ state calls last standing p room. last-takes-all M state [] calls last (omega (arith, rest-answers M state calls last, ap (λ (t : Taken (M .Core)). length (t .answers)) (stream M state _ standing p)));
+      in-order = λ state bytes room standing p. run-stops (step M) state bytes room .does ∙ stream M state _ standing p;
+      within = λ state bytes room. run-stops (step M) state bytes room .within;
+      fits = λ state bytes room. run-stops (step M) state bytes room .fits;
+      stops = λ state bytes room standing p. rw (← stream M state _ standing p) (run-stops (step M) state bytes room .stops);
+      anywhere = λ state calls standing p none. cuts-do-not-matter (step M) state calls none ∙ stream M state _ standing p;
+      none-left = λ state calls last standing p room. last-takes-all (step M) state [] calls last (omega (arith, rest-answers (step M) state calls last, ap (λ (t : Taken (M .Core)). length (t .answers)) (stream M state _ standing p)));
     }
 
 -- some bytes for each frame in range
@@ -88,11 +70,11 @@ demand3-fixes M call demand state range bytes room =
     let stands = standing (state .frame) range .1 in
     let now = exactly-one (take (call state bytes room .used) bytes) stands in
     let next = exactly-one (take (suc (call state bytes room .used)) bytes) stands in
-    only-one M
+    only-one (step M)
     (record {
       within = demand .within state bytes room;
       does = demand .in-order state bytes room stands (now .parting) ∙ sym (stream M state _ stands (now .parting));
       fits = demand .fits state bytes room;
       stops = rw (stream M state _ stands (next .parting)) (demand .stops state bytes room stands (next .parting));
     })
-    (run-stops M state bytes room)
+    (run-stops (step M) state bytes room)

@@ -1,17 +1,18 @@
 -- FACTS THAT ARE KEPT: what text bytes and frames keep, every stream keeps; and the frame stays in its range. Assumes nothing.
 use Prim.Native.Nat.{ℕ, _≤_}
 use native.Mathlib.Omega.{arith}
-use mathlib.Core.Path.{_≡_, refl, sym, subst}
-use mathlib.Core.Bool.{Bool, true, false}
 use mathlib.Core.List.{List, [], _∷_, _++_}
-use lib.ListN.{length, take}
+use lib.ListN.{length}
 use borrow.Author.Tests.{leb-true, ne-eqb, le-leb, lt-leb}
 use Rattle.lists.specs.Codes.{escape, carriageReturn, blank}
+use Rattle.lists.specs.Tests.{either-way}
+use Rattle.turns.specs.Taking
+use Rattle.turns.specs.Room
 use Rattle.parting.specs.Rules.{Plain, Body, empty, Frame, noFrame, openFrame, overlong, limit, inLimit, keep, FrameInRange}
-use Rattle.parting.specs.Meaning.{Answered, Meaning, State, Taken, refuse}
+use Rattle.parting.specs.Meaning.{Answered, Meaning, State, refuse}
 use Rattle.parting.specs.Cut.{Outside, opening, letter, skipping, outside-of, Inside, abandoning, closing, collecting, inside-of, body-more}
 use Rattle.parting.specs.Reading.{stepOutside, stepInside, stepFrom, step, reading}
-use Rattle.parting.specs.Room.{run, run-stops}
+use Rattle.parting.specs.Room.{run}
 
 -- the fact holds of the record, and its frame is in range
 pub record Sound {Core : Type 0} (Holds : Core → Type 0) (state : State Core) : Type 0 where
@@ -25,11 +26,7 @@ pub record Keeps (M : Meaning) (Holds : M .Core → Type 0) : Type 0 where
 
 keep-in-range : (body : List ℕ) → Body body → FrameInRange (keep body)
 unfolding keep
-keep-in-range body h = go (inLimit body) refl
-  where
-    go : (x : Bool) → inLimit body ≡ x → FrameInRange (keep body)
-    go true e = rw e (h, leb-true (length body) limit e)
-    go false e = rw e tt
+keep-in-range body h = either-way FrameInRange (inLimit body) (λ e. (h, leb-true (length body) limit e)) (λ e. tt)
 
 module _ (M : Meaning) (Holds : M .Core → Type 0) (keeps : Keeps M Holds) where
   outside-keeps : (core : M .Core) (b : ℕ) → Holds core → Sound Holds (stepOutside M core b .state)
@@ -62,14 +59,11 @@ module _ (M : Meaning) (Holds : M .Core → Type 0) (keeps : Keeps M Holds) wher
 
   -- Every stream keeps it.
   pub reading-keeps : (state : State (M .Core)) (bytes : List ℕ) → Sound Holds state → Sound Holds (reading M state bytes .state)
-  unfolding reading
-  reading-keeps state [] h = h
-  reading-keeps state (b ∷ rest) h = reading-keeps (step M state b .state) rest (step-keeps state b h)
+  reading-keeps = Taking.reading-keeps (step M) (Sound Holds) step-keeps
 
   -- Every call keeps it, whatever its room.
   pub run-keeps : (state : State (M .Core)) (bytes : List ℕ) (room : ℕ) → Sound Holds state → Sound Holds (run M state bytes room .state)
-  run-keeps state bytes room h =
-      subst (λ (t : Taken (M .Core)). Sound Holds (t .state)) (sym (run-stops M state bytes room .does)) (reading-keeps state (take (run M state bytes room .used) bytes) h)
+  run-keeps = Room.run-keeps (step M) (Sound Holds) step-keeps
 
 -- The frame that is kept is always in its range, whatever the handset.
 pub frame-in-range : (M : Meaning) (state : State (M .Core)) (bytes : List ℕ) (room : ℕ) → FrameInRange (state .frame) → FrameInRange (run M state bytes room .state .frame)

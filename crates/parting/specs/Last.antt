@@ -1,12 +1,13 @@
 -- THE LAST SETTER DECIDES: a field that only some frames set is what the last of them set. Assumes nothing.
 use Prim.Native.Nat.{ℕ, _≤_}
 use mathlib.Core.Path.{_≡_, refl, ap, _∙_}
-use mathlib.Core.Bool.{Bool, true, false, cond}
+use mathlib.Core.Bool.{cond}
 use mathlib.Core.Option.{Option, none, some, Option·getD}
 use mathlib.Core.List.{List, _∷_, _++_, append-assoc}
 use lib.ListN.{length}
 use borrow.Author.Tests.{leb-true, le-leb}
 use Rattle.lists.specs.Codes.{escape, carriageReturn}
+use Rattle.lists.specs.Tests.{by-test}
 use Rattle.parting.specs.Rules.{Body, Part, text, skipped, closed, abandoned, Parted, done, unfinished, then, Parting, goes-on, limit, inLimit, Stands}
 use Rattle.parting.specs.Meaning.{Meaning, State, Taken, close, act, taking}
 use Rattle.parting.specs.Reading.{reading}
@@ -57,11 +58,7 @@ module _ (M : Meaning) {X : Type 0} (field : M .Core → X) (sets : List ℕ →
   unfolding act setByPart close
   act-sets core (text b) = law .stored core b
   act-sets core (skipped b) = refl
-  act-sets core (closed body) = go (inLimit body) refl
-    where
-      go : (x : Bool) → inLimit body ≡ x → field (close M core body .core) ≡ Option·getD (cond (inLimit body) (sets body) none) (field core)
-      go true e = rw e (law .obeyed core body (leb-true (length body) limit e))
-      go false e = rw e
+  act-sets core (closed body) = by-test (inLimit body) (λ e. rw e (law .obeyed core body (leb-true (length body) limit e))) (λ e. rw e)
   act-sets core (abandoned body) = refl
 
   -- A field that only some frames set is what the last of them set, or else what it was.

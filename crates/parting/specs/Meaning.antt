@@ -1,7 +1,9 @@
 -- WHAT PARTS MEAN, over any handset: its meaning is a parameter. Assumes nothing.
 use Prim.Native.Nat.{ℕ}
 use mathlib.Core.Bool.{cond}
-use mathlib.Core.List.{List, [], _++_}
+use mathlib.Core.List.{List, []}
+use Rattle.turns.specs.Taking
+use Rattle.turns.specs.Taking.{silently, answering}
 use Rattle.parting.specs.Rules.{Part, text, skipped, closed, abandoned, Parted, done, unfinished, then, Frame, noFrame, inLimit, keep}
 
 -- what is left of a record without its frame, and the bytes that were answered
@@ -22,20 +24,13 @@ pub record State (Core : Type 0) : Type 0 where
   pub core : Core
   pub frame : Frame
 
-pub record Taken (Core : Type 0) : Type 0 where
-  pub state : State Core
-  pub answers : List ℕ
+-- the record after some bytes, and what was answered
+abbrev pub Taken : Type 0 → Type 0
+Taken Core = Taking.Taken (State Core)
 
 -- the record with this frame
 abbrev pub with : {Core : Type 0} → Core → Frame → State Core
 with core frame = record { core = core; frame = frame }
-
-abbrev pub silently : {Core : Type 0} → State Core → Taken Core
-silently state = record { state = state; answers = [] }
-
--- first these answers, then those
-abbrev pub answering : {Core : Type 0} → List ℕ → Taken Core → Taken Core
-answering first taken = record { state = taken .state; answers = first ++ taken .answers }
 
 module _ (M : Meaning) where
   -- a bad frame changes nothing and is answered

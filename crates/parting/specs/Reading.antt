@@ -9,7 +9,9 @@ use lib.ListN.{length, length-append}
 use borrow.Author.Tests.{ne-eqb, le-leb, lt-leb}
 use Rattle.lists.specs.Codes.{escape, carriageReturn, blank}
 use Rattle.parting.specs.Rules.{Plain, Frame, noFrame, openFrame, overlong, limit, keep}
-use Rattle.parting.specs.Meaning.{Answered, Meaning, State, Taken, with, silently, answering, refuse}
+use Rattle.turns.specs.Taking
+use Rattle.turns.specs.Taking.{silently}
+use Rattle.parting.specs.Meaning.{Answered, Meaning, State, Taken, with, refuse}
 
 module _ (M : Meaning) where
   -- Outside a frame ESC opens one, codes from 0x20 on are text, all others are skipped.
@@ -35,9 +37,8 @@ module _ (M : Meaning) where
   step state b = stepFrom (state .core) (state .frame) b
 
   -- A STREAM, one byte after the other
-  unfoldable pub reading : State (M .Core) → List ℕ → Taken (M .Core)
-  reading state [] = silently state
-  reading state (b ∷ rest) = answering (step state b .answers) (reading (step state b .state) rest)
+  abbrev pub reading : State (M .Core) → List ℕ → Taken (M .Core)
+  reading = Taking.reading step
 
   -- The laws of one byte ----------------------------------------------------------------------------------------------
 

@@ -1,15 +1,17 @@
--- THE STREAM THEOREM: reading is taking the parts in order; and cuts. Assumes nothing.
+-- THE STREAM THEOREM: reading is taking the parts in order. Assumes nothing.
 use Prim.Native.Nat.{ℕ, _<_}
 use native.Mathlib.Omega.{arith}
 use mathlib.Core.Path.{_≡_, refl, sym, ap, _∙_}
-use mathlib.Core.Bool.{Bool, true, false}
-use mathlib.Core.List.{List, [], _∷_, _++_, append-assoc}
+use mathlib.Core.List.{List, [], _∷_, _++_}
 use lib.ListN.{length, length-append}
 use borrow.Author.Tests.{leb-false, ne-eqb, le-leb, lt-leb}
 use Rattle.lists.specs.Codes.{escape, carriageReturn}
+use Rattle.lists.specs.Tests.{by-test}
 use Rattle.parting.specs.Rules.{Parted, Parting, Frame, noFrame, limit, inLimit, keep, Stands, none-stands, open-stands, overlong-stands}
-use Rattle.parting.specs.Meaning.{Meaning, State, with, answering, close, act, taking}
-use Rattle.parting.specs.Reading.{stepInside, stepFrom, step, reading, step-opens, step-stores, step-skips}
+use Rattle.turns.specs.Taking
+use Rattle.turns.specs.Taking.{answering}
+use Rattle.parting.specs.Meaning.{Meaning, State, with, close, act, taking}
+use Rattle.parting.specs.Reading.{stepInside, step, reading, step-opens, step-stores, step-skips}
 use Rattle.parting.specs.Cut.{Side, outside, inside, Fine, front, cut, Outside, opening, letter, skipping, outside-of, Inside, abandoning, closing, collecting, inside-of, cut-opening, cut-letter, cut-skipping, cut-abandoning, cut-closing, cut-collecting, exists, only-cut}
 
 module _ (M : Meaning) where
@@ -21,16 +23,14 @@ module _ (M : Meaning) where
   -- from the frame kept of a body a byte does what it would do behind the whole body
   step-kept : (core : M .Core) (body : List ℕ) (b : ℕ) → step M (with core (keep body)) b ≡ stepInside M core b (close M core body) (keep (body ++ b ∷ []))
   unfolding step keep close
-  step-kept core body b = go (inLimit body) refl
-    where
-      go : (x : Bool) → inLimit body ≡ x → stepFrom M core (keep body) b ≡ stepInside M core b (close M core body) (keep (body ++ b ∷ []))
-      go true e = rw e
-      go false e =
-          let long : limit < length (body ++ b ∷ []) = omega (arith, length-append body (b ∷ []), leb-false (length body) limit e) in
-          rw (e, lt-leb (length (body ++ b ∷ [])) limit long)
+  step-kept core body b =
+      by-test (inLimit body) (λ e. rw e)
+      (λ e.
+      let long : limit < length (body ++ b ∷ []) = omega (arith, length-append body (b ∷ []), leb-false (length body) limit e) in
+      rw (e, lt-leb (length (body ++ b ∷ [])) limit long))
 
   reading-cut : (bytes : List ℕ) (core : M .Core) (side : Side) → reading M (with core (kept side)) bytes ≡ taking M core (cut side bytes)
-  unfolding reading taking act keep
+  unfolding Taking.reading taking act keep
   reading-cut [] core outside = unfold cut in refl
   reading-cut (b ∷ rest) core outside = go (outside-of b) (λ c s. reading-cut rest c s)
     where
@@ -62,9 +62,3 @@ module _ (M : Meaning) where
       ap (λ (f : Frame). reading M (with (state .core) f) bytes) (sym (w .3))
       ∙ reading-cut bytes (state .core) (w .0)
       ∙ ap (taking M (state .core)) (only-cut (exists bytes (w .0) (w .1)) ∙ ap (λ (l : List ℕ). cut outside (l ++ bytes)) (w .2) ∙ sym (only-cut parting))
-
-  -- CUTS: reading a stream is reading its first piece, then the second from where the first ended.
-  pub cutting : (state : State (M .Core)) (first second : List ℕ) → reading M state (first ++ second) ≡ answering (reading M state first .answers) (reading M (reading M state first .state) second)
-  unfolding reading
-  cutting state [] second = refl
-  cutting state (b ∷ first) second = ap (answering (step M state b .answers)) (cutting (step M state b .state) first second) ∙ rw append-assoc

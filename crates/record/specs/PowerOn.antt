@@ -4,6 +4,7 @@ use lib.ListN.{replicate}
 use Rattle.lists.specs.Codes.{blank}
 use Rattle.record.specs.declared.Record.{Record}
 use Rattle.record.specs.declared.Times.{Times}
+use Rattle.record.specs.Range.{off}
 
 -- Time1 12, Time2 12
 abbrev pub timesAtPowerOn : Times
@@ -23,7 +24,7 @@ startingWith times =
         volume = record { which = 0; level = 0; mute = false; hidden = false };
         times = times;
         buzzer = record { 0 = 0 };
-        backlight = record { mode = 0; duration = record { 0 = 30 }; left = record { 0 = 0 }; keypad = false };
+        backlight = record { mode = off; duration = record { 0 = 30 }; left = record { 0 = 0 }; keypad = false };
       };
       text = replicate 80 blank;
       picture = replicate 672 0;

@@ -126,11 +126,20 @@ abbrev pub buzzerInRange : ℕ → Bool
 buzzerInRange n = leb n 255
 
 -- backlight: off 0, on 1, auto 2; duration 1-255; left 0-255, above 0 only in auto; keypad flag
+abbrev pub off : ℕ
+off = 0
+
+abbrev pub on : ℕ
+on = 1
+
+abbrev pub auto : ℕ
+auto = 2
+
 abbrev pub durationInRange : ℕ → Bool
 durationInRange n = leb 1 n && leb n 255
 
 abbrev pub backlightInRange : Backlight → Bool
-backlightInRange b = leb (b .mode) 2 && durationInRange (b .duration .0) && (eqb (b .left .0) 0 || eqb (b .mode) 2)
+backlightInRange b = leb (b .mode) auto && durationInRange (b .duration .0) && (eqb (b .left .0) 0 || eqb (b .mode) auto)
 
 -- held key: none (all places zero), or key 0-18, tick 0-65535, stage short or long
 abbrev pub keyInRange : ℕ → Bool

@@ -8,6 +8,7 @@ use lib.Dec.{leb, ltb, eqb}
 use lib.ListN.{getD}
 use lib.Seq.{getD-drop, getD-take}
 use borrow.Author.Tests.{leb-true, lt-ltb, le-ltb}
+use Rattle.lists.specs.Tests.{by-test}
 use Rattle.lists.specs.Both.{both}
 use Rattle.record.specs.Answer.{numberOf}
 use Rattle.record.specs.Range.{inRange}
@@ -19,7 +20,6 @@ use Rattle.seen.specs.declared.Owner.{Owner}
 use Rattle.seen.specs.declared.Owner.the-variants.{Nothing, IconBar, TextRow, PictureRow, SoftKeys}
 use Rattle.seen.specs.declared.Row.{Row}
 use Rattle.seen.specs.Places.{firstTextRow, covered, underBar, underLabels, underText, ownerOn, ownerAt, rowOwner, placed}
-use Rattle.seen.specs.Tests.{by-test}
 use Rattle.seen.specs.Rows.{rowOf, nothingSeen, contents, rowSeen, smsSeen, volumeSeen}
 
 -- The row question, once it is not refused.

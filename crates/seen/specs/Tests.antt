@@ -1,14 +1,10 @@
--- Going by the cases of a test. Assumes nothing.
+-- Going by the numbers that a range test lets through. Assumes nothing.
 use Prim.Native.Nat.{ℕ}
-use mathlib.Core.Path.{_≡_, refl, sym}
-use mathlib.Core.Bool.{Bool, true, false, true≢false, _||_}
+use mathlib.Core.Path.{_≡_, sym}
+use mathlib.Core.Bool.{true, true≢false, _||_}
 use lib.Dec.{eqb}
 use borrow.Author.Tests.{eqb-true}
-
--- A test comes out one way or the other.
-pub by-test : {P : Type 0} (b : Bool) → (b ≡ true → P) → (b ≡ false → P) → P
-by-test true holds fails = holds refl
-by-test false holds fails = fails refl
+use Rattle.lists.specs.Tests.{by-test}
 
 -- What holds for each of four numbers holds for any that the range test lets through.
 pub four : (P : ℕ → Type 0) {a b c d : ℕ} → P a → P b → P c → P d → (n : ℕ) → (eqb n a || eqb n b || eqb n c || eqb n d) ≡ true → P n

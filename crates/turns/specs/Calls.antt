@@ -1,82 +1,137 @@
--- Calls one after another. What a call did not use is offered again first in the next: so long as in the end nothing is left,
+-- CALLS IN ORDER: each call is offered what the one before left unused, then its own entries. So long as in the end none is left,
 -- neither the cuts nor the rooms matter. Assumes nothing.
 use Prim.Native.Nat.{ℕ, _≤_}
-use mathlib.Core.Path.{_≡_, refl, sym, ap, _∙_}
+use native.Mathlib.Omega.{arith}
+use mathlib.Core.Path.{_≡_, refl, sym, ap, _∙_, subst}
 use mathlib.Core.List.{List, [], _∷_, _++_, append-assoc, append-nil}
 use lib.Seq.{drop-length}
-use lib.ListN.{length, take, drop, take-append-drop}
-use Rattle.turns.specs.Taking.{Taken, after, reading, cut-anywhere}
-use Rattle.turns.specs.Room.{Ran, run, does-what-it-used, room-for-all}
+use lib.ListN.{length, length-append, take, drop, take-append-drop}
+use Rattle.turns.specs.Taking.{Taken, answering, reading, cut-anywhere}
+use Rattle.turns.specs.Room.{Ran, run, run-stops, room-for-all}
 
 -- one call: the entries that are new, and its room for answers
 pub record Call (Entry : Type 0) : Type 0 where
   pub entries : List Entry
   pub room : ℕ
 
--- what many calls have done, and the entries still to be used
-pub record Called (State Entry : Type 0) : Type 0 where
-  pub state : State
-  pub left : List Entry
-  pub answers : List ℕ
-
--- all entries of the calls, in order
+-- all entries that were new, in order
 unfoldable pub offered : {Entry : Type 0} → List (Call Entry) → List Entry
 offered [] = []
 offered (call ∷ calls) = call .entries ++ offered calls
 
-module _ {State Entry : Type 0} (step : State → Entry → Taken State) where
-  -- calls in order, each offered what the one before left, then its own entries
-  unfoldable pub calling : State → List Entry → List (Call Entry) → Called State Entry
-  calling state left [] = record { state = state; left = left; answers = [] }
-  calling state left (call ∷ calls) =
-      let offers = left ++ call .entries in
-      let ran = run step state offers (call .room) in
-      let rest = calling (ran .state) (drop (ran .used) offers) calls in
-      record { state = rest .state; left = rest .left; answers = ran .answers ++ rest .answers }
+-- what a list of calls leaves: the state, the entries not used, and all answers
+pub record Session (State Entry : Type 0) : Type 0 where
+  pub state : State
+  pub unused : List Entry
+  pub answers : List ℕ
 
-  -- Any calls read a first part of what was offered, as one reading does, and leave exactly the rest.
-  pub calls-read : (state : State) (left : List Entry) (calls : List (Call Entry))
-      → (read : List Entry)
-      × (read ++ calling state left calls .left ≡ left ++ offered calls)
-      × (reading step state read ≡ record { state = calling state left calls .state; answers = calling state left calls .answers })
-  unfolding calling offered reading
-  calls-read state left [] = ([], rw append-nil, refl)
-  calls-read state left (call ∷ calls) =
-      let offers : List Entry = left ++ call .entries in
-      let ran : Ran State = run step state offers (call .room) in
-      let used : ℕ = ran .used in
-      let rest = calls-read (ran .state) (drop used offers) calls in (
-        take used offers ++ rest .0,
-        append-assoc (take used offers) (rest .0) _ ∙ ap (λ (t : List Entry). take used offers ++ t) (rest .1)
-            ∙ sym (append-assoc (take used offers) (drop used offers) (offered calls))
-            ∙ ap (λ (t : List Entry). t ++ offered calls) (take-append-drop used offers) ∙ append-assoc left (call .entries) (offered calls),
-        cut-anywhere step state (take used offers) (rest .0)
-            ∙ ap (λ (t : Taken State). after (t .answers) (reading step (t .state) (rest .0))) (does-what-it-used step state offers (call .room))
-            ∙ ap (after (ran .answers)) (rest .2),
+abbrev pub takenIn : {State Entry : Type 0} → Session State Entry → Taken State
+takenIn s = record { state = s .state; answers = s .answers }
+
+-- one call more was made before, with these answers
+abbrev pub preceded : {State Entry : Type 0} → List ℕ → Session State Entry → Session State Entry
+preceded answers later = record { state = later .state; unused = later .unused; answers = answers ++ later .answers }
+
+-- CALLS IN ORDER, of anything that answers a call
+module _ {State Entry : Type 0} (answer : State → List Entry → ℕ → Ran State) where
+  unfoldable pub session : State → List Entry → List (Call Entry) → Session State Entry
+  session state unused [] = record { state = state; unused = unused; answers = [] }
+  session state unused (call ∷ calls) =
+      let entries = unused ++ call .entries in
+      let ran = answer state entries (call .room) in
+      preceded (ran .answers) (session (ran .state) (drop (ran .used) entries) calls)
+
+-- The proof ---------------------------------------------------------------------------------------------------------
+
+-- The entries of calls one after another are those of the first, then those of the others.
+pub offered-append : {Entry : Type 0} (calls more : List (Call Entry)) → offered (calls ++ more) ≡ offered calls ++ offered more
+unfolding offered
+offered-append [] more = refl
+offered-append (call ∷ calls) more = rw (offered-append calls more) (sym (append-assoc (call .entries) (offered calls) (offered more)))
+
+module _ {State Entry : Type 0} (step : State → Entry → Taken State) where
+  -- Calls in order read the first of the entries offered, as one reading does, and the others are left.
+  pub session-reads : (state : State) (unused : List Entry) (calls : List (Call Entry))
+      → (let s = session (run step) state unused calls in
+      (read : List Entry) × (read ++ s .unused ≡ unused ++ offered calls) × (takenIn s ≡ reading step state read))
+  unfolding session offered reading
+  session-reads state unused [] = ([], rw append-nil, refl)
+  session-reads state unused (call ∷ calls) =
+      let entries : List Entry = unused ++ call .entries in
+      let ran : Ran State = run step state entries (call .room) in
+      let later = session-reads (ran .state) (drop (ran .used) entries) calls in
+      let first : List Entry = take (ran .used) entries in (
+        first ++ later .0,
+        append-assoc first (later .0) _ ∙ ap (λ (t : List Entry). first ++ t) (later .1) ∙ sym (append-assoc first (drop (ran .used) entries) (offered calls))
+            ∙ ap (λ (t : List Entry). t ++ offered calls) (take-append-drop (ran .used) entries) ∙ append-assoc unused (call .entries) (offered calls),
+        ap (answering (ran .answers)) (later .2)
+            ∙ ap (λ (t : Taken State). answering (t .answers) (reading step (t .state) (later .0))) (run-stops step state entries (call .room) .does)
+            ∙ sym (cut-anywhere step state first (later .0)),
       )
 
-  -- Where nothing is left in the end, the calls have done what one reading of all entries does.
-  pub cuts-do-not-matter : (state : State) (calls : List (Call Entry)) → calling state [] calls .left ≡ []
-      → record { state = calling state [] calls .state; answers = calling state [] calls .answers } ≡ reading step state (offered calls)
+  -- CUTS DO NOT MATTER: where no entry is left in the end, the calls have done what one reading of all entries does.
+  pub cuts-do-not-matter : (state : State) (calls : List (Call Entry)) → session (run step) state [] calls .unused ≡ []
+      → takenIn (session (run step) state [] calls) ≡ reading step state (offered calls)
   cuts-do-not-matter state calls none =
-      let read = calls-read state [] calls in
-      sym (read .2) ∙ ap (reading step state) (sym (append-nil (read .0)) ∙ ap (λ (t : List Entry). read .0 ++ t) (sym none) ∙ read .1)
+      let read = session-reads state [] calls in
+      read .2 ∙ ap (reading step state) (sym (append-nil (read .0)) ∙ ap (λ (t : List Entry). read .0 ++ t) (sym none) ∙ read .1)
 
-  -- A last call with room for all that is still to be answered leaves nothing.
-  pub last-takes-all : (state : State) (left : List Entry) (calls : List (Call Entry)) (last : Call Entry)
-      → length (reading step (calling state left calls .state) (calling state left calls .left ++ last .entries) .answers) ≤ last .room
-      → calling state left (calls ++ last ∷ []) .left ≡ []
-  unfolding calling
-  last-takes-all state left [] last h =
-      ap (λ (ran : Ran State). drop (ran .used) (left ++ last .entries)) (room-for-all step state (left ++ last .entries) (last .room) h)
-      ∙ drop-length (left ++ last .entries)
-  last-takes-all state left (call ∷ calls) last h =
-      let offers : List Entry = left ++ call .entries in
-      last-takes-all (run step state offers (call .room) .state) (drop (run step state offers (call .room) .used) offers) calls last h
+  -- A last call with room for what is still to be answered leaves no entry.
+  pub last-takes-all : (state : State) (unused : List Entry) (calls : List (Call Entry)) (last : Call Entry)
+      → (let s = session (run step) state unused calls in length (reading step (s .state) (s .unused ++ last .entries) .answers) ≤ last .room)
+      → session (run step) state unused (calls ++ last ∷ []) .unused ≡ []
+  unfolding session
+  last-takes-all state unused [] last h =
+      ap (λ (ran : Ran State). drop (ran .used) (unused ++ last .entries)) (room-for-all step state (unused ++ last .entries) (last .room) h)
+      ∙ drop-length (unused ++ last .entries)
+  last-takes-all state unused (call ∷ calls) last h =
+      let ran = run step state (unused ++ call .entries) (call .room) in
+      last-takes-all (ran .state) (drop (ran .used) (unused ++ call .entries)) calls last h
 
   -- So any calls, the last of them with room for the rest, end as one reading of all entries.
   pub calls-end-as-one : (state : State) (calls : List (Call Entry)) (last : Call Entry)
-      → length (reading step (calling state [] calls .state) (calling state [] calls .left ++ last .entries) .answers) ≤ last .room
-      → record { state = calling state [] (calls ++ last ∷ []) .state; answers = calling state [] (calls ++ last ∷ []) .answers }
-      ≡ reading step state (offered (calls ++ last ∷ []))
+      → (let s = session (run step) state [] calls in length (reading step (s .state) (s .unused ++ last .entries) .answers) ≤ last .room)
+      → takenIn (session (run step) state [] (calls ++ last ∷ [])) ≡ reading step state (offered (calls ++ last ∷ []))
   calls-end-as-one state calls last h = cuts-do-not-matter state (calls ++ last ∷ []) (last-takes-all state [] calls last h)
+
+  -- What is still to be answered is no more than all answers.
+  pub rest-answers : (state : State) (calls : List (Call Entry)) (last : Call Entry)
+      → (let s = session (run step) state [] calls in
+      length (reading step (s .state) (s .unused ++ last .entries) .answers) ≤ length (reading step state (offered (calls ++ last ∷ [])) .answers))
+  unfolding offered
+  rest-answers state calls last =
+      let s : Session State Entry = session (run step) state [] calls in
+      let read = session-reads state [] calls in
+      let rest : List Entry = s .unused ++ last .entries in
+      let whole : offered (calls ++ last ∷ []) ≡ read .0 ++ rest =
+      offered-append calls (last ∷ []) ∙ ap (λ (l : List Entry). offered calls ++ l) (append-nil (last .entries))
+      ∙ ap (λ (l : List Entry). l ++ last .entries) (sym (read .1)) ∙ append-assoc (read .0) (s .unused) (last .entries)
+      in
+      let all : reading step state (offered (calls ++ last ∷ [])) ≡ answering (s .answers) (reading step (s .state) rest) =
+      ap (reading step state) whole ∙ cut-anywhere step state (read .0) rest
+      ∙ ap (λ (t : Taken State). answering (t .answers) (reading step (t .state) rest)) (sym (read .2))
+      in
+      omega (arith, ap (λ (t : Taken State). length (t .answers)) all, length-append (s .answers) (reading step (s .state) rest .answers))
+
+-- Two things that answer calls, over states of which one shows the other, make sessions alike: so long as some fact of the state and
+-- the entries still to come is kept, and where it holds they answer alike.
+module _ {State Shown Entry : Type 0} (shown : State → Shown) (one : State → List Entry → ℕ → Ran State) (other : Shown → List Entry → ℕ → Ran Shown)
+    (Fact : State → List Entry → Type 0) where
+  -- what is asked of the two, at any state, entries offered, entries that come later, and room
+  pub record AnswerAlike : Type 0 where
+    pub same : (state : State) (entries later : List Entry) (room : ℕ) → Fact state (entries ++ later)
+        → (let ran = one state entries room in record { state = shown (ran .state); used = ran .used; answers = ran .answers } ≡ other (shown state) entries room)
+    pub kept : (state : State) (entries later : List Entry) (room : ℕ) → Fact state (entries ++ later)
+        → Fact (one state entries room .state) (drop (one state entries room .used) entries ++ later)
+
+  pub sessions-alike : AnswerAlike → (state : State) (unused : List Entry) (calls : List (Call Entry)) → Fact state (unused ++ offered calls)
+      → (let s = session one state unused calls in
+      record { state = shown (s .state); unused = s .unused; answers = s .answers } ≡ session other (shown state) unused calls)
+  unfolding session offered
+  sessions-alike alike state unused [] fact = refl
+  sessions-alike alike state unused (call ∷ calls) fact =
+      let entries : List Entry = unused ++ call .entries in
+      let ran : Ran State = one state entries (call .room) in
+      let here : Fact state (entries ++ offered calls) = subst (Fact state) (sym (append-assoc unused (call .entries) (offered calls))) fact in
+      ap (preceded (ran .answers)) (sessions-alike alike (ran .state) (drop (ran .used) entries) calls (alike .kept state entries (offered calls) (call .room) here))
+      ∙ ap (λ (r : Ran Shown). preceded (r .answers) (session other (r .state) (drop (r .used) entries) calls)) (alike .same state entries (offered calls) (call .room) here)

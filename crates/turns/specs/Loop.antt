@@ -3,15 +3,15 @@
 use Prim.Native.Nat.{ℕ, suc, _+_, _-_, _≤_, _<_}
 use native.Mathlib.Omega.{arith}
 use native.Mathlib.Nat.{add-zero, zero-add, sub-zero}
-use mathlib.Core.Path.{_≡_, refl, sym, ap, _∙_}
-use mathlib.Core.Bool.{Bool, true, false, cond}
+use mathlib.Core.Path.{_≡_, refl, sym, ap, _∙_, subst}
+use mathlib.Core.Bool.{cond}
 use mathlib.Core.List.{List, [], _∷_, _++_}
-use lib.Dec.{leb}
 use lib.Seq.{sets, length-sets, sets-eq}
-use lib.ListN.{set, length, length-set, length-append, drop, drop-of-length-le}
+use lib.ListN.{set, length, length-append, length-drop, drop, drop-of-length-le}
 use borrow.Author.Tests.{leb-true, le-leb, lt-leb}
-use Rattle.turns.specs.Taking.{Taken}
-use Rattle.turns.specs.Room.{Ran, run, onward, answers-fit}
+use Rattle.lists.specs.Tests.{by-test}
+use Rattle.turns.specs.Taking.{Taken, silently}
+use Rattle.turns.specs.Room.{Ran, stopped, onward, hasRoom, run, run-stops}
 
 -- where a loop stands: the state, how many entries are used and answers written, and the buffer
 pub record Walked (State : Type 0) : Type 0 where
@@ -40,12 +40,13 @@ sets-append l i [] ys = rw add-zero
 sets-append l i (x ∷ xs) ys = sets-append (set l i x) (suc i) xs ys ∙ ap (λ (k : ℕ). sets (sets (set l i x) (suc i) xs) k ys) (omega arith)
 
 module _ {State Entry : Type 0} (step : State → Entry → Taken State) where
+  -- where a loop ends that has these entries still before it
   unfoldable pub walk : State → List Entry → ℕ → ℕ → List ℕ → Walked State
   walk state [] used written buffer = still state used written buffer
   walk state (entry ∷ entries) used written buffer =
       let taken = step state entry in
-      cond (leb (length (taken .answers)) (length buffer - written))
-      (walk (taken .state) entries (used + 1) (written + length (taken .answers)) (sets buffer written (taken .answers)))
+      let need = length (taken .answers) in
+      cond (hasRoom need (length buffer - written)) (walk (taken .state) entries (used + 1) (written + need) (sets buffer written (taken .answers)))
       (still state used written buffer)
 
   -- what a call from here adds to where the loop stands
@@ -60,32 +61,30 @@ module _ {State Entry : Type 0} (step : State → Entry → Taken State) where
       let q : written + length answer + length (ran .answers) ≡ written + length (answer ++ ran .answers) = omega (arith, length-append answer (ran .answers)) in
       λ j. still (ran .state) (p j) (q j) (sym (sets-append buffer written answer (ran .answers)) j)
 
+  adding-none : (state : State) (used written : ℕ) (buffer : List ℕ) → still state used written buffer ≡ adding used written buffer (stopped state)
+  adding-none state used written buffer = λ j. still state (sym (add-zero used) j) (sym (add-zero written) j) buffer
+
   -- The walk from anywhere is a call from there.
   pub walk-is-run : (state : State) (entries : List Entry) (used written : ℕ) (buffer : List ℕ) → written ≤ length buffer
       → walk state entries used written buffer ≡ adding used written buffer (run step state entries (length buffer - written))
   unfolding walk run
-  walk-is-run state [] used written buffer h = λ j. still state (sym (add-zero used) j) (sym (add-zero written) j) buffer
+  walk-is-run state [] used written buffer h = adding-none state used written buffer
   walk-is-run state (entry ∷ entries) used written buffer h =
-      go (leb (length (step state entry .answers)) (length buffer - written)) refl
-      (walk-is-run (step state entry .state) entries (used + 1) (written + length (step state entry .answers)) (sets buffer written (step state entry .answers)))
-    where
-      go : (fits : Bool) → leb (length (step state entry .answers)) (length buffer - written) ≡ fits
-          → (let answer = step state entry .answers in let next = step state entry .state in
-          written + length answer ≤ length (sets buffer written answer)
-          → walk next entries (used + 1) (written + length answer) (sets buffer written answer)
-          ≡ adding (used + 1) (written + length answer) (sets buffer written answer)
-          (run step next entries (length (sets buffer written answer) - (written + length answer))))
-          → walk state (entry ∷ entries) used written buffer ≡ adding used written buffer (run step state (entry ∷ entries) (length buffer - written))
-      go true e ih =
-          let answer : List ℕ = step state entry .answers in
-          let same : length (sets buffer written answer) ≡ length buffer = length-sets buffer written answer in
-          let fits : length answer ≤ length buffer - written = leb-true (length answer) (length buffer - written) e in
-          let rest : length (sets buffer written answer) - (written + length answer) ≡ length buffer - written - length answer = omega arith in
-          rw e
-          (ih (omega arith)
-          ∙ ap (λ (k : ℕ). adding (used + 1) (written + length answer) (sets buffer written answer) (run step (step state entry .state) entries k)) rest
-          ∙ adding-more used written buffer answer _)
-      go false e ih = rw e (λ j. still state (sym (add-zero used) j) (sym (add-zero written) j) buffer)
+      let first : List ℕ = step state entry .answers in
+      let need : ℕ = length first in
+      let room : ℕ = length buffer - written in
+      let next : State = step state entry .state in
+      let after : List ℕ = sets buffer written first in
+      let same : length after ≡ length buffer = length-sets buffer written first in
+      by-test (hasRoom need room)
+      (λ e.
+      let fits : need ≤ room = leb-true need room e in
+      let rest : length after - (written + need) ≡ room - need = omega arith in
+      rw e
+      (walk-is-run next entries (used + 1) (written + need) after (omega arith)
+      ∙ ap (λ (k : ℕ). adding (used + 1) (written + need) after (run step next entries k)) rest
+      ∙ adding-more used written buffer first (run step next entries (room - need))))
+      (λ e. rw e (adding-none state used written buffer))
 
   -- A turn: the entry that comes next answers what there is room for.
   pub walk-turn : (state : State) (entries : List Entry) (entry : Entry) (used written : ℕ) (buffer : List ℕ) (taken : Taken State)
@@ -122,24 +121,9 @@ module _ {State Entry : Type 0} (step : State → Entry → Taken State) where
         used = ap (λ (x : Walked State). x .used) q ∙ zero-add _;
         written = ap (λ (x : Walked State). x .written) q ∙ zero-add _;
         buffer = ap (λ (x : Walked State). x .buffer) q
-            ∙ sets-eq (ran .answers) before 0 (omega (arith, answers-fit step state entries (length before)))
+            ∙ sets-eq (ran .answers) before 0 (omega (arith, run-stops step state entries (length before) .fits))
             ∙ ap (λ (k : ℕ). ran .answers ++ drop k before) (zero-add (length (ran .answers)));
       }
-
-  -- A turn with no answer leaves the buffer and the count as they were.
-  pub walk-quiet : (state next : State) (entries : List Entry) (entry : Entry) (used written : ℕ) (buffer : List ℕ)
-      → drop used entries ≡ entry ∷ drop (used + 1) entries → step state entry ≡ record { state = next; answers = [] }
-      → walk state (drop used entries) used written buffer ≡ walk next (drop (used + 1) entries) (used + 1) written buffer
-  walk-quiet state next entries entry used written buffer begins e =
-      walk-turn state entries entry used written buffer (record { state = next; answers = [] }) begins e (omega arith)
-      ∙ ap (λ (k : ℕ). walk next (drop (used + 1) entries) (used + 1) k buffer) (add-zero written)
-
-  -- A turn with one answer writes it at the count.
-  pub walk-one : (state next : State) (entries : List Entry) (entry : Entry) (used written : ℕ) (buffer : List ℕ) (answer : ℕ)
-      → drop used entries ≡ entry ∷ drop (used + 1) entries → step state entry ≡ record { state = next; answers = answer ∷ [] } → written < length buffer
-      → walk state (drop used entries) used written buffer ≡ walk next (drop (used + 1) entries) (used + 1) (written + 1) (set buffer written answer)
-  walk-one state next entries entry used written buffer answer begins e room =
-      walk-turn state entries entry used written buffer (record { state = next; answers = answer ∷ [] }) begins e (omega arith)
 
   -- What holds at the head of a loop: the counts are within bounds, the buffer has its length, and the rest from here ends as the
   -- whole from the start.
@@ -155,38 +139,35 @@ module _ {State Entry : Type 0} (step : State → Entry → Taken State) where
 
   module _ {start : State} {entries : List Entry} {before : List ℕ} {state : State} {used written : ℕ} {buffer : List ℕ}
       (going : Going start entries before state used written buffer) where
-    -- It holds after a turn with no answer.
-    pub go-quiet : (entry : Entry) (next : State) → used < length entries → drop used entries ≡ entry ∷ drop (used + 1) entries
-        → step state entry ≡ record { state = next; answers = [] } → Going start entries before next (used + 1) written buffer
-    go-quiet entry next more begins e =
-        record {
-          inside = omega arith;
-          room = going .room;
-          even = going .even;
-          rest = going .rest ∙ walk-quiet state next entries entry used written buffer begins e;
-        }
-
-    -- It holds after a turn with one answer, written at the count.
-    pub go-one : (entry : Entry) (next : State) (answer : ℕ) → used < length entries → drop used entries ≡ entry ∷ drop (used + 1) entries
-        → step state entry ≡ record { state = next; answers = answer ∷ [] } → written < length buffer
-        → Going start entries before next (used + 1) (written + 1) (set buffer written answer)
-    go-one entry next answer more begins e room =
-        record {
-          inside = omega arith;
-          room = omega (arith, length-set buffer written answer);
-          even = length-set buffer written answer ∙ going .even;
-          rest = going .rest ∙ walk-one state next entries entry used written buffer answer begins e room;
-        }
-
-    -- A loop that leaves where the next answer has no room has done what the call does.
-    pub go-stop : (entry : Entry) (taken : Taken State) → drop used entries ≡ entry ∷ drop (used + 1) entries
-        → step state entry ≡ taken → length buffer - written < length (taken .answers)
-        → Account (run step start entries (length before)) before (still state used written buffer)
-    go-stop entry taken begins e full =
-        walked start entries before (still state used written buffer)
-        (going .rest ∙ walk-stop state entries entry used written buffer taken begins e full)
-
     -- A loop that leaves with no entry left has done what the call does.
     pub go-end : length entries ≤ used → Account (run step start entries (length before)) before (still state used written buffer)
-    go-end none =
-        walked start entries before (still state used written buffer) (going .rest ∙ walk-end state entries used written buffer none)
+    go-end none = walked start entries before (still state used written buffer) (going .rest ∙ walk-end state entries used written buffer none)
+
+    -- With an entry that comes next
+    module _ {entry : Entry} (begins : drop used entries ≡ entry ∷ drop (used + 1) entries) where
+      -- It holds after a turn whose answer is written at the count.
+      pub go-on : (taken : Taken State) → step state entry ≡ taken → length (taken .answers) ≤ length buffer - written
+          → Going start entries before (taken .state) (used + 1) (written + length (taken .answers)) (sets buffer written (taken .answers))
+      go-on taken e fits =
+          let same : length (sets buffer written (taken .answers)) ≡ length buffer = length-sets buffer written (taken .answers) in
+          record {
+            inside = omega (arith, length-drop used entries, ap length begins);
+            room = omega (arith, going .room);
+            even = same ∙ going .even;
+            rest = going .rest ∙ walk-turn state entries entry used written buffer taken begins e fits;
+          }
+
+      -- So after a turn with no answer ..
+      pub go-quiet : (next : State) → step state entry ≡ silently next → Going start entries before next (used + 1) written buffer
+      go-quiet next e = subst (λ (k : ℕ). Going start entries before next (used + 1) k buffer) (add-zero written) (go-on (silently next) e (omega arith))
+
+      -- .. and after a turn with one.
+      pub go-one : (next : State) (answer : ℕ) → step state entry ≡ record { state = next; answers = answer ∷ [] } → written < length buffer
+          → Going start entries before next (used + 1) (written + 1) (set buffer written answer)
+      go-one next answer e room = go-on (record { state = next; answers = answer ∷ [] }) e (omega arith)
+
+      -- A loop that leaves where the next answer has no room has done what the call does.
+      pub go-stop : (taken : Taken State) → step state entry ≡ taken → length buffer - written < length (taken .answers)
+          → Account (run step start entries (length before)) before (still state used written buffer)
+      go-stop taken e full =
+          walked start entries before (still state used written buffer) (going .rest ∙ walk-stop state entries entry used written buffer taken begins e full)

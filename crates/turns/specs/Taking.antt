@@ -9,25 +9,29 @@ pub record Taken (State : Type 0) : Type 0 where
   pub state : State
   pub answers : List ℕ
 
--- the same, with what was answered before
-abbrev pub after : {State : Type 0} → List ℕ → Taken State → Taken State
-after earlier taken = record { state = taken .state; answers = earlier ++ taken .answers }
+-- nothing was answered
+abbrev pub silently : {State : Type 0} → State → Taken State
+silently state = record { state = state; answers = [] }
+
+-- first these answers, then those
+abbrev pub answering : {State : Type 0} → List ℕ → Taken State → Taken State
+answering first taken = record { state = taken .state; answers = first ++ taken .answers }
 
 module _ {State Entry : Type 0} (step : State → Entry → Taken State) where
-  -- all entries taken in order
+  -- ALL ENTRIES TAKEN IN ORDER
   unfoldable pub reading : State → List Entry → Taken State
-  reading state [] = record { state = state; answers = [] }
+  reading state [] = silently state
   reading state (entry ∷ entries) =
       let taken = step state entry in
-      after (taken .answers) (reading (taken .state) entries)
+      answering (taken .answers) (reading (taken .state) entries)
 
   -- A cut changes nothing: to read both parts is to read the first, then the second from where the first ended.
   pub cut-anywhere : (state : State) (first second : List Entry)
-      → reading state (first ++ second) ≡ after (reading state first .answers) (reading (reading state first .state) second)
+      → reading state (first ++ second) ≡ answering (reading state first .answers) (reading (reading state first .state) second)
   unfolding reading
   cut-anywhere state [] second = refl
   cut-anywhere state (entry ∷ first) second =
-      ap (after (step state entry .answers)) (cut-anywhere (step state entry .state) first second) ∙ rw append-assoc
+      ap (answering (step state entry .answers)) (cut-anywhere (step state entry .state) first second) ∙ rw append-assoc
 
   -- A fact of the state that every step keeps is kept by reading.
   pub reading-keeps : (Fact : State → Type 0) → ((state : State) (entry : Entry) → Fact state → Fact (step state entry .state))
