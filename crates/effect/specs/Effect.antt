@@ -13,7 +13,7 @@ use Rattle.record.specs.declared.Screen.{Screen}
 use Rattle.record.specs.declared.Label.{Label}
 use Rattle.record.specs.declared.Volume.{Volume}
 use Rattle.record.specs.declared.Backlight.{Backlight}
-use Rattle.record.specs.Range.{lastColumnOf}
+use Rattle.record.specs.Range.{lastColumnOf, off, on, auto}
 use Rattle.record.specs.With.{withShown, withLeft, withRight, withTimes, withBuzzer, withDisplay, withMode, withOverlay, withRow, withColumn, withIconS, withIconU, withIconF, withIconR, withIconP, withIconW, withWhich, withLevel, withMute, withHidden, withLight, withDuration, withSecondsLeft, withKeypad}
 use Rattle.command.specs.Order.{Order, plain, label, draw}
 use Rattle.command.specs.InRange.{isOverlay, inRangeInMode}
@@ -46,16 +46,6 @@ atLevel v which n = cond (eqb n 0) (withHidden (withLevel (withWhich v 0) 0) tru
 -- mute; 1 also sets hidden no
 abbrev pub muted : Volume → ℕ → Volume
 muted v n = cond (eqb n 0) (withMute v false) (withHidden (withMute v true) false)
-
--- backlight modes off, on, auto
-abbrev pub off : ℕ
-off = 0
-
-abbrev pub on : ℕ
-on = 1
-
-abbrev pub auto : ℕ
-auto = 2
 
 abbrev pub noSeconds : Backlight → Backlight
 noSeconds b = withSecondsLeft b (record { 0 = 0 })

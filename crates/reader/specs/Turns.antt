@@ -22,8 +22,10 @@ use Rattle.record.specs.With.{withScreen, withColumn}
 use Rattle.parting.specs.Rules.{Frame, noFrame, openFrame, overlong, limit}
 use Rattle.parting.specs.Meaning.{Taken, State}
 use Rattle.parting.specs.Reading.{step, step-opens, step-stores, step-skips, step-abandons, step-closes, step-ends-overlong, step-collects, step-overflows, step-waits}
-use Rattle.parting.specs.Room.{run}
-use Rattle.parting.specs.Loop.{walk, walk-turn, walk-stop, still, walked}
+use Rattle.parting.specs.Room.{Ran, run}
+use Rattle.turns.specs.Loop
+use Rattle.turns.specs.Loop.{Account, still}
+use Rattle.turns.specs.Begins.{begins-with}
 use Rattle.command.specs.Order.{Order}
 use Rattle.effect.specs.declared.Obeyed.{Obeyed}
 use Rattle.effect.specs.Core.{Core}
@@ -40,16 +42,6 @@ quietly v = record { state = v; answers = [] }
 
 abbrev pub asking : State Core → Taken Core
 asking v = record { state = v; answers = questionMark ∷ [] }
-
-module _ (s v : State Core) (bytes : List ℕ) (i w : ℕ) (buf : List ℕ) (h : i < length bytes) where
-  pub quiet : step handset s (getD bytes i 0) ≡ quietly v → walk handset s (drop i bytes) i w buf ≡ walk handset v (drop (i + 1) bytes) (i + 1) w buf
-  quiet e = walk-turn handset s bytes i w buf (quietly v) h e (omega arith) ∙ ap (λ (k : ℕ). walk handset v (drop (i + 1) bytes) (i + 1) k buf) (add-zero w)
-
-  pub loud : step handset s (getD bytes i 0) ≡ asking v → w < length buf → walk handset s (drop i bytes) i w buf ≡ walk handset v (drop (i + 1) bytes) (i + 1) (w + 1) (set buf w questionMark)
-  loud e l = walk-turn handset s bytes i w buf (asking v) h e (omega arith)
-
-  pub halt : step handset s (getD bytes i 0) ≡ asking v → length buf ≤ w → walk handset s (drop i bytes) i w buf ≡ still s i w buf
-  halt e l = walk-stop handset s bytes i w buf (asking v) h e (omega arith)
 
 -- the frame that the locals show
 shows-noFrame : (state len : ℕ) (bs : List ℕ) → state ≡ 0 → frameIn state len bs ≡ noFrame
@@ -195,16 +187,16 @@ coded state len bs k = go (eqb state 0) (eqb state 1) refl refl
 
 pub fed : (r x : Record) (n : ℕ) (p : Panel) (t g : List ℕ) (state len : ℕ) (fr bytes : List ℕ) (i w : ℕ) (before after : List ℕ)
     → n ≡ r .frame .len → Fits state len fr → x ≡ wholeOf p t g (r .held) state len fr
-    → walk handset (standing (r .panel) (r .text) (r .picture) (r .frame .state) n (r .frame .bytes)) bytes 0 0 before ≡ still (standing p t g state len fr) i w after
+    → Account (run handset (standing (r .panel) (r .text) (r .picture) (r .frame .state) n (r .frame .bytes)) bytes (length before)) before (still (standing p t g state len fr) i w after)
     → Reads (record { «record» = x; used = i; written = w }) r before after (run handset (stateOf r) bytes (length before))
 fed r x n p t g state len fr bytes i w before after a k d e =
     let start : standing (r .panel) (r .text) (r .picture) (r .frame .state) n (r .frame .bytes) ≡ stateOf r = ap (λ (m : ℕ). standing (r .panel) (r .text) (r .picture) (r .frame .state) m (r .frame .bytes)) a in
-    let q = walked handset (stateOf r) bytes (standing p t g state len fr) i w before after (ap (λ (s : State Core). walk handset s bytes 0 0 before) (sym start) ∙ e) in
+    let q = subst (λ (s : State Core). Account (run handset s bytes (length before)) before (still (standing p t g state len fr) i w after)) start e in
     record {
-      same = d ∙ ap (λ (y : KeptFrame). record { panel = p; text = t; picture = g; held = r .held; frame = y }) (coded state len fr k) ∙ ap (recordOf (r .held)) (q .0);
-      used = q .1;
-      written = q .2;
-      buffer = q .3;
+      same = d ∙ ap (λ (y : KeptFrame). record { panel = p; text = t; picture = g; held = r .held; frame = y }) (coded state len fr k) ∙ ap (recordOf (r .held)) (q .state);
+      used = q .used;
+      written = q .written;
+      buffer = q .buffer;
     }
 
 -- blanking, a place at a time
@@ -220,35 +212,29 @@ unfolding emptied
 blank-end bs i l k f =
     ap (λ (n : ℕ). take i bs ++ replicate n 0) {x = limit - i} {y = 0} (omega arith) ∙ append-nil (take i bs) ∙ take-all i bs (omega (arith, f, l))
 
--- what holds at the head of the loop: the rest from here gives the same end
+-- what holds at the head of the loop: the loop's account so far, and the locals in their ranges
 pub record Going (bytes before : List ℕ) (s : State Core) (answers : List ℕ) (p : Panel) (t g : List ℕ) (state len : ℕ) (fr : List ℕ) (i w : ℕ) : Type 0 where
-  pub inside : i ≤ length bytes
-  pub room : w ≤ length answers
-  pub even : length answers ≡ length before
+  pub account : Loop.Going (step handset) s bytes before (standing p t g state len fr) i w answers
   pub range : CoreInRange (core p t g)
   pub fits : Fits state len fr
-  pub rest : walk handset s bytes 0 0 before ≡ walk handset (standing p t g state len fr) (drop i bytes) i w answers
 
 module _ {bytes before : List ℕ} {s : State Core} {answers : List ℕ} {p : Panel} {t g : List ℕ} {state len : ℕ} {fr : List ℕ} {i w : ℕ} (k : Going bytes before s answers p t g state len fr i w) (h : i < length bytes) where
   pub go-quiet : {p′ : Panel} {t′ g′ : List ℕ} {state′ len′ : ℕ} {fr′ : List ℕ} → CoreInRange (core p′ t′ g′) → Fits state′ len′ fr′ → step handset (standing p t g state len fr) (getD bytes i 0) ≡ quietly (standing p′ t′ g′ state′ len′ fr′)
       → Going bytes before s answers p′ t′ g′ state′ len′ fr′ (i + 1) w
-  go-quiet {p′} {t′} {g′} {state′} {len′} {fr′} x y e =
-      record { inside = omega arith; room = k .room; even = k .even; range = x; fits = y; rest = k .rest ∙ quiet (standing p t g state len fr) (standing p′ t′ g′ state′ len′ fr′) bytes i w answers h e }
+  go-quiet x y e = record { account = Loop.go-quiet (step handset) (k .account) (begins-with bytes i 0 h) _ e; range = x; fits = y }
 
   pub go-loud : {p′ : Panel} {t′ g′ : List ℕ} {state′ len′ : ℕ} {fr′ : List ℕ} → CoreInRange (core p′ t′ g′) → Fits state′ len′ fr′ → step handset (standing p t g state len fr) (getD bytes i 0) ≡ asking (standing p′ t′ g′ state′ len′ fr′) → w < length answers
       → Going bytes before s (set answers w questionMark) p′ t′ g′ state′ len′ fr′ (i + 1) (w + 1)
-  go-loud {p′} {t′} {g′} {state′} {len′} {fr′} x y e l =
-      record {
-        inside = omega arith;
-        room = omega (arith, length-set answers w questionMark);
-        even = length-set answers w questionMark ∙ k .even;
-        range = x;
-        fits = y;
-        rest = k .rest ∙ loud (standing p t g state len fr) (standing p′ t′ g′ state′ len′ fr′) bytes i w answers h e l;
-      }
+  go-loud x y e l = record { account = Loop.go-one (step handset) (k .account) (begins-with bytes i 0 h) _ questionMark e l; range = x; fits = y }
 
-  pub go-halt : {v : State Core} → step handset (standing p t g state len fr) (getD bytes i 0) ≡ asking v → length answers ≤ w → walk handset s bytes 0 0 before ≡ still (standing p t g state len fr) i w answers
-  go-halt {v} e l = k .rest ∙ halt (standing p t g state len fr) v bytes i w answers h e l
+  pub go-halt : {v : State Core} → step handset (standing p t g state len fr) (getD bytes i 0) ≡ asking v → length answers ≤ w
+      → Account (run handset s bytes (length before)) before (still (standing p t g state len fr) i w answers)
+  go-halt {v} e l = Loop.go-stop (step handset) (k .account) (begins-with bytes i 0 h) (asking v) e (omega arith)
+
+-- the same account, of a core that other locals hold
+pub same-core : {ran : Ran Core} {before : List ℕ} {x y : Core} {f : Frame} {i w : ℕ} {after : List ℕ} → x ≡ y
+    → Account ran before (still (record { core = x; frame = f }) i w after) → Account ran before (still (record { core = y; frame = f }) i w after)
+same-core {ran} {before} {f} {i} {w} {after} e a = subst (λ (c : Core). Account ran before (still (record { core = c; frame = f }) i w after)) e a
 
 -- the core stays in range
 pub range-obeyed : (o : Obeyed) (p : Panel) (t g f t′ g′ : List ℕ) → Obeys f (core p t g) o (core (o .panel) t′ g′) → CoreInRange (core p t g) → CoreInRange (core (o .panel) t′ g′)

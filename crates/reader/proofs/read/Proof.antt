@@ -1,14 +1,15 @@
 -- `reader::read` keeps its promise. Assumes nothing.
-use mathlib.Core.Path.{_≡_, refl, ap, sym, _∙_}
+use mathlib.Core.Path.{_≡_, refl, ap, sym, _∙_, subst}
 use Prim.Native.Nat.{ℕ, _≤_, _-_, _+_}
 use native.Mathlib.Omega.{arith}
 use denote.Ref.{now}
 use lib.ListN.{length}
 use lib.Seq.{length-take-le}
 use Rattle.effect.specs.Core.{Core}
-use Rattle.parting.specs.Loop.{walk-end, still}
+use Rattle.parting.specs.Reading.{step}
+use Rattle.turns.specs.Loop.{go-start, go-end}
 use Rattle.reader.specs.Stream.{handset, standing, frameIn}
-use Rattle.reader.specs.Turns.{Going, go-quiet, go-loud, go-halt, fed, fits-none, fits-more, fits-open, turn-text, turn-open, turn-skip, loud-esc, loud-long, turn-good, loud-bad, bad-keeps, turn-collect, turn-over, turn-lost, range-obeyed, range-stored, range-bad, in-place}
+use Rattle.reader.specs.Turns.{Going, go-quiet, go-loud, go-halt, same-core, fed, fits-none, fits-more, fits-open, turn-text, turn-open, turn-skip, loud-esc, loud-long, turn-good, loud-bad, bad-keeps, turn-collect, turn-over, turn-lost, range-obeyed, range-stored, range-bad, in-place}
 use borrow.Author.Needs.{needs}
 use Rattle.reader.proofs.read.Statement.{statement}
 use Rattle.reader.proofs.read.Tie as tie
@@ -25,7 +26,7 @@ wide-requires c κs = search needs
 loop-holds : tie.Need-loop-holds Inv-loop μ-loop
 loop-holds c =
     let k = c .before .before .before .before .before .before .before .before .before .pre in
-    record { inside = omega arith; room = omega arith; even = refl; range = k .range; fits = rw (c .before .wide .ensures) (k .fits); rest = refl }
+    record { account = go-start (step handset) _ _ _; range = k .range; fits = rw (c .before .wide .ensures) (k .fits) }
 
 shared-slice-read-b : tie.Need-shared-slice-read-b Inv-loop μ-loop
 shared-slice-read-b c = search needs
@@ -118,7 +119,7 @@ slice-write-answers-2 : tie.Need-slice-write-answers-2 Inv-loop μ-loop
 slice-write-answers-2 c = search needs
 
 add-w-2 : tie.Need-add-w-2 Inv-loop μ-loop
-add-w-2 c = let v = c .before .before .before .before .before .before .before .before .before .before .before .before .loop .inv in let t = c .if9 .taken in let g = c .before .before .before .before .before .before .before .before .before .before .before .before .before .before .before .before .before .before .before .before .before .before .good .1 .1 .0 .0 in record { fits = omega (arith, v .even) }
+add-w-2 c = let v = c .before .before .before .before .before .before .before .before .before .before .before .before .loop .inv in let t = c .if9 .taken in let g = c .before .before .before .before .before .before .before .before .before .before .before .before .before .before .before .before .before .before .before .before .before .before .good .1 .1 .0 .0 in record { fits = omega (arith, v .account .even) }
 
 add-i-6 : tie.Need-add-i-6 Inv-loop μ-loop
 add-i-6 c = let t = c .before .before .before .before .before .before .before .before .before .before .before .loop-test in let g = c .before .before .before .before .before .before .before .before .before .before .before .before .before .before .before .before .before .before .before .before .before .before .good .1 .0 .0 in record { fits = omega arith }
@@ -136,7 +137,7 @@ whole-requires-2 : tie.Need-whole-requires-2 Inv-loop μ-loop
 whole-requires-2 c κs = let v = c .before .before .before .before .before .before .before .before .before .before .before .before .loop in (v .inv .fits .short, v .inv .fits .full)
 
 same-length-2 : tie.Need-same-length-2 Inv-loop μ-loop
-same-length-2 c = c .before .before .before .before .before .before .before .before .before .before .before .before .before .loop .inv .even
+same-length-2 c = c .before .before .before .before .before .before .before .before .before .before .before .before .before .loop .inv .account .even
 
 returns-2 : tie.Need-returns-2 Inv-loop μ-loop
 returns-2 c = let v = c .before .before .before .before .before .before .before .before .before .before .before .before .before .loop in
@@ -144,8 +145,8 @@ returns-2 c = let v = c .before .before .before .before .before .before .before 
     let o = c .before .before .before .obey in
     let q = o .ensures in
     fed (a .r) _ (c .before .before .before .before .before .before .before .before .before .before .before .before .before .before .before .wide .result) (v .panel) _ _ (v .state) (v .len) (v .frame) (now (a .bytes)) (v .i) (v .w) (now (a .answers)) (v .answers) (c .before .before .before .before .before .before .before .before .before .before .before .before .before .before .before .wide .ensures) (v .inv .fits) (c .whole2 .ensures)
-    (go-halt (v .inv) (let t = c .before .before .before .before .before .before .before .before .before .before .before .before .loop-test in omega arith) (loud-bad (v .panel) (v .text) (v .picture) (v .state) (v .len) (v .frame) _ _ _ _ (c .before .before .before .before .before .before .before .if7 .taken) (c .before .before .before .before .before .before .before .before .if6 .taken) q (c .before .before .if8 .left)) (c .before .if9 .left)
-    ∙ ap (λ (x : Core). still (record { core = x; frame = frameIn (v .state) (v .len) (v .frame) }) (v .i) (v .w) (v .answers)) (bad-keeps (v .panel) (v .text) (v .picture) (v .state) (v .len) (v .frame) _ _ _ _ (c .before .before .before .before .before .before .before .if7 .taken) (c .before .before .before .before .before .before .before .before .if6 .taken) q (c .before .before .if8 .left)))
+    (same-core (bad-keeps (v .panel) (v .text) (v .picture) (v .state) (v .len) (v .frame) _ _ _ _ (c .before .before .before .before .before .before .before .if7 .taken) (c .before .before .before .before .before .before .before .before .if6 .taken) q (c .before .before .if8 .left))
+    (go-halt (v .inv) (let t = c .before .before .before .before .before .before .before .before .before .before .before .before .loop-test in omega arith) (loud-bad (v .panel) (v .text) (v .picture) (v .state) (v .len) (v .frame) _ _ _ _ (c .before .before .before .before .before .before .before .if7 .taken) (c .before .before .before .before .before .before .before .before .if6 .taken) q (c .before .before .if8 .left)) (c .before .if9 .left)))
 
 slice-write-answers-3 : tie.Need-slice-write-answers-3 Inv-loop μ-loop
 slice-write-answers-3 c = search needs
@@ -223,7 +224,7 @@ returns-4 : tie.Need-returns-4 Inv-loop μ-loop
 returns-4 c = let v = c .before .before .loop in
     let a = c .before .before .before .before .before .before .before .before .before .before .before .before .args in
     fed (a .r) _ (c .before .before .before .before .wide .result) (v .panel) (v .text) (v .picture) (v .state) (v .len) (v .frame) (now (a .bytes)) (v .i) (v .w) (now (a .answers)) (v .answers) (c .before .before .before .before .wide .ensures) (v .inv .fits) (c .whole4 .ensures)
-    (v .inv .rest ∙ walk-end handset (standing (v .panel) (v .text) (v .picture) (v .state) (v .len) (v .frame)) (now (a .bytes)) (v .i) (v .w) (v .answers) (omega arith))
+    (go-end (step handset) (v .inv .account) (omega arith))
 
 pub read-spec : {M : Type 1} → statement M
 read-spec =
