@@ -135,3 +135,13 @@ module _ {State Shown Entry : Type 0} (shown : State → Shown) (one : State →
       let here : Fact state (entries ++ offered calls) = subst (Fact state) (sym (append-assoc unused (call .entries) (offered calls))) fact in
       ap (preceded (ran .answers)) (sessions-alike alike (ran .state) (drop (ran .used) entries) calls (alike .kept state entries (offered calls) (call .room) here))
       ∙ ap (λ (r : Ran Shown). preceded (r .answers) (session other (r .state) (drop (r .used) entries) calls)) (alike .same state entries (offered calls) (call .room) here)
+
+-- A fact of the state that every call keeps is kept by calls in order.
+pub session-keeps : {State Entry : Type 0} (answer : State → List Entry → ℕ → Ran State) (Fact : State → Type 0)
+    → ((state : State) (entries : List Entry) (room : ℕ) → Fact state → Fact (answer state entries room .state))
+    → (state : State) (unused : List Entry) (calls : List (Call Entry)) → Fact state → Fact (session answer state unused calls .state)
+unfolding session
+session-keeps answer Fact kept state unused [] h = h
+session-keeps answer Fact kept state unused (call ∷ calls) h =
+    let ran = answer state (unused ++ call .entries) (call .room) in
+    session-keeps answer Fact kept (ran .state) (drop (ran .used) (unused ++ call .entries)) calls (kept state (unused ++ call .entries) (call .room) h)
