@@ -1,0 +1,945 @@
+//! The paper's own examples, and the settled points.
+
+use crate::cover;
+use crate::grammar::{spelt, Command};
+use crate::record::*;
+use crate::script::{self, Answer, Call};
+use crate::seen::{self, Owner};
+use crate::{generate, keys, property, ranges, stream, writers};
+
+/// Feeds a stream with room for all answers; gives the answers.
+fn feed(record: &mut Record, bytes: &[u8]) -> Vec<u8> {
+    let mut room = vec![0; bytes.len() + 1];
+    let (number, used, written) = stream::call(record, bytes, &mut room);
+    assert_eq!((number, used), (0, bytes.len()));
+    room[..written].to_vec()
+}
+
+/// Feeds one frame; gives the count of question marks.
+fn frame(record: &mut Record, body: &str) -> usize {
+    let bytes = [&[ESC], body.as_bytes(), &[CR]].concat();
+    let answers = feed(record, &bytes);
+    assert!(answers.iter().all(|&byte| byte == b'?'));
+    answers.len()
+}
+
+/// A frame is answered by a question mark and changes nothing.
+fn bad(record: &Record, body: &str) {
+    let mut after = record.clone();
+    assert_eq!(frame(&mut after, body), 1, "{body}");
+    assert_eq!(&after, record, "{body}");
+}
+
+/// A frame is passed over in silence.
+fn silent(record: &Record, body: &str) {
+    let mut after = record.clone();
+    assert_eq!(frame(&mut after, body), 0, "{body}");
+    assert_eq!(&after, record, "{body}");
+}
+
+/// A frame is obeyed and changes just what `change` does.
+fn obeyed(record: &Record, body: &str, change: impl Fn(&mut Record)) -> Record {
+    let mut after = record.clone();
+    assert_eq!(frame(&mut after, body), 0, "{body}");
+    let mut wanted = record.clone();
+    change(&mut wanted);
+    assert_eq!(after, wanted, "{body}");
+    after
+}
+
+/// A record with something in every field.
+fn full() -> Record {
+    let mut record = power_on();
+    let stream = b"\x1BID6\r\x1B[4;3H\rabcdefghijklmnop\x1B[2;15H\rz\x1BID13\r\x1B&C\r\
+        \x1BIK1Keep\r\x1BIK2Leave\r\x1BIS1\r\x1BIU255\r\x1BIF4\r\x1BIR1\r\x1BIP17\r\x1BIW2\r\
+        \x1BIJ7\r\x1BIM1\r\x1BIT20;8\r\x1BIB77\r\x1BIE9\r\x1BIEA\r\x1BIEe\r\
+        \x1BGr0,c00dFFg331B2Cf00z\r\x1BGr6,1F0EFFz\r";
+    assert_eq!(feed(&mut record, stream), b"");
+    let mut room = [0; 4];
+    let log = keys::call(&mut record, &[100, 300], &[0, 255], &mut room);
+    assert_eq!(log, (0, 2, 1));
+    record
+}
+
+// The P lines.
+
+#[test]
+fn empty_and_doubled_escape() {
+    let mut record = power_on();
+    assert_eq!(feed(&mut record, b"\x1B\r"), b"?");
+    assert_eq!(feed(&mut record, b"\x1B\x1B\r"), b"??");
+    assert_eq!(record, power_on());
+}
+
+#[test]
+fn cursor_frames() {
+    let record = power_on();
+    obeyed(&record, "[3;15H", |r| (r.row, r.column) = (3, 15));
+    silent(&record, "[4;0H");
+    silent(&record, "[0;16H");
+    let mut five = power_on();
+    frame(&mut five, "ID5");
+    obeyed(&five, "[4;0H", |r| (r.row, r.column) = (4, 0));
+    silent(&five, "[5;0H");
+}
+
+#[test]
+fn labels_and_icons() {
+    let record = power_on();
+    bad(&record, "IK112345678");
+    obeyed(&record, "IK11234567", |r| r.left = label_of(b"1234567"));
+    obeyed(&record, "IP19", |r| r.icons[ICON_P] = 19);
+    silent(&record, "IP20");
+    bad(&record, "IP0001");
+}
+
+#[test]
+fn picture_data() {
+    let record = power_on();
+    let good = spelt(b"Gr0,c00dFFg331B2Cf00z").unwrap();
+    let wanted = [
+        &[0x00; 4][..],
+        &[0xFF; 5],
+        &[0x33; 8],
+        &[0x1B, 0x2C],
+        &[0x00; 7],
+    ]
+    .concat();
+    assert_eq!(good.codes, wanted);
+    assert_eq!(good.codes.len(), 26);
+    bad(&record, "Gr0,yz");
+    bad(&record, "Gr0,ffz");
+    let mut room = [0; 20];
+    let (number, count) = writers::picture(0, &[0; 27], &mut room);
+    assert_eq!((number, &room[..count]), (0, &b"\x1BGr0,y0000z\r\n"[..]));
+}
+
+#[test]
+fn key_one_at_65530() {
+    let press = |log: &[(u16, u8)]| {
+        let (ticks, edges): (Vec<u16>, Vec<u8>) = log.iter().copied().unzip();
+        let mut record = power_on();
+        let mut room = [0; 4];
+        let (number, used, written) = keys::call(&mut record, &ticks, &edges, &mut room);
+        assert_eq!((number, used), (0, log.len()));
+        room[..written].to_vec()
+    };
+    assert_eq!(press(&[(65_530, 6), (113, 255)]), b"");
+    assert_eq!(press(&[(65_530, 6), (114, 255)]), [0xB1]);
+    assert_eq!(press(&[(65_530, 6), (113, 134)]), [0x31]);
+    assert_eq!(press(&[(65_530, 6), (114, 134)]), [0xB1]);
+}
+
+#[test]
+fn volume_and_mute() {
+    let mut record = power_on();
+    feed(&mut record, b"\x1BIL4\r\x1BIM1\r\x1BIL0\r");
+    assert_eq!(seen::volume(&record), (0, 0, 0));
+    frame(&mut record, "IL4");
+    assert_eq!(seen::volume(&record), (0, 1, 0));
+    frame(&mut record, "IM0");
+    assert_eq!(seen::volume(&record), (0, 2, 4));
+}
+
+#[test]
+fn list_screen() {
+    let stream = b"\x1BID0\r\n\x1B[1;2H\r\nMeter\r\n\x1BIK1Keep\r\n\x1BQ\r";
+    let wanted = "\
+REPLIES 1
+MODE 0 OVER 0 DISPLAY 1
+CURSOR 0 1 7
+TEXT 0 [                ]
+TEXT 1 [  Meter         ]
+TEXT 2 [                ]
+TEXT 3 [                ]
+TEXT 4 [                ]
+LEFT [Keep]
+RIGHT []
+ICONS 0 0 0 0 0 0
+VOLUME 0 0 0 0
+";
+    assert_eq!(seen::listing(stream), wanted);
+    // A tail left open is not seen; codes outside 0x20 to 0x7E are points.
+    let odd = seen::listing(b"\x1BIK1a\x7F\xFFb\r\xE4\x1BIK1Mine");
+    assert!(odd.starts_with("REPLIES 0\n"));
+    assert!(odd.contains("LEFT [a..b]\n"));
+    assert!(odd.contains("TEXT 0 [.               ]\n"));
+}
+
+// Settled points.
+
+#[test]
+fn both_spellings_of_handsfree() {
+    let record = full();
+    for body in ["IJ5", "II5"] {
+        obeyed(&record, body, |r| {
+            (r.volume.which, r.volume.level, r.volume.hidden) = (2, 5, false);
+        });
+    }
+    let both = [spelt(b"IJ5").unwrap(), spelt(b"II5").unwrap()];
+    assert_eq!(both[0].command, Command::HandsfreeJ);
+    assert_eq!(both[1].command, Command::HandsfreeI);
+    silent(&record, "II11");
+}
+
+#[test]
+fn picture_frames() {
+    let record = full();
+    for body in [
+        "IG0;00", "IGr0;00", "Gr0;00", "Gr0;00z", "Gr0,00", "G0,00z", "Gr06,00z", "Gr10,00z",
+        "Gr,00z", "Gr0,z", "Gr0,00zz", "Gr0,0z", "Gr0,aaz", "Gr0,fffz", "Gr0,z00z", "gr0,00z",
+        "Gr7,0z", "Gr0,0 0z",
+    ] {
+        bad(&record, body);
+    }
+    for body in ["Gr7,00z", "Gr8,00z", "Gr9,00z"] {
+        silent(&record, body);
+    }
+    let data = |columns: usize| "00".repeat(columns);
+    bad(&record, &format!("Gr7,{}z", data(97)));
+    silent(&record, &format!("Gr7,{}z", data(96)));
+    bad(&record, &format!("Gr1,{}z", data(97)));
+    bad(&record, &format!("Gr1,{}x00z", data(72)));
+    obeyed(&record, &format!("Gr0,{}w00z", data(72)), |r| {
+        r.picture[..96].fill(0);
+    });
+    // Data 00 is one column, and every column past the data stays.
+    obeyed(&record, "Gr0,55z", |r| r.picture[0] = 0x55);
+    obeyed(&record, "Gr3,f0Fz", |r| r.picture[288..295].fill(0x0F));
+    obeyed(&record, "Gr6,FFE0z", |r| {
+        (r.picture[576], r.picture[577]) = (31, 0);
+    });
+    let mut room = [9; 300];
+    for repeats in [(b'a', 2), (b'y', 26)] {
+        let body = [b"Gr0,", &[repeats.0][..], b"3Cz"].concat();
+        assert_eq!(spelt(&body).unwrap().codes, vec![0x3C; repeats.1]);
+    }
+    for (columns, text) in [
+        (1, "00"),
+        (2, "a00"),
+        (26, "y00"),
+        (27, "y0000"),
+        (28, "y00a00"),
+        (52, "y00y00"),
+        (53, "y00y0000"),
+    ] {
+        let (number, count) = writers::picture(2, &vec![0; columns], &mut room);
+        let wanted = format!("\x1BGr2,{text}z\r\n");
+        assert_eq!((number, &room[..count]), (0, wanted.as_bytes()));
+    }
+}
+
+#[test]
+fn clear_under_an_overlay() {
+    let record = full();
+    assert_eq!(record.overlay, 13);
+    obeyed(&record, "&#", |r| {
+        r.text = [0x20; 80];
+        (r.row, r.column) = (0, 0);
+    });
+}
+
+#[test]
+fn modes_and_overlays() {
+    let mut record = full();
+    (record.row, record.column) = (2, 16);
+    for (body, mode) in [("ID0", 0), ("ID01", 1), ("ID005", 5), ("ID6", 6)] {
+        obeyed(&record, body, |r| {
+            (r.mode, r.overlay, r.row, r.column) = (mode, 0, 0, 0);
+        });
+    }
+    for (body, overlay) in [("ID011", 11), ("ID12", 12), ("ID13", 13)] {
+        obeyed(&record, body, |r| r.overlay = overlay);
+    }
+    for body in ["ID2", "ID10", "ID14", "ID18", "ID999", "ID7"] {
+        silent(&record, body);
+    }
+    for body in [
+        "ID", "IDe", "IDd", "ID0011", "ID1 ", "ID-1", "IDDE", "IDD0", "IV4", "IA", "IA5", "IH",
+        "IZ1", "IX", "&V", "[K", "&", "&CC", "[1H", "[1;2;3H", "[;1H", "[1;H", "[1;2h", "",
+    ] {
+        bad(&record, body);
+    }
+    obeyed(&record, "IDD", |r| r.display = false);
+    let off = obeyed(&record, "IDD", |r| r.display = false);
+    obeyed(&off, "ID0", |r| {
+        (r.mode, r.overlay, r.row, r.column) = (0, 0, 0, 0);
+    });
+    obeyed(&off, "IDE", |r| r.display = true);
+    obeyed(&record, "&D", |r| r.shown = false);
+}
+
+#[test]
+fn numbers() {
+    let record = power_on();
+    obeyed(&record, "IP007", |r| r.icons[ICON_P] = 7);
+    obeyed(&record, "[003;015H", |r| (r.row, r.column) = (3, 15));
+    let full = full();
+    obeyed(&full, "IE000", |r| {
+        (r.backlight.mode, r.backlight.left) = (0, 0);
+    });
+    for body in ["IK00", "IK01", "IK", "IK3", "IK4x", "IP", "IPx", "IP1x"] {
+        bad(&full, body);
+    }
+    obeyed(&full, "IK12", |r| r.left = label_of(b"2"));
+    obeyed(&full, "IK2", |r| r.right = NO_LABEL);
+    obeyed(&full, "IK0", |r| (r.left, r.right) = (NO_LABEL, NO_LABEL));
+    bad(&full, "IK1ab\x01");
+    bad(&full, "IK1\n");
+    // All or nothing.
+    for body in ["IT20;3", "IT3;20", "IT0;0", "IT51;0", "IT4;51", "IT20;1"] {
+        silent(&full, body);
+    }
+    bad(&full, "IT20");
+    bad(&full, "IT20;");
+    obeyed(&full, "IT50;0", |r| (r.time1, r.time2) = (50, 0));
+    obeyed(&full, "IT4;4", |r| (r.time1, r.time2) = (4, 4));
+    for (body, wrong) in [
+        ("IS", 2),
+        ("IU", 2),
+        ("IU", 254),
+        ("IU", 256),
+        ("IF", 7),
+        ("IR", 2),
+        ("IP", 20),
+        ("IW", 4),
+        ("IL", 11),
+        ("IJ", 11),
+        ("IM", 2),
+        ("IB", 256),
+        ("IE", 256),
+        ("IE", 999),
+    ] {
+        silent(&full, &format!("{body}{wrong}"));
+        bad(&full, &format!("{body}{wrong:04}"));
+    }
+    obeyed(&full, "IB255", |r| r.buzzer = 255);
+}
+
+#[test]
+fn backlight_frames() {
+    let record = full();
+    let light = record.backlight;
+    assert_eq!(
+        (light.mode, light.duration, light.left, light.keypad),
+        (2, 9, 9, true)
+    );
+    obeyed(&record, "IE5", |r| r.backlight.duration = 5);
+    obeyed(&record, "IER", |r| r.backlight.duration = 30);
+    obeyed(&record, "IES", |_| ());
+    obeyed(&record, "IEE", |r| {
+        (r.backlight.mode, r.backlight.left) = (1, 0);
+    });
+    let on = obeyed(&record, "IEE", |r| {
+        (r.backlight.mode, r.backlight.left) = (1, 0);
+    });
+    obeyed(&on, "IES", |r| r.backlight.mode = 2);
+    obeyed(&on, "IEA", |r| {
+        (r.backlight.mode, r.backlight.left) = (2, 9);
+    });
+    obeyed(&record, "IEr", |r| r.backlight.keypad = false);
+    obeyed(&power_on(), "IEe", |r| r.backlight.keypad = true);
+    bad(&record, "IEa");
+    bad(&record, "IEs");
+}
+
+#[test]
+fn hidden() {
+    let mut record = power_on();
+    feed(&mut record, b"\x1BIL4\r\x1BIM1\r\x1BIJ0\r");
+    let volume = record.volume;
+    assert_eq!(
+        (volume.which, volume.level, volume.mute, volume.hidden),
+        (0, 0, true, true)
+    );
+    obeyed(&record, "IM0", |r| r.volume.mute = false);
+    silent(&record, "IL11");
+    // After IL0: IM0 then IM1 shows Mute.
+    let mut first = record.clone();
+    feed(&mut first, b"\x1BIM0\r\x1BIM1\r");
+    assert_eq!(seen::volume(&first), (0, 1, 0));
+    // IM1 then IM0 shows nothing, and hidden is no.
+    feed(&mut record, b"\x1BIM1\r\x1BIM0\r");
+    assert_eq!(seen::volume(&record), (0, 0, 0));
+    assert!(!record.volume.hidden);
+}
+
+#[test]
+fn overlong_frames() {
+    let long = |length: usize| [&[ESC], &vec![b'0'; length][..]].concat();
+    let mut record = power_on();
+    assert_eq!(feed(&mut record, &long(250)), b"");
+    assert_eq!((record.frame.state, record.frame.length), (1, 250));
+    assert_eq!(feed(&mut record, b"0"), b"");
+    assert_eq!((record.frame.state, record.frame.length), (2, 0));
+    assert_eq!(record.frame.bytes, [0; 250]);
+    assert_eq!(feed(&mut record, b"IP1"), b"");
+    let mut other = record.clone();
+    assert_eq!(feed(&mut record, b"\r"), b"?");
+    assert_eq!(record, power_on());
+    // ESC gives one question mark and opens the next.
+    assert_eq!(feed(&mut other, b"\x1B"), b"?");
+    assert_eq!((other.frame.state, other.frame.length), (1, 0));
+    // No longer body is ever good.
+    let mut label = power_on();
+    let stream = [&long(260)[..], b"\r"].concat();
+    assert_eq!(feed(&mut label, &stream), b"?");
+    assert_eq!(label, power_on());
+}
+
+#[test]
+fn line_feed_inside_a_frame() {
+    let mut record = power_on();
+    assert_eq!(feed(&mut record, b"\x1BID5\n\r"), b"?");
+    assert_eq!(record, power_on());
+}
+
+#[test]
+fn text_to_column_16() {
+    let mut record = power_on();
+    feed(&mut record, b"0123456789abcdefXYZ\r\n\x01\x1Fq");
+    assert_eq!(&record.text[..17], b"0123456789abcdef ");
+    assert_eq!((record.row, record.column), (0, 16));
+    obeyed(&record, "ID11", |r| r.overlay = 11);
+    silent(&record, "[0;16H");
+    // Neither display off nor an overlay hinders writing.
+    feed(&mut record, b"\x1BIDD\r\x1BID13\r\x1B[1;0H\r\xFFx");
+    assert_eq!(&record.text[16..19], b"\xFFx ");
+}
+
+#[test]
+fn stop_for_room() {
+    let go = |frame_before: &[u8], bytes: &[u8], room: usize| {
+        let mut record = power_on();
+        feed(&mut record, frame_before);
+        let mut answers = vec![7; room];
+        let (number, used, written) = stream::call(&mut record, bytes, &mut answers);
+        assert_eq!(number, 0);
+        assert!(answers[..written].iter().all(|&byte| byte == b'?'));
+        assert!(answers[written..].iter().all(|&byte| byte == 7));
+        (used, written, record)
+    };
+    // At the CR of a bad frame: not used, the frame still open.
+    let (used, written, record) = go(b"", b"ab\x1BQ\rcd", 0);
+    assert_eq!((used, written), (4, 0));
+    assert_eq!((record.frame.state, record.frame.length), (1, 1));
+    assert_eq!(&record.text[..3], b"ab ");
+    // At ESC in an open frame: not used.
+    let (used, written, record) = go(b"\x1BIP", b"1\x1BIP2\r", 0);
+    assert_eq!((used, written), (1, 0));
+    assert_eq!((record.frame.length, record.icons[ICON_P]), (3, 0));
+    // One room: the second question mark stops.
+    let (used, written, _) = go(b"", b"\x1BQ\rx\x1B\x1BIP2\r", 1);
+    assert_eq!((used, written), (5, 1));
+    // A full buffer does not stop good frames.
+    let (used, written, record) = go(b"", b"\x1BQ\r\x1BIP2\ry", 1);
+    assert_eq!((used, written), (9, 1));
+    assert_eq!(record.icons[ICON_P], 2);
+    // An overlong frame waits at its CR.
+    let long = [&[ESC], &[b'a'; 300][..]].concat();
+    let (used, written, record) = go(&long, b"bc\rd", 0);
+    assert_eq!((used, written, record.frame.state), (2, 0, 2));
+}
+
+#[test]
+fn the_two_halves_of_a_label() {
+    let mut record = power_on();
+    feed(&mut record, b"\x1BIK1Keep\r\n");
+    assert_eq!(feed(&mut record, b"\x1BIK1Ol"), b"");
+    assert_eq!(record.left, label_of(b"Keep"));
+    assert_eq!((record.frame.state, record.frame.length), (1, 5));
+    assert_eq!(feed(&mut record, b"der\r\n"), b"");
+    assert_eq!(record.left, label_of(b"Older"));
+    assert_eq!(record.frame, NO_FRAME);
+}
+
+#[test]
+fn key_codes() {
+    let codes: Vec<u8> = keys::KEYS
+        .iter()
+        .flat_map(|(_, short, long, repeat)| [*short, *long, repeat.unwrap_or(0)])
+        .collect();
+    let wanted = "4CCCEC52D2E245C50041C10055D5E544C4E431B1F132B2F233B3F334B4F4\
+        35B5F536B6F637B7F738B8F839B9F930B0F02AAAEA23A3EB4FCFEF";
+    assert_eq!(script::hex(&codes), wanted);
+}
+
+#[test]
+fn key_rules() {
+    let log = |record: &mut Record, log: &[(u16, u8)]| {
+        let (ticks, edges): (Vec<u16>, Vec<u8>) = log.iter().copied().unzip();
+        let mut room = [0; 9];
+        let (number, used, written) = keys::call(record, &ticks, &edges, &mut room);
+        assert_eq!((number, used), (0, log.len()));
+        room[..written].to_vec()
+    };
+    // One code a poll; Time2 counts from the poll that gave the long code.
+    let mut record = power_on();
+    assert_eq!(log(&mut record, &[(0, 0), (1000, 255)]), [0xCC]);
+    assert_eq!(log(&mut record, &[(1119, 255)]), []);
+    assert_eq!(log(&mut record, &[(1120, 255), (1239, 255)]), [0xEC]);
+    assert_eq!(log(&mut record, &[(1240, 255), (1241, 128)]), [0xEC]);
+    assert_eq!(record, power_on());
+    // ESC has no repeat code, and its tick stays.
+    log(&mut record, &[(0, 2), (120, 255), (5000, 255)]);
+    assert_eq!((record.held.tick, record.held.long), (120, true));
+    log(&mut record, &[(9, 130)]);
+    // Time2 0: the tick stays; a later Time2 gives the code at once.
+    frame(&mut record, "IT4;0");
+    assert_eq!(log(&mut record, &[(0, 0), (40, 255), (1040, 255)]), [0xCC]);
+    frame(&mut record, "IT4;8");
+    assert_eq!(log(&mut record, &[(1041, 255)]), [0xEC]);
+    // A press while one is held does nothing, to the light neither.
+    frame(&mut record, "IEA");
+    record.backlight.left = 3;
+    let before = record.clone();
+    assert_eq!(log(&mut record, &[(1042, 0), (1043, 5), (1044, 133)]), []);
+    assert_eq!(record, before);
+    log(&mut record, &[(1045, 128), (1046, 255), (1047, 7)]);
+    assert_eq!(record.backlight.left, 30);
+    // Time1 in force at the release counts.
+    frame(&mut record, "IT50;8");
+    assert_eq!(log(&mut record, &[(1047 + 499, 135)]), [0x32]);
+}
+
+#[test]
+fn log_numbers() {
+    let mut record = power_on();
+    let mut room = [7; 1];
+    let ask = |record: &mut Record, ticks: &[u16], edges: &[u8], room: &mut [u8]| {
+        keys::call(record, ticks, edges, room)
+    };
+    assert_eq!(ask(&mut record, &[], &[], &mut room), (0, 0, 0));
+    assert_eq!(ask(&mut record, &[1], &[], &mut room), (5, 0, 0));
+    assert_eq!(ask(&mut record, &[1], &[0, 99], &mut room), (5, 0, 0));
+    for edge in [19, 127, 147, 254] {
+        let edges = [0, 128, 0, 128, edge];
+        assert_eq!(ask(&mut record, &[1; 5], &edges, &mut room), (4, 0, 0));
+    }
+    assert_eq!((record.clone(), room), (power_on(), [7]));
+    // Stops before the second code.
+    let edges = [0, 128, 1, 129, 2];
+    assert_eq!(ask(&mut record, &[1; 5], &edges, &mut room), (0, 3, 1));
+    assert_eq!((room, record.held.key), ([0x4C], 1));
+    record.mode = 2;
+    assert_eq!(ask(&mut record, &[1], &[], &mut room), (1, 0, 0));
+}
+
+#[test]
+fn ranges_of_the_record() {
+    assert!(ranges::in_range(&power_on()));
+    let record = full();
+    assert!(ranges::in_range(&record));
+    let empty = power_on();
+    let mut open = power_on();
+    feed(&mut open, b"\x1BIP");
+    let wrong: [(&Record, u16, usize, u16); 44] = [
+        (&empty, 1, 0, 2),
+        (&empty, 1, 0, 10),
+        (&empty, 2, 0, 1),
+        (&empty, 2, 0, 14),
+        (&empty, 4, 0, 4),
+        (&record, 4, 0, 5),
+        (&empty, 5, 0, 17),
+        (&empty, 6, 79, 0x1F),
+        (&record, 7, 0, 8),
+        (&record, 7, 0, 3),
+        (&record, 7, 0, 5),
+        (&record, 8, 3, 0x1F),
+        (&record, 8, 4, 0x20),
+        (&record, 9, 0, 255),
+        (&record, 10, 6, 1),
+        (&record, 11, 576, 32),
+        (&record, 11, 671, 255),
+        (&empty, 12, 0, 2),
+        (&empty, 13, 0, 2),
+        (&empty, 13, 0, 254),
+        (&empty, 14, 0, 7),
+        (&empty, 15, 0, 2),
+        (&empty, 16, 0, 20),
+        (&empty, 17, 0, 4),
+        (&empty, 18, 0, 1),
+        (&record, 18, 0, 3),
+        (&record, 19, 0, 0),
+        (&record, 19, 0, 11),
+        (&empty, 19, 0, 1),
+        (&record, 21, 0, 1),
+        (&empty, 22, 0, 3),
+        (&empty, 22, 0, 51),
+        (&empty, 23, 0, 3),
+        (&empty, 23, 0, 51),
+        (&empty, 25, 0, 3),
+        (&empty, 26, 0, 0),
+        (&empty, 27, 0, 1),
+        (&record, 30, 0, 19),
+        (&empty, 30, 0, 1),
+        (&empty, 31, 0, 1),
+        (&empty, 32, 0, 1),
+        (&empty, 33, 0, 3),
+        (&empty, 34, 0, 1),
+        (&empty, 35, 249, 1),
+    ];
+    for (base, field, place, value) in wrong {
+        let mut spoilt = base.clone();
+        assert!(set(&mut spoilt, field, place, value));
+        assert!(!ranges::in_range(&spoilt), "{field} {place} {value}");
+        refused(&spoilt);
+    }
+    for (field, place, value) in [
+        (35, 0, 0x1B),
+        (35, 1, 0x0D),
+        (35, 2, 1),
+        (34, 0, 1),
+        (34, 0, 251),
+    ] {
+        let mut spoilt = open.clone();
+        set(&mut spoilt, field, place, value);
+        refused(&spoilt);
+    }
+    // Overlong names no bytes.
+    let mut overlong = open.clone();
+    overlong.frame.state = 2;
+    refused(&overlong);
+    let right: [(&Record, u16, usize, u16); 10] = [
+        (&empty, 5, 0, 16),
+        (&empty, 11, 575, 255),
+        (&empty, 11, 671, 31),
+        (&empty, 21, 0, 1),
+        (&empty, 23, 0, 0),
+        (&empty, 24, 0, 255),
+        (&record, 27, 0, 255),
+        (&record, 30, 0, 18),
+        (&open, 34, 0, 250),
+        (&empty, 33, 0, 1),
+    ];
+    for (base, field, place, value) in right {
+        let mut good = base.clone();
+        set(&mut good, field, place, value);
+        assert!(ranges::in_range(&good), "{field} {place} {value}");
+    }
+}
+
+/// Every call that takes a record refuses this one and leaves it.
+fn refused(record: &Record) {
+    let mut after = record.clone();
+    let mut room = [7; 3];
+    let calls = [
+        stream::call(&mut after, b"", &mut room),
+        stream::call(&mut after, b"\x1BQ\r", &mut room),
+        keys::call(&mut after, &[], &[], &mut room),
+        keys::call(&mut after, &[1], &[0, 19], &mut room),
+    ];
+    assert_eq!(calls, [(1, 0, 0); 4]);
+    assert_eq!(script::second(&mut after), 1);
+    assert_eq!(seen::row(&after, 0), (1, Owner::Nothing));
+    assert_eq!(seen::row(&after, 7), (1, Owner::Nothing));
+    assert_eq!(seen::sms(&after), (1, 0));
+    assert_eq!(seen::volume(&after), (1, 0, 0));
+    assert_eq!((&after, room), (record, [7; 3]));
+}
+
+#[test]
+fn seconds() {
+    let mut record = full();
+    record.backlight.left = 1;
+    assert_eq!(script::second(&mut record), 0);
+    assert_eq!(record.backlight.left, 0);
+    assert_eq!(script::second(&mut record), 0);
+    assert_eq!(record.backlight.left, 0);
+    // The thin entry judges the backlight alone.
+    let mut light = power_on().backlight;
+    assert_eq!(script::thin(&mut light), 0);
+    assert_eq!(light, power_on().backlight);
+    for (mode, duration, left) in [(0, 30, 1), (1, 30, 9), (2, 0, 3), (3, 30, 0)] {
+        let mut light = Backlight {
+            mode,
+            duration,
+            left,
+            keypad: true,
+        };
+        let before = light;
+        assert_eq!(script::thin(&mut light), 1);
+        assert_eq!(light, before);
+    }
+}
+
+#[test]
+fn rows_of_the_display() {
+    let owners = |record: &Record| -> String {
+        (0..7)
+            .map(|row| match seen::row(record, row) {
+                (0, Owner::Nothing) => '.',
+                (0, Owner::IconBar { .. }) => 'I',
+                (0, Owner::Text { row, .. }) => char::from(b'0' + row),
+                (0, Owner::Picture { row: k, .. }) if k == row => 'P',
+                (0, Owner::SoftKeys { .. }) => 'S',
+                _ => '!',
+            })
+            .collect()
+    };
+    for (mode, overlay, wanted) in [
+        (0, 0, "I0123S."),
+        (1, 0, "I0123S."),
+        (5, 0, "01234S."),
+        (6, 0, "01234S."),
+        (0, 11, "IPPPPS."),
+        (6, 11, "IPPPPS."),
+        (1, 12, "PPPPPS."),
+        (5, 12, "PPPPPS."),
+        (0, 13, "PPPPPPP"),
+    ] {
+        let mut record = full();
+        (record.mode, record.overlay, record.row) = (mode, overlay, 0);
+        assert_eq!(owners(&record), wanted);
+        record.display = false;
+        assert_eq!(owners(&record), ".......");
+        assert_eq!(seen::row(&record, 7), (4, Owner::Nothing));
+    }
+    let mut record = full();
+    record.overlay = 11;
+    let bar = Owner::IconBar {
+        f: 4,
+        p: 17,
+        r: 1,
+        sms: 2,
+        volume: (1, 0),
+    };
+    assert_eq!(seen::row(&record, 0), (0, bar));
+    let keys = Owner::SoftKeys {
+        left: label_of(b"Keep"),
+        right: label_of(b"Leave"),
+        w: 2,
+    };
+    assert_eq!(seen::row(&record, 5), (0, keys));
+    frame(&mut record, "IU0");
+    assert_eq!(seen::sms(&record), (0, 1));
+    frame(&mut record, "IS0");
+    assert_eq!(seen::sms(&record), (0, 0));
+}
+
+#[test]
+fn writers_write() {
+    let write = |command: u16, a: u16, b: u16, room: usize| {
+        let mut buffer = vec![7; room];
+        let (number, count) = writers::command(script::command(command), [a, b], &mut buffer);
+        assert!(buffer[count..].iter().all(|&byte| byte == 7));
+        (number, String::from_utf8(buffer[..count].to_vec()).unwrap())
+    };
+    let wrote = |text: &str| (0, format!("\x1B{text}\r\n"));
+    let none = |number: u8| (number, String::new());
+    for (command, a, b, text) in [
+        (0, 0, 0, "IDD"),
+        (1, 0, 0, "IDE"),
+        (2, 0, 0, "ID0"),
+        (2, 13, 0, "ID13"),
+        (3, 0, 0, "&C"),
+        (4, 0, 0, "&D"),
+        (5, 0, 0, "&#"),
+        (6, 4, 15, "[4;15H"),
+        (7, 0, 0, "IK0"),
+        (8, 1, 0, "IS1"),
+        (9, 255, 0, "IU255"),
+        (10, 6, 0, "IF6"),
+        (11, 1, 0, "IR1"),
+        (12, 19, 0, "IP19"),
+        (13, 3, 0, "IW3"),
+        (14, 10, 0, "IL10"),
+        (15, 0, 0, "IJ0"),
+        (16, 5, 0, "II5"),
+        (17, 1, 0, "IM1"),
+        (18, 20, 0, "IT20;0"),
+        (19, 255, 0, "IB255"),
+        (20, 0, 0, "IE0"),
+        (20, 255, 0, "IE255"),
+        (21, 0, 0, "IEE"),
+        (22, 0, 0, "IEA"),
+        (23, 0, 0, "IES"),
+        (24, 0, 0, "IER"),
+        (25, 0, 0, "IEe"),
+        (26, 0, 0, "IEr"),
+    ] {
+        let length = text.len() + 3;
+        assert_eq!(write(command, a, b, 40), wrote(text));
+        assert_eq!(write(command, a, b, length), wrote(text));
+        assert_eq!(write(command, a, b, length - 1), none(3));
+    }
+    for (command, a, b) in [
+        (2, 2, 0),
+        (2, 10, 0),
+        (6, 5, 0),
+        (6, 0, 16),
+        (9, 2, 0),
+        (12, 20, 0),
+        (14, 11, 0),
+        (18, 3, 0),
+        (18, 4, 3),
+        (19, 256, 0),
+        (20, 256, 0),
+        (20, 65_535, 0),
+    ] {
+        assert_eq!(write(command, a, b, 40), none(2));
+        assert_eq!(write(command, a, b, 0), none(2));
+    }
+    let mut room = [7; 20];
+    let (number, count) = writers::label(0, b"Keep", &mut room);
+    assert_eq!((number, &room[..count]), (0, &b"\x1BIK1Keep\r\n"[..]));
+    assert_eq!(writers::label(1, b"", &mut room[..6]), (0, 6));
+    assert_eq!(writers::label(1, b"", &mut room[..5]), (3, 0));
+    assert_eq!(writers::label(1, b"12345678", &mut room), (2, 0));
+    assert_eq!(writers::label(1, b"a\x1F", &mut []), (2, 0));
+    for (row, columns) in [
+        (0, vec![]),
+        (0, vec![0; 97]),
+        (7, vec![0]),
+        (255, vec![0]),
+        (6, vec![31, 32]),
+    ] {
+        assert_eq!(writers::picture(row, &columns, &mut []), (2, 0));
+    }
+    assert_eq!(writers::picture(6, &[31], &mut [0; 9]), (3, 0));
+    assert_eq!(writers::picture(6, &[31], &mut [0; 10]), (0, 10));
+}
+
+// Scripts.
+
+#[test]
+fn script_lines() {
+    let mut record = power_on();
+    let mut ask = |line: &str| {
+        let answer = script::answer(&mut record, line.as_bytes());
+        String::from_utf8(answer).unwrap()
+    };
+    assert_eq!(ask(""), "");
+    assert_eq!(ask("R"), "R 1\n");
+    assert_eq!(ask("Q 6"), "Q 0 0\n");
+    assert_eq!(ask("Q 0"), "Q 0 1 0 0 0 0 0 0\n");
+    assert_eq!(ask("Q 5"), "Q 0 4 0 00000000000000 0 00000000000000 0\n");
+    assert_eq!(ask("Q 7"), "Q 4 0\n");
+    assert_eq!(ask("M"), "M 0 0\n");
+    assert_eq!(ask("V"), "V 0 0 0\n");
+    assert_eq!(ask("B"), "B 0 0 30 0 0\n");
+    assert_eq!(ask("W 8 2 13 0"), "W 0 7 1B494431330D0A34\n");
+    assert_eq!(ask("W 0 2 2 0"), "W 2 0 -\n");
+    assert_eq!(ask("T 3 0 -"), "T 3 0 030A11\n");
+    assert_eq!(ask("G 10 0 ff"), "G 0 10 1B4772302C46467A0D0A\n");
+    let answer = ask("F 2 411b51");
+    let lines: Vec<&str> = answer.lines().collect();
+    assert_eq!(lines.len(), 12);
+    assert_eq!(lines[0], "F 0 3 0 030A");
+    assert_eq!(lines[1], "screen 1 0 0 0 0 1");
+    assert_eq!(lines[2], "labels 0 00000000000000 0 00000000000000");
+    assert_eq!(lines[3], "icons 0 0 0 0 0 0");
+    assert_eq!(lines[4], "volume 0 0 0 0");
+    assert_eq!(lines[5], "times 12 12");
+    assert_eq!(lines[6], "buzzer 0");
+    assert_eq!(lines[7], "backlight 0 30 0 0");
+    assert_eq!(lines[8], "held 0 0 0 0");
+    assert_eq!(lines[9], format!("frame 1 1 51{}", "00".repeat(249)));
+    assert_eq!(lines[10], format!("text 41{}", "20".repeat(79)));
+    assert_eq!(lines[11], format!("picture {}", "00".repeat(672)));
+    assert!(ask("S 31 0 65535").contains("held 0 0 65535 0\n"));
+    assert_eq!(ask("R"), "R 0\n");
+    assert_eq!(ask("Q 7"), "Q 1 0\n");
+    assert!(ask("K 0 - -").starts_with("K 1 0 0 -\nscreen"));
+    assert!(ask("C").starts_with("C 1\nscreen"));
+    assert!(ask("S 1 0 261").starts_with("S\nscreen 1 5 "));
+    assert!(ask("S 0 0 256").contains("screen 1 "));
+    assert!(ask("P").starts_with("P\nscreen 1 0 0 0 0 0\n"));
+    assert!(ask("K 1 000000C8 0080").starts_with("K 0 2 1 CC\n"));
+    for line in [
+        " ",
+        "P ",
+        " P",
+        "p",
+        "F",
+        "F 1",
+        "F 301 -",
+        "F 1  -",
+        "F 1 4",
+        "F 1 4g",
+        "F 000001 -",
+        "F +1 -",
+        "F 1 - -",
+        "K 1 00 -",
+        "S 36 0 0",
+        "S 1 1 0",
+        "S 6 80 0",
+        "S 1 0 65536",
+        "Q 256",
+        "W 1 27 0 0",
+        "W 1 0 0",
+        "T 1 2 -",
+        "G 1 256 -",
+        "F 1 --",
+        "F 1 ",
+        "P\r",
+    ] {
+        assert_eq!(ask(line), "what\n", "{line:?}");
+    }
+    assert_eq!(ask("R"), "R 1\n");
+}
+
+#[test]
+fn lines_of_calls_read_back() {
+    for seed in 0..3 {
+        for (call, _, _) in generate::calls(seed, 500, "PSRFKCBQMVWTGXY") {
+            assert_eq!(script::parse(&script::line(&call)), call);
+        }
+    }
+}
+
+#[test]
+fn kinds_are_kept() {
+    for kinds in ["F", "PSRF", "K", "W", "TG", "QMV", "CB"] {
+        let calls = generate::calls(5, 300, kinds);
+        assert_eq!(calls.len(), 300);
+        for (call, _, _) in calls {
+            assert!(kinds.contains(script::letter(&call)));
+        }
+    }
+}
+
+#[test]
+fn unused_bytes_come_first() {
+    // Between two stream calls with no field set, the second starts with
+    // what the first left.
+    let calls = generate::calls(1, 3000, "F");
+    let mut stops = 0;
+    for pair in calls.windows(2) {
+        let [(Call::Stream { bytes, .. }, _, Answer::Counts { used, .. }), (next, _, _)] = pair
+        else {
+            panic!();
+        };
+        let Call::Stream { bytes: next, .. } = next else {
+            panic!();
+        };
+        let left = &bytes[*used..];
+        let shared = left.len().min(next.len());
+        if !left.is_empty() && shared > 0 && left[..shared] == next[..shared] {
+            stops += 1;
+        }
+    }
+    assert!(stops > 100, "{stops}");
+}
+
+#[test]
+fn scripts_reach_everything() {
+    let cover = cover::over(0..60, 2000);
+    let missing: Vec<String> = cover::wanted()
+        .into_iter()
+        .filter(|name| cover.count(name) == 0)
+        .collect();
+    assert!(missing.is_empty(), "{missing:?}");
+}
+
+#[test]
+fn model_agrees_with_itself() {
+    property::commands_read_back().unwrap();
+    for (name, check) in property::CHECKS {
+        for seed in 0..60 {
+            if let Err(why) = check(seed) {
+                panic!("{name}: {why}");
+            }
+        }
+    }
+}

@@ -1,0 +1,1391 @@
+//! Random scripts by a seed. The generator makes each call on the model as
+//! well, so that it knows the record and the used counts.
+
+use crate::grammar::{Command, SHAPES};
+use crate::keys::{self, Edge};
+use crate::ranges::{faults, in_range};
+use crate::record::*;
+use crate::rng::Rng;
+use crate::script::{perform, Answer, Call, COMMANDS};
+use crate::writers;
+
+/// The letters of all calls; X stands for lines that can't be taken, Y (only
+/// by name) for such lines about which a strict and a lenient reader of
+/// scripts may differ.
+pub const KINDS: &str = "PSRFKCBQMVWTGX";
+
+/// Values around the ends of the ranges.
+const EDGES: [u16; 44] = [
+    0, 1, 2, 3, 4, 5, 6, 7, 8, 9, 10, 11, 12, 13, 14, 15, 16, 17, 18, 19, 20, 25, 26, 27, 30, 31,
+    32, 33, 48, 49, 50, 51, 99, 100, 127, 128, 249, 250, 251, 254, 255, 256, 511, 999,
+];
+
+pub struct Generator {
+    rng: Rng,
+    kinds: String,
+    record: Record,
+    /// Bytes not yet used, to be offered again first.
+    pending: Vec<u8>,
+    /// The clock of the key logs.
+    now: u16,
+    calls: Vec<(Call, Record, Answer)>,
+}
+
+/// The calls of a script, each with the record before it and its answer.
+pub fn calls(seed: u64, count: usize, kinds: &str) -> Vec<(Call, Record, Answer)> {
+    let mut generator = Generator {
+        rng: Rng::new(seed),
+        kinds: kinds.to_string(),
+        record: power_on(),
+        pending: vec![],
+        now: 0,
+        calls: vec![],
+    };
+    generator.now = generator.rng.next() as u16;
+    let mut idle = 0;
+    while generator.calls.len() < count && idle < 100_000 {
+        let before = generator.calls.len();
+        generator.episode();
+        idle = if generator.calls.len() == before {
+            idle + 1
+        } else {
+            0
+        };
+    }
+    generator.calls.truncate(count);
+    generator.calls
+}
+
+/// The text of a script.
+pub fn script(seed: u64, count: usize, kinds: &str) -> Vec<u8> {
+    let mut out = vec![];
+    for (call, _, _) in calls(seed, count, kinds) {
+        out.extend(crate::script::line(&call));
+        out.push(LF);
+    }
+    out
+}
+
+/// A random stream of some pieces.
+pub fn stream_of(rng: &mut Rng, pieces: usize) -> Vec<u8> {
+    (0..pieces).flat_map(|_| piece(rng)).collect()
+}
+
+/// A record in range, brought there by random calls.
+pub fn random_record(seed: u64) -> Record {
+    let mut record = power_on();
+    for (call, before, _) in calls(seed, 60, "SFKC") {
+        record = before;
+        perform(&mut record, &call);
+    }
+    if in_range(&record) {
+        record
+    } else {
+        power_on()
+    }
+}
+
+impl Generator {
+    fn has(&self, letter: char) -> bool {
+        self.kinds.contains(letter)
+    }
+
+    /// Makes a call if its letter is wanted.
+    fn emit(&mut self, call: Call) -> Option<Answer> {
+        let letter = crate::script::letter(&call);
+        if letter != 'X' && !self.has(letter) {
+            return None;
+        }
+        let before = self.record.clone();
+        let answer = perform(&mut self.record, &call);
+        self.calls.push((call, before, answer.clone()));
+        Some(answer)
+    }
+
+    fn episode(&mut self) {
+        match self.rng.below(100) {
+            0 => {
+                self.emit(Call::PowerOn);
+            }
+            1..=34 => self.streams(),
+            35..=49 => self.key_logs(),
+            50..=54 => self.seconds(),
+            55..=62 => self.questions(),
+            63..=72 => self.write(),
+            73..=84 => self.odd_values(),
+            85..=95 => self.out_of_range(),
+            96 => {
+                self.emit(Call::InRange);
+            }
+            97 if self.has('X') => {
+                let line = clear_misfit(&mut self.rng);
+                self.emit(Call::Other(line));
+            }
+            98 if self.has('Y') => {
+                let line = doubtful_misfit(&mut self.rng);
+                self.emit(Call::Other(line));
+            }
+            _ => {
+                if self.rng.one_in(3) {
+                    self.pending.clear();
+                }
+            }
+        }
+    }
+
+    // Streams.
+
+    fn room(&mut self) -> u16 {
+        match self.rng.below(10) {
+            0..=2 => 0,
+            3 | 4 => 1,
+            5 => 2,
+            6 => self.rng.between(3, 8) as u16,
+            7 => 300,
+            _ => self.rng.between(0, 40) as u16,
+        }
+    }
+
+    fn streams(&mut self) {
+        for _ in 0..self.rng.between(1, 6) {
+            let pieces = match self.rng.below(20) {
+                0 => self.rng.between(10, 60),
+                1..=3 => 0,
+                _ => self.rng.between(1, 5),
+            };
+            let more = if self.rng.one_in(6) {
+                sender(&mut self.rng, pieces)
+            } else {
+                stream_of(&mut self.rng, pieces)
+            };
+            self.pending.extend(more);
+            self.stream_call();
+            if self.rng.one_in(4) {
+                self.question();
+            }
+        }
+        if self.pending.len() > 3000 {
+            self.pending.clear();
+        }
+    }
+
+    fn stream_call(&mut self) {
+        let all = self.pending.len().min(crate::script::BYTES);
+        let cut = match self.rng.below(8) {
+            0 => self.rng.below(all + 1),
+            1 => all.min(self.rng.between(0, 12)),
+            2 => all - self.rng.between(0, 3).min(all),
+            _ => all,
+        };
+        let room = self.room();
+        let bytes = self.pending[..cut].to_vec();
+        if let Some(Answer::Counts { used, .. }) = self.emit(Call::Stream { room, bytes }) {
+            self.pending.drain(..used);
+        }
+    }
+
+    // Key logs.
+
+    fn key_logs(&mut self) {
+        for _ in 0..self.rng.between(1, 4) {
+            let call = self.key_log();
+            self.emit(call);
+        }
+        if self.rng.one_in(3) {
+            self.question();
+        }
+    }
+
+    fn key_log(&mut self) -> Call {
+        let entries = match self.rng.below(20) {
+            0 => 0,
+            1 => self.rng.between(100, 400),
+            _ => self.rng.between(1, 14),
+        };
+        let mut scratch = self.record.clone();
+        let judge = in_range(&scratch);
+        let (mut ticks, mut edges) = (vec![], vec![]);
+        let favourite = self.rng.below(19) as u8;
+        for _ in 0..entries {
+            let held = scratch.held;
+            let key = match self.rng.below(4) {
+                0 => self.rng.below(19) as u8,
+                1 if held.down && held.key < 19 => held.key,
+                _ => favourite,
+            };
+            let edge = match self.rng.below(20) {
+                0..=4 if held.down => 128 + held.key % 19,
+                5 => 128 + key,
+                6 => key,
+                7..=12 if !held.down => key,
+                _ => 255,
+            };
+            let time = if held.long {
+                scratch.time2
+            } else {
+                scratch.time1
+            };
+            let threshold = held.tick.wrapping_add(10 * u16::from(time));
+            self.now = match self.rng.below(16) {
+                0 => self.now,
+                1 => self.now.wrapping_add(1),
+                2 => self.rng.next() as u16,
+                3 => self.now.wrapping_sub(self.rng.below(5) as u16),
+                4 => self.rng.pick(&[0, 1, 65_530, 65_534, 65_535]),
+                5 => held.tick,
+                6 => held.tick.wrapping_sub(1),
+                7 => threshold.wrapping_add(1),
+                8 | 9 if held.down => threshold.wrapping_sub(1),
+                10..=13 if held.down => threshold,
+                _ => self.now.wrapping_add(self.rng.below(200) as u16),
+            };
+            if judge {
+                if let Some(edge) = keys::edge(edge) {
+                    keys::take(&mut scratch, self.now, edge);
+                }
+            }
+            ticks.push(self.now);
+            edges.push(edge);
+        }
+        if self.rng.one_in(12) && !edges.is_empty() {
+            let place = self.rng.below(edges.len());
+            edges[place] = match self.rng.below(3) {
+                0 => self.rng.pick(&[19, 20, 127, 147, 148, 254]),
+                1 => self.rng.between(19, 127) as u8,
+                _ => self.rng.between(147, 254) as u8,
+            };
+        }
+        if self.rng.one_in(12) {
+            match self.rng.below(4) {
+                0 => edges.push(self.rng.byte()),
+                1 => ticks.push(self.rng.next() as u16),
+                2 => edges.clear(),
+                _ => {
+                    ticks.pop();
+                }
+            }
+        }
+        let room = match self.rng.below(6) {
+            0 => 0,
+            1 => 1,
+            2 => 2,
+            _ => self.rng.between(0, 30) as u16,
+        };
+        Call::Keys { room, ticks, edges }
+    }
+
+    // Seconds.
+
+    fn seconds(&mut self) {
+        for _ in 0..self.rng.between(1, 4) {
+            let call = if self.rng.one_in(2) {
+                Call::Thin
+            } else {
+                Call::Second
+            };
+            self.emit(call);
+        }
+    }
+
+    // Questions.
+
+    fn questions(&mut self) {
+        if self.rng.one_in(3) {
+            for row in [0, 1, 2, 3, 4, 5, 6, 7, 8, 255] {
+                self.emit(Call::Row { row });
+            }
+            self.emit(Call::Sms);
+            self.emit(Call::Volume);
+        } else {
+            for _ in 0..self.rng.between(1, 4) {
+                self.question();
+            }
+        }
+    }
+
+    fn question(&mut self) {
+        let call = match self.rng.below(9) {
+            0 | 1 => Call::Sms,
+            2 | 3 => Call::Volume,
+            4 => Call::InRange,
+            5 => Call::Row {
+                row: self.rng.pick(&[6, 7, 8, 9, 100, 128, 254, 255]),
+            },
+            _ => Call::Row {
+                row: self.rng.below(8) as u8,
+            },
+        };
+        self.emit(call);
+    }
+
+    // Writers.
+
+    fn write(&mut self) {
+        for _ in 0..self.rng.between(1, 4) {
+            let call = match self.rng.below(4) {
+                0 | 1 => self.command_call(),
+                2 => self.label_call(),
+                _ => self.picture_call(),
+            };
+            self.emit(call);
+        }
+    }
+
+    /// A room around the exact length.
+    fn room_for(&mut self, length: usize) -> u16 {
+        let room = match self.rng.below(8) {
+            0 => 0,
+            1 => length.saturating_sub(1),
+            2 | 3 => length,
+            4 => length + 1,
+            5 => self.rng.below(length + 1),
+            _ => self.rng.between(length, 300.max(length)),
+        };
+        room.min(300) as u16
+    }
+
+    fn command_call(&mut self) -> Call {
+        let number = self.rng.below(usize::from(COMMANDS)) as u16;
+        let command = crate::script::command(number);
+        let mut numbers = [0; 2];
+        let good = good_numbers(&mut self.rng, command);
+        numbers[..good.len()].copy_from_slice(&good);
+        for (place, number) in numbers.iter_mut().enumerate().take(good.len()) {
+            *number = match self.rng.below(12) {
+                0 => self.rng.next() as u16,
+                1 => self.rng.below(256) as u16,
+                2 => self.rng.pick(&EDGES),
+                3 | 4 => just_above(&mut self.rng, command, place),
+                5 => self.rng.below(21) as u16,
+                _ => *number,
+            };
+        }
+        let mut room = [0; 300];
+        let (_, length) = writers::command(command, numbers, &mut room);
+        Call::Command {
+            room: self.room_for(length.max(5)),
+            command: number,
+            numbers,
+        }
+    }
+
+    fn label_call(&mut self) -> Call {
+        let length = match self.rng.below(12) {
+            0 => self.rng.between(8, 300),
+            1 | 2 => 8,
+            3 | 4 => 7,
+            _ => self.rng.between(0, 9),
+        };
+        let mut codes: Vec<u8> = (0..length).map(|_| text_code(&mut self.rng)).collect();
+        if self.rng.one_in(5) && length > 0 {
+            let place = self.rng.below(length);
+            codes[place] = self.rng.pick(&[0, 0x0A, 0x0D, 0x1B, 0x1F, 0x10]);
+        }
+        Call::Label {
+            room: self.room_for(length + 6),
+            side: self.rng.below(2) as u8,
+            codes,
+        }
+    }
+
+    fn picture_call(&mut self) -> Call {
+        let row = match self.rng.below(12) {
+            0 => self.rng.pick(&[7, 8, 9, 10, 16, 100, 128, 254, 255]),
+            1..=3 => 6,
+            _ => self.rng.below(7) as u8,
+        };
+        let mut columns = columns(&mut self.rng);
+        match self.rng.below(12) {
+            0 => columns.clear(),
+            1 => columns.resize(97, columns[0]),
+            2 => columns.resize(self.rng.between(90, 300), self.rng.byte()),
+            3 => columns.resize(96, self.rng.byte()),
+            _ => (),
+        }
+        if row == 6 && !self.rng.one_in(4) {
+            for dots in &mut columns {
+                *dots &= 31;
+            }
+            if self.rng.one_in(4) && !columns.is_empty() {
+                let place = self.rng.below(columns.len());
+                columns[place] = self.rng.pick(&[31, 32, 33, 64, 255]);
+            }
+        }
+        let mut room = [0; 300];
+        let (_, length) = writers::picture(row, &columns, &mut room);
+        Call::Picture {
+            room: self.room_for(length.max(9)),
+            row,
+            columns,
+        }
+    }
+
+    // Fields.
+
+    fn put(&mut self, field: u16, place: usize, value: u16) {
+        // A byte's value is taken modulo 256.
+        let far = field != 31 && self.rng.one_in(20);
+        let value = match value {
+            0..=255 if far && !is_flag(field) => value + 256 * self.rng.between(1, 255) as u16,
+            1 if far => self.rng.pick(&[2, 256, 65_535]),
+            _ => value,
+        };
+        self.emit(Call::Set {
+            field,
+            place: place as u16,
+            value,
+        });
+    }
+
+    /// Odd values that are in range.
+    fn odd_values(&mut self) {
+        if !self.has('S') {
+            return;
+        }
+        match self.rng.below(10) {
+            0 => self.odd_volume(),
+            1 => self.odd_held(),
+            2 | 3 => self.odd_frame(),
+            4 => self.odd_label(),
+            5 => self.odd_light(),
+            6 => {
+                let mode = self.rng.pick(&[0, 1, 5, 6]);
+                let rows = if mode < 5 { 4 } else { 5 };
+                let row = self.rng.below(rows) as u16;
+                self.put(1, 0, mode);
+                self.put(4, 0, row);
+                let column = self.rng.pick(&[0, 14, 15, 16]);
+                self.put(5, 0, column);
+                let overlay = self.rng.pick(&[0, 0, 11, 12, 13]);
+                self.put(2, 0, overlay);
+            }
+            _ => {
+                for _ in 0..self.rng.between(1, 4) {
+                    let field = self.rng.below(36) as u16;
+                    let place = self.rng.below(places(field));
+                    let value = self.any_value();
+                    let mut tried = self.record.clone();
+                    set(&mut tried, field, place, value);
+                    if in_range(&tried) {
+                        self.put(field, place, value);
+                    }
+                }
+            }
+        }
+    }
+
+    fn any_value(&mut self) -> u16 {
+        match self.rng.below(3) {
+            0 => self.rng.byte().into(),
+            _ => self.rng.pick(&EDGES) % 256,
+        }
+    }
+
+    fn odd_volume(&mut self) {
+        let which = self.rng.below(3) as u16;
+        let level = if which == 0 {
+            0
+        } else {
+            self.rng.between(1, 10) as u16
+        };
+        let hidden = u16::from(which == 0 && self.rng.one_in(2));
+        let mute = self.rng.below(2) as u16;
+        self.put(18, 0, which);
+        self.put(19, 0, level);
+        self.put(20, 0, mute);
+        self.put(21, 0, hidden);
+    }
+
+    fn odd_held(&mut self) {
+        let key = self.rng.below(19) as u16;
+        let tick = match self.rng.below(3) {
+            0 => self.now,
+            1 => self.now.wrapping_sub(self.rng.below(600) as u16),
+            _ => self.rng.next() as u16,
+        };
+        let long = self.rng.below(2) as u16;
+        self.put(29, 0, 1);
+        self.put(30, 0, key);
+        self.put(31, 0, tick);
+        self.put(32, 0, long);
+        if self.rng.one_in(2) {
+            let time1 = self.rng.between(4, 50) as u16;
+            let time2 = self.rng.pick(&[0, 4, 5, 12, 50]);
+            self.put(22, 0, time1);
+            self.put(23, 0, time2);
+        }
+    }
+
+    fn odd_light(&mut self) {
+        let mode = self.rng.pick(&[0, 1, 2, 2]);
+        let left = match mode {
+            2 => self.rng.pick(&[0, 1, 2, 30, 255]),
+            _ => 0,
+        };
+        let duration = self.rng.pick(&[1, 2, 30, 254, 255]);
+        self.put(25, 0, mode);
+        self.put(26, 0, duration);
+        self.put(27, 0, left);
+    }
+
+    fn odd_label(&mut self) {
+        let (length_field, codes_field) = self.rng.pick(&[(7, 8), (9, 10)]);
+        let length = self.rng.between(0, 7);
+        for place in 0..LABEL {
+            let code = if place < length {
+                text_code(&mut self.rng)
+            } else {
+                0
+            };
+            if get(&self.record, codes_field, place) != u16::from(code) {
+                self.put(codes_field, place, code.into());
+            }
+        }
+        self.put(length_field, 0, length as u16);
+    }
+
+    fn odd_frame(&mut self) {
+        // The places that hold something are few, or the script grows long.
+        let used: Vec<usize> = (0..FRAME)
+            .filter(|&place| self.record.frame.bytes[place] != 0)
+            .collect();
+        if used.len() > 30 {
+            return;
+        }
+        for place in used {
+            self.put(35, place, 0);
+        }
+        match self.rng.below(5) {
+            0 => {
+                self.put(33, 0, 0);
+                self.put(34, 0, 0);
+            }
+            1 => {
+                self.put(33, 0, 2);
+                self.put(34, 0, 0);
+            }
+            2 | 3 => {
+                // A frame of zeros just short of overlong.
+                let length = self.rng.pick(&[0, 1, 196, 247, 248, 249, 250]);
+                self.put(33, 0, 1);
+                self.put(34, 0, length);
+                for _ in 0..self.rng.below(3) {
+                    let place = self.rng.below(usize::from(length));
+                    let value = self.any_value();
+                    if place < usize::from(length) && value != 0x1B && value != 0x0D {
+                        self.put(35, place, value);
+                    }
+                }
+            }
+            _ => {
+                let frame = good_frame(&mut self.rng);
+                let body = &frame[1..frame.len().min(12)];
+                let body: Vec<u8> = body
+                    .iter()
+                    .copied()
+                    .take_while(|&byte| byte != CR && byte != ESC)
+                    .collect();
+                let length = self.rng.below(body.len() + 1);
+                self.put(33, 0, 1);
+                self.put(34, 0, length as u16);
+                for (place, byte) in body[..length].iter().enumerate() {
+                    self.put(35, place, u16::from(*byte));
+                }
+                self.pending = frame[1 + length..].to_vec();
+            }
+        }
+        if !in_range(&self.record) {
+            self.put(33, 0, 0);
+        }
+        if self.rng.one_in(2) {
+            let more = match self.rng.below(4) {
+                0 => vec![CR],
+                1 => vec![ESC],
+                2 => vec![b'0'; self.rng.below(5)],
+                _ => vec![],
+            };
+            self.pending.splice(0..0, more);
+        }
+        self.stream_call();
+    }
+
+    /// Fields out of range, some calls on them, and back again.
+    fn out_of_range(&mut self) {
+        if !self.has('S') || !in_range(&self.record) {
+            self.emit(Call::PowerOn);
+            return;
+        }
+        let kept = self.record.clone();
+        let fields = if self.rng.one_in(5) {
+            self.rng.between(2, 5)
+        } else {
+            1
+        };
+        let mut touched = vec![];
+        for _ in 0..fields {
+            let field = self.rng.pick(&REFUSABLE);
+            touched.extend(self.spoil(field));
+        }
+        for _ in 0..self.rng.between(1, 5) {
+            match self.rng.below(12) {
+                0 => {
+                    self.emit(Call::InRange);
+                }
+                1..=3 => {
+                    let keep = std::mem::take(&mut self.pending);
+                    let pieces = self.rng.below(4);
+                    self.pending = stream_of(&mut self.rng, pieces);
+                    self.stream_call();
+                    self.pending = keep;
+                }
+                4 | 5 => {
+                    let call = self.key_log();
+                    self.emit(call);
+                }
+                6 | 7 => self.seconds(),
+                _ => self.question(),
+            }
+        }
+        if self.rng.one_in(25) && self.has('P') {
+            self.emit(Call::PowerOn);
+        } else {
+            for (field, place) in touched {
+                let old = get(&kept, field, place);
+                if get(&self.record, field, place) != old {
+                    self.put(field, place, old);
+                }
+            }
+        }
+    }
+
+    /// Puts one field out of range, alone if it can be found. Gives the
+    /// places it touched.
+    fn spoil(&mut self, field: u16) -> Vec<(u16, usize)> {
+        let mut settings: Vec<(u16, usize, u16)> = match field {
+            21 if self.record.volume.which == 0 => {
+                let which = self.rng.between(1, 2) as u16;
+                let level = self.rng.between(1, 10) as u16;
+                vec![(18, 0, which), (19, 0, level)]
+            }
+            27 if self.record.backlight.mode == 2 => {
+                vec![(25, 0, self.rng.below(2) as u16), (27, 0, 0)]
+            }
+            30 if !self.record.held.down && self.rng.one_in(2) => vec![(29, 0, 1)],
+            31 | 32 if self.record.held.down => {
+                vec![(29, 0, 0), (30, 0, 0), (31, 0, 0), (32, 0, 0)]
+            }
+            34 | 35 if self.record.frame.bytes == [0; FRAME] && self.rng.one_in(2) => {
+                vec![(33, 0, self.rng.pick(&[0, 2, 2])), (34, 0, 0)]
+            }
+            _ => vec![],
+        };
+        let mut ready = self.record.clone();
+        for &(field, place, value) in &settings {
+            set(&mut ready, field, place, value);
+        }
+        let before = faults(&ready);
+        let mut found = None;
+        for _ in 0..200 {
+            let place = match field {
+                11 => 576 + self.rng.below(96),
+                35 if ready.frame.length > 0 && self.rng.one_in(2) => {
+                    self.rng.below(usize::from(ready.frame.length).min(FRAME))
+                }
+                _ => self.rng.below(places(field)),
+            };
+            let value = match self.rng.below(6) {
+                _ if is_flag(field) => 1,
+                0 if field == 31 => self.rng.pick(&[1, 256, 512, 32_768, 65_535]),
+                0 => self.rng.byte().into(),
+                1 => self.rng.pick(&EDGES) % 256,
+                _ => self.rng.pick(just_outside(field)),
+            };
+            let mut tried = ready.clone();
+            set(&mut tried, field, place, value);
+            let now = faults(&tried);
+            if now != before && now.contains(&field) {
+                let alone = now == [field] || before.len() + 1 == now.len();
+                found = Some((field, place, value));
+                if alone {
+                    break;
+                }
+            }
+        }
+        settings.extend(found);
+        let mut touched = vec![];
+        for (field, place, value) in settings {
+            self.put(field, place, value);
+            touched.push((field, place));
+        }
+        touched
+    }
+}
+
+/// The fields that can be out of range.
+pub const REFUSABLE: [u16; 30] = [
+    1, 2, 4, 5, 6, 7, 8, 9, 10, 11, 12, 13, 14, 15, 16, 17, 18, 19, 21, 22, 23, 25, 26, 27, 30, 31,
+    32, 33, 34, 35,
+];
+
+/// Values right outside the range of a field, in some record.
+fn just_outside(field: u16) -> &'static [u16] {
+    match field {
+        1 => &[2, 4, 7, 10, 11, 255],
+        2 => &[1, 5, 10, 14, 255],
+        4 => &[4, 5],
+        5 => &[17, 18, 255],
+        6 => &[0x1F, 0x1B, 0x0D, 0],
+        7 | 9 => &[8, 9, 255],
+        8 | 10 => &[0x1F, 0, 1, 0x20],
+        11 => &[32, 33, 64, 255],
+        12 | 15 => &[2, 255],
+        13 => &[2, 3, 254, 128],
+        14 => &[7, 255],
+        16 => &[20, 255],
+        17 => &[4, 255],
+        18 => &[3, 255],
+        19 => &[0, 1, 11, 255],
+        22 => &[3, 0, 51, 255],
+        23 => &[1, 2, 3, 51, 255],
+        25 => &[3, 255],
+        26 => &[0],
+        27 => &[1, 255],
+        30 => &[19, 1, 128, 255],
+        33 => &[3, 255],
+        34 => &[1, 250, 251, 255],
+        35 => &[0x1B, 0x0D, 1],
+        _ => &[1],
+    }
+}
+
+/// A number right outside the range of a command's place.
+fn just_above(rng: &mut Rng, command: Command, place: usize) -> u16 {
+    use Command::*;
+    match (command, place) {
+        (Mode, _) => rng.pick(&[2, 4, 7, 10, 14, 15, 18]),
+        (Position, 0) => rng.pick(&[4, 5, 6]),
+        (Position, _) => 16,
+        (IconU, _) => rng.pick(&[2, 254, 256]),
+        (IconF | Picture, _) => 7,
+        (IconP, _) => 20,
+        (IconW, _) => 4,
+        (Private | HandsfreeJ | HandsfreeI, _) => 11,
+        (Times, 0) => rng.pick(&[0, 3, 51]),
+        (Times, _) => rng.pick(&[1, 3, 51]),
+        (Buzzer | LightNumber, _) => 256,
+        _ => 2,
+    }
+}
+
+fn is_flag(field: u16) -> bool {
+    [0, 3, 20, 21, 28, 29, 32].contains(&field)
+}
+
+// Pieces of streams.
+
+fn text_code(rng: &mut Rng) -> u8 {
+    match rng.below(6) {
+        0 => rng.between(0x80, 0xFF) as u8,
+        1 => rng.pick(&[0x20, 0x7E, 0x7F, 0x80, 0xFE, 0xFF, b'?', b'[', b'0']),
+        _ => rng.between(0x20, 0x7E) as u8,
+    }
+}
+
+/// Numbers in range for a command.
+fn good_numbers(rng: &mut Rng, command: Command) -> Vec<u16> {
+    use Command::*;
+    let up_to = |rng: &mut Rng, high: usize| match rng.below(3) {
+        0 => high as u16,
+        _ => rng.between(0, high) as u16,
+    };
+    match command {
+        Mode => vec![rng.pick(&[0, 1, 5, 6, 11, 12, 13])],
+        Position => vec![up_to(rng, 4), up_to(rng, 15)],
+        IconS | IconR | Mute => vec![up_to(rng, 1)],
+        IconU => vec![rng.pick(&[0, 1, 255])],
+        IconF | Picture => vec![up_to(rng, 6)],
+        IconP => vec![up_to(rng, 19)],
+        IconW => vec![up_to(rng, 3)],
+        Private | HandsfreeJ | HandsfreeI => vec![up_to(rng, 10)],
+        Times => vec![
+            rng.pick(&[4, 5, 8, 12, 20, 49, 50]),
+            rng.pick(&[0, 4, 5, 8, 12, 50]),
+        ],
+        Buzzer => vec![up_to(rng, 255)],
+        LightNumber => vec![rng.pick(&[0, 0, 1, 2, 3, 30, 255])],
+        _ => vec![],
+    }
+}
+
+/// Columns with runs of all lengths.
+fn columns(rng: &mut Rng) -> Vec<u8> {
+    let length = match rng.below(4) {
+        0 => rng.pick(&[1, 2, 26, 27, 28, 52, 53, 54, 78, 79, 95, 96]),
+        1 => 96,
+        _ => rng.between(1, 96),
+    };
+    if rng.one_in(8) {
+        // No two neighbours equal.
+        let step = rng.between(1, 255);
+        return (0..length)
+            .map(|place| (place * step % 256) as u8)
+            .collect();
+    }
+    let mut columns = vec![];
+    while columns.len() < length {
+        let run = match rng.below(6) {
+            0 => rng.pick(&[25, 26, 27, 28, 52, 53]),
+            1 => rng.between(1, 96),
+            2 => 2,
+            _ => 1,
+        };
+        let any = rng.byte();
+        let dots = rng.pick(&[0, 0xFF, 0x1F, 0x20, 0xE0, any]);
+        columns.extend(vec![dots; run]);
+    }
+    columns.truncate(length);
+    columns
+}
+
+/// Data that spells these columns, not always in the longest runs.
+fn data(rng: &mut Rng, columns: &[u8]) -> Vec<u8> {
+    let shortest = rng.one_in(4);
+    let mut out = vec![];
+    for run in columns.chunk_by(|a, b| a == b) {
+        let mut left = run.len();
+        while left > 0 {
+            let most = left.min(26);
+            let times = match rng.below(3) {
+                _ if shortest => 1,
+                0 => rng.between(1, most),
+                _ => most,
+            };
+            if times > 1 {
+                out.push(b'a' + times as u8 - 2);
+            }
+            out.extend(format!("{:02X}", run[0]).bytes());
+            left -= times;
+        }
+    }
+    out
+}
+
+/// The bytes between ESC and CR of a command with these values. Numbers are
+/// padded at random, up to `digits`.
+fn body(rng: &mut Rng, command: Command, numbers: &[u16], rest: &[u8], digits: usize) -> Vec<u8> {
+    use crate::grammar::Piece::*;
+    let mut numbers = numbers.iter();
+    let mut out = vec![];
+    for piece in crate::grammar::shape(command) {
+        match piece {
+            Is(word) => out.extend(*word),
+            Number => {
+                let width = rng.between(1, digits);
+                let n = numbers.next().copied().unwrap_or(0);
+                out.extend(format!("{n:0width$}").bytes());
+            }
+            Digit => out.extend(numbers.next().copied().unwrap_or(0).to_string().bytes()),
+            Label | Data => out.extend(rest),
+        }
+    }
+    out
+}
+
+fn closed(rng: &mut Rng, body: &[u8]) -> Vec<u8> {
+    let end: &[u8] = match rng.below(8) {
+        0 => &[CR],
+        1 => &[LF, CR],
+        2 => &[CR, CR, LF],
+        _ => &[CR, LF],
+    };
+    [&[ESC], body, end].concat()
+}
+
+fn any_command(rng: &mut Rng) -> Command {
+    match rng.below(6) {
+        0 => rng.pick(&[Command::LeftLabel, Command::RightLabel]),
+        1 => Command::Picture,
+        _ => rng.pick(&SHAPES.map(|(command, _)| command)),
+    }
+}
+
+/// A frame of the grammar, in range (a cursor row perhaps not in the mode).
+fn good_frame(rng: &mut Rng) -> Vec<u8> {
+    let command = any_command(rng);
+    let numbers = good_numbers(rng, command);
+    let rest = match command {
+        Command::Picture => {
+            let columns = columns(rng);
+            data(rng, &columns)
+        }
+        _ => (0..rng.between(0, 7)).map(|_| text_code(rng)).collect(),
+    };
+    let body = body(rng, command, &numbers, &rest, 3);
+    let end: &[u8] = if rng.one_in(3) { &[CR] } else { &[CR, LF] };
+    [&[ESC], &body[..], end].concat()
+}
+
+/// A frame whose numbers may be anything, four digits among them.
+fn odd_numbers(rng: &mut Rng) -> Vec<u8> {
+    let command = any_command(rng);
+    let mut numbers = good_numbers(rng, command);
+    if !numbers.is_empty() {
+        for _ in 0..rng.between(1, 2) {
+            let place = rng.below(numbers.len());
+            numbers[place] = match rng.below(8) {
+                0 => rng.below(1000) as u16,
+                1 => rng.below(65_536) as u16,
+                2 => numbers[place] + 1,
+                3 => rng.pick(&EDGES),
+                _ => just_above(rng, command, place),
+            };
+        }
+        if command == Command::Picture && !rng.one_in(4) {
+            numbers[0] = rng.between(6, 9) as u16;
+        }
+    }
+    let digits = if rng.one_in(5) { 4 } else { 3 };
+    let columns = columns(rng);
+    let rest = match command {
+        Command::Picture => data(rng, &columns),
+        _ => (0..rng.between(0, 9)).map(|_| text_code(rng)).collect(),
+    };
+    let body = body(rng, command, &numbers, &rest, digits);
+    closed(rng, &body)
+}
+
+/// One byte changed, dropped or doubled somewhere in a good frame.
+fn near_miss(rng: &mut Rng) -> Vec<u8> {
+    let mut frame = good_frame(rng);
+    for _ in 0..rng.pick(&[1, 1, 1, 2]) {
+        let front = if rng.one_in(2) { 6 } else { 300 };
+        let place = rng.below(frame.len().min(front));
+        match rng.below(5) {
+            0 => frame[place] = rng.byte(),
+            1 => frame[place] = frame[place].wrapping_add(rng.pick(&[1, 255, 32, 224, 128])),
+            2 => frame[place] = rng.pick(b"IDKGrz,;H[&#0123456789EAabyFf\x1B\x0D\x0A\x00"),
+            3 => {
+                frame.remove(place);
+            }
+            _ => frame.insert(place, frame[place]),
+        }
+        if frame.is_empty() {
+            break;
+        }
+    }
+    frame
+}
+
+fn label_frame(rng: &mut Rng) -> Vec<u8> {
+    let mut codes: Vec<u8> = (0..rng.between(0, 9)).map(|_| text_code(rng)).collect();
+    if rng.one_in(3) && !codes.is_empty() {
+        let place = rng.below(codes.len());
+        codes[place] = rng.below(0x20) as u8;
+    }
+    let which = rng.pick(b"0112223");
+    let body = [&b"IK"[..], &[which], &codes].concat();
+    closed(rng, &body)
+}
+
+/// Picture frames good and bad.
+fn picture_frame(rng: &mut Rng) -> Vec<u8> {
+    let columns = columns(rng);
+    let mut data = data(rng, &columns);
+    match rng.below(14) {
+        0 => data = vec![],
+        1 => data.push(rng.pick(b"ayfz0F")),
+        2 => data.splice(0..0, *b"y").for_each(drop),
+        3 => data.make_ascii_lowercase(),
+        4 => data = b"00".repeat(rng.between(94, 99)),
+        5 => {
+            // Runs that end about column 96.
+            data = b"y00y11y22".to_vec();
+            data.push(b'a' + rng.between(14, 18) as u8);
+            data.extend(b"AB");
+            if rng.one_in(2) {
+                data.extend(b"1F");
+            }
+        }
+        6 => {
+            let place = rng.below(data.len());
+            data[place] = rng.pick(b"GghyzabAf09 ;,\x0A\x80`{@:/");
+        }
+        7 => data = b"y00".repeat(rng.between(3, 5)),
+        8 => {
+            data = rng
+                .pick(&[&b"ff"[..], b"y", b"fff", b"f0F", b"0", b"c00dFFg331B2Cf00"])
+                .to_vec()
+        }
+        _ => (),
+    }
+    let row = match rng.below(10) {
+        0 => rng.pick(&[7, 8, 9]),
+        1 | 2 => 6,
+        _ => rng.below(7),
+    };
+    let opening = match rng.below(14) {
+        0 => format!("IG{row};"),
+        1 => format!("Gr{row};"),
+        2 => format!("G{row},"),
+        3 => format!("Gr{row:02},"),
+        4 => "Gr,".to_string(),
+        5 => format!("gr{row},"),
+        _ => format!("Gr{row},"),
+    };
+    let end: &[u8] = match rng.below(10) {
+        0 => b"",
+        1 => b"zz",
+        2 => b"Z",
+        _ => b"z",
+    };
+    let body = [opening.as_bytes(), &data, end].concat();
+    closed(rng, &body)
+}
+
+/// A frame of 245 to 260 bytes, ended or not.
+fn long_frame(rng: &mut Rng) -> Vec<u8> {
+    let opening: &[u8] = rng.pick(&[&b"IK1"[..], b"Gr0,", b"ID0", b"", b"IP1"]);
+    let length = match rng.below(6) {
+        0 => rng.between(300, 600),
+        _ => rng.between(245, 260),
+    };
+    let mut body = opening.to_vec();
+    while body.len() < length {
+        body.push(match rng.below(30) {
+            0 => LF,
+            1 => rng.below(0x20) as u8,
+            _ => text_code(rng),
+        });
+    }
+    let mut body: Vec<u8> = body
+        .into_iter()
+        .map(|byte| {
+            if [ESC, CR].contains(&byte) {
+                b'0'
+            } else {
+                byte
+            }
+        })
+        .collect();
+    if rng.one_in(3) {
+        // A good frame hidden at the front of a long one of zeros.
+        body = [opening, &vec![b'0'; length - opening.len()]].concat();
+    }
+    let end: &[u8] = rng.pick(&[&[CR][..], &[CR, LF], &[ESC], &[], &[ESC, CR]]);
+    [&[ESC], &body[..], end].concat()
+}
+
+fn text_run(rng: &mut Rng) -> Vec<u8> {
+    let length = rng.pick(&[1, 2, 5, 15, 16, 17, 18, 33, 40]);
+    (0..length)
+        .map(|_| match rng.below(20) {
+            0 => rng.below(0x1B) as u8,
+            1 => rng.between(0x1C, 0x1F) as u8,
+            _ => text_code(rng),
+        })
+        .collect()
+}
+
+/// ESC within frames, and frames that never end.
+fn torn(rng: &mut Rng) -> Vec<u8> {
+    let mut out = vec![];
+    for _ in 0..rng.between(1, 4) {
+        let frame = good_frame(rng);
+        let cut = rng.below(frame.len());
+        out.extend(&frame[..cut]);
+        if rng.one_in(4) {
+            out.push(ESC);
+        }
+    }
+    out
+}
+
+/// What other displays and terminals get.
+fn foreign(rng: &mut Rng) -> Vec<u8> {
+    const ANSI: [&[u8]; 14] = [
+        b"\x1B[2J",
+        b"\x1B[H",
+        b"\x1B[1;31m",
+        b"\x1B[0m",
+        b"\x1B[?25l",
+        b"\x1B[10;20H",
+        b"\x1B[3;4f",
+        b"\x1B[K",
+        b"\x1B7",
+        b"\x1B8",
+        b"\x1BM",
+        b"\x1B]0;title\x07",
+        b"\x1B(B",
+        b"ls -l\r\n",
+    ];
+    const PANEL: [&[u8]; 14] = [
+        b"@G\r",
+        b"@S\r",
+        b"%A0400\r",
+        b"%A0000\r",
+        b"%A0001\r",
+        b"@Q\r",
+        b"%A03000004018041\r",
+        b"%A0080\r",
+        b"@S01\r",
+        b"@E02\r",
+        b"%A1000\r",
+        b"%A130062\r",
+        b"%A02\r",
+        b"%A1180\r",
+    ];
+    const MINI: [&[u8]; 26] = [
+        b"\x1B?V",
+        b"\x1B??",
+        b"\x1B!C1;",
+        b"\x1B?C",
+        b"\x1B!c1,1;",
+        b"\x1B!R240,64,0;",
+        b"\x1B!B19200,0,8,1,1;",
+        b"\x1B!S1024;",
+        b"\x1B2I1;",
+        b"\x1B2O-Text transmitted at the 2nd interface-",
+        b"\x1B!P3;",
+        b"\x1B!A0;",
+        b"\x1B!D",
+        b"\x1B!E*Text which will be sent back!*",
+        b"\x1BMS8,4;",
+        b"\x1BMC2,10,35,0,0,15;",
+        b"\x1BC!",
+        b"\x1BTH",
+        b"\x1BTW2,2,18,4;",
+        b"\x1BTP5,2;",
+        b"\x1BTA4;Hello",
+        b"\x1BT?P",
+        b"\x1BGH",
+        b"\x1BGP50,20;",
+        b"\x1BGL40,20;",
+        b"\x1BGR30,20;",
+    ];
+    const SISTER: [&[u8]; 22] = [
+        b"\x1BIA10\r\n",
+        b"\x1BIA\r\n",
+        b"\x1BIH\r\n",
+        b"\x1B&V\r\n",
+        b"\x1BIZ1\r\n",
+        b"\x1B[K\r\n",
+        b"\x1BIV4\r\n",
+        b"\x1BID10\r\n",
+        b"\x1BID14\r\n",
+        b"\x1BID15\r\n",
+        b"\x1BID18\r\n",
+        b"\x1BIX\r\n",
+        b"\x1BIU2\r\n",
+        b"\x1BIT0;0\r\n",
+        b"\x1BIK00\r",
+        b"\x1BIK01\r",
+        b"\x1BIK3x\r",
+        b"\x1BIT20\r",
+        b"\x1B[1H\r",
+        b"\x1B[1;2;3H\r",
+        b"\x1BINIT\r\r\n",
+        b"\x1BQ\r",
+    ];
+    let mut out = vec![];
+    let family = rng.below(4);
+    for _ in 0..rng.between(1, 5) {
+        out.extend(match family {
+            0 => rng.pick(&ANSI),
+            1 => rng.pick(&PANEL),
+            2 => rng.pick(&MINI),
+            _ => rng.pick(&SISTER),
+        });
+        if rng.one_in(4) {
+            out.extend(b"\r\n");
+        }
+    }
+    out
+}
+
+fn noise(rng: &mut Rng) -> Vec<u8> {
+    let plain = rng.one_in(2);
+    (0..rng.between(1, 60))
+        .map(|_| {
+            if plain {
+                rng.byte()
+            } else {
+                rng.pick(b"\x1B\x1B\x1B\x0D\x0D\x0D\x0AIDKEFPLMSTUWJ&[;H#CDEArRGz,ab00112569")
+            }
+        })
+        .collect()
+}
+
+/// Very short frames of the signs of the grammar.
+fn short_frame(rng: &mut Rng) -> Vec<u8> {
+    let first = rng.pick(b"IIIII&[G");
+    let mut body = vec![first];
+    for _ in 0..rng.below(4) {
+        body.push(rng.pick(b"DEKSUFRPWLJIMTBVAHZXG0123456789CDEASRer#;,z"));
+    }
+    if rng.one_in(10) {
+        body.clear();
+    }
+    closed(rng, &body)
+}
+
+/// Several commands of one part of the record.
+fn story(rng: &mut Rng) -> Vec<u8> {
+    const VOLUME: [&str; 9] = [
+        "IL0", "IL4", "IL10", "IJ0", "IJ3", "II0", "II7", "IM0", "IM1",
+    ];
+    const LIGHT: [&str; 9] = [
+        "IE0", "IE1", "IE5", "IE255", "IEE", "IEA", "IES", "IER", "IEe",
+    ];
+    const SCREEN: [&str; 12] = [
+        "ID0", "ID1", "ID5", "ID6", "ID11", "ID12", "ID13", "IDD", "IDE", "&#", "[4;1H", "[3;15H",
+    ];
+    const LABELS: [&str; 9] = [
+        "IK0",
+        "IK1",
+        "IK2",
+        "IK1Keep",
+        "IK2Leave",
+        "IK1Keep it",
+        "IK2Keep on",
+        "IK1K",
+        "IK2older",
+    ];
+    let list = rng.pick(&[&VOLUME[..], &LIGHT, &SCREEN, &LABELS]);
+    let mut out = vec![];
+    for _ in 0..rng.between(2, 5) {
+        out.push(ESC);
+        out.extend(rng.pick(list).bytes());
+        out.extend(b"\r\n");
+        if rng.one_in(4) {
+            out.extend(text_run(rng));
+        }
+    }
+    out
+}
+
+fn piece(rng: &mut Rng) -> Vec<u8> {
+    match rng.below(43) {
+        40.. => story(rng),
+        0..=13 => good_frame(rng),
+        14..=17 => odd_numbers(rng),
+        18..=22 => near_miss(rng),
+        23 | 24 => label_frame(rng),
+        25..=27 => picture_frame(rng),
+        28 => long_frame(rng),
+        29..=31 => text_run(rng),
+        32 | 33 => torn(rng),
+        34 | 35 => foreign(rng),
+        36 => noise(rng),
+        _ => short_frame(rng),
+    }
+}
+
+/// A sender that behaves: modes, positions, text and frames in range.
+fn sender(rng: &mut Rng, pieces: usize) -> Vec<u8> {
+    let mut out = vec![];
+    for _ in 0..pieces {
+        match rng.below(3) {
+            0 => {
+                out.extend(format!("\x1B[{};{}H\r\n", rng.below(6), rng.below(18)).bytes());
+                out.extend(text_run(rng));
+                out.extend(b"\r\n");
+            }
+            _ => out.extend(good_frame(rng)),
+        }
+    }
+    out
+}
+
+// Lines that can't be taken.
+
+fn clear_misfit(rng: &mut Rng) -> Vec<u8> {
+    const LINES: [&str; 40] = [
+        "",
+        "Z",
+        "p",
+        "what",
+        "F",
+        "F 3",
+        "F 301 00",
+        "F 3 0",
+        "F 3 0g",
+        "F 3 000",
+        "F x 00",
+        "F 3 00 00",
+        "F -1 00",
+        "K 3 0000",
+        "K 3 00 00",
+        "K 3 000000 0000",
+        "K 3 0000 0",
+        "K 400 0000 00",
+        "S 36 0 0",
+        "S 99 0 0",
+        "S 6 80 32",
+        "S 8 7 32",
+        "S 10 7 32",
+        "S 11 672 0",
+        "S 35 250 0",
+        "S 1 0",
+        "S 1 0 0 0",
+        "S 1 0 x",
+        "Q",
+        "Q x",
+        "Q 1 1",
+        "W 30 27 0 0",
+        "W 30 27",
+        "W 301 0 0 0",
+        "W 30 0 0",
+        "T 30 2 41",
+        "T 30 0 4",
+        "G 30 0 0",
+        "G 301 0 00",
+        "P 0",
+    ];
+    match rng.below(8) {
+        0 => format!("F 10 {}", "41".repeat(4097)).into_bytes(),
+        1 => format!("G 10 0 {}", "41".repeat(301)).into_bytes(),
+        2 => format!("T 10 0 {}", "41".repeat(301)).into_bytes(),
+        3 => format!("K 10 {} {}", "0000".repeat(1025), "FF".repeat(1025)).into_bytes(),
+        _ => rng.pick(&LINES).as_bytes().to_vec(),
+    }
+}
+
+fn doubtful_misfit(rng: &mut Rng) -> Vec<u8> {
+    const LINES: [&str; 20] = [
+        " ",
+        " P",
+        "P ",
+        "F  3 00",
+        "F 3 00 ",
+        "F 3\t00",
+        "F 3 ",
+        "F 000003 00",
+        "F +3 00",
+        "Q 256",
+        "Q 65536",
+        "S 1 1 0",
+        "S 0 5 0",
+        "S 1 0 65536",
+        "S 31 0 65536",
+        "W 30 2 65536 0",
+        "G 30 256 00",
+        "T 30 256 41",
+        "P\r",
+        "F 3 0x00",
+    ];
+    rng.pick(&LINES).as_bytes().to_vec()
+}
+
+/// Whether the key rule for this entry sits right at its threshold; used to
+/// count what the scripts reach.
+pub fn distance(record: &Record, now: u16, edge: Edge) -> Option<i64> {
+    if !record.held.down || matches!(edge, Edge::Press(_)) {
+        return None;
+    }
+    let time = if record.held.long {
+        record.time2
+    } else {
+        record.time1
+    };
+    Some(i64::from(keys::elapsed(record, now)) - i64::from(keys::ticks(time)))
+}

@@ -1,0 +1,229 @@
+//! A second, independent program of the handset's rules, made from the paper
+//! alone, and a tester that holds another program against it.
+//!
+//! The model is written plainly, to be read beside the paper: `record`,
+//! `ranges` (a list of rules), `grammar` (a table of shapes), `effect`,
+//! `stream` (parts the whole stream first, then takes the parts), `keys` (a
+//! list of rules), `seen`, `writers`. `script` reads and answers scripts: one
+//! call a line. `generate` makes random scripts by a seed.
+//!
+//! Commands:
+//!
+//! - `tests make SEED CALLS [KINDS]`: writes a script of so many calls.
+//! - `tests answer < script`: the model's answers.
+//! - `tests compare PROGRAM-WORDS... --seeds A..B --calls N [--kinds KINDS]
+//!   [--seconds S]`: runs the program on the script of each seed from A to
+//!   B - 1 and compares its answers with the model's. The last line is
+//!   `N passed, M failed`; the exit status is 1 if one failed.
+//! - `tests list < stream`: the listing of the program "list screen".
+//! - `tests screens PROGRAM-WORDS... --seeds A..B [--seconds S]`: compares
+//!   that program's listings of random streams.
+//! - `tests property A..B`: checks the model against itself.
+//! - `tests cover A..B [CALLS]`: counts what the scripts of these seeds
+//!   reach; exit status 1 if something isn't reached.
+//!
+//! KINDS is a list of call letters, for instance `PSRF`; without it all
+//! (`PSRFKCBQMVWTGX`, where X stands for lines that can't be taken). Y, only
+//! by name, adds such lines about which two readers of scripts may differ.
+
+mod compare;
+mod cover;
+mod effect;
+mod generate;
+mod grammar;
+mod keys;
+mod property;
+mod ranges;
+mod record;
+mod rng;
+mod script;
+mod seen;
+mod stream;
+mod writers;
+
+#[cfg(test)]
+mod checks;
+
+use std::io::{BufRead, Read, Write};
+use std::ops::Range;
+use std::process::ExitCode;
+
+const USAGE: &str = "usage:
+  tests make SEED CALLS [KINDS]
+  tests answer < script
+  tests compare PROGRAM-WORDS... --seeds A..B --calls N [--kinds KINDS] [--seconds S]
+  tests list < stream
+  tests screens PROGRAM-WORDS... --seeds A..B [--seconds S]
+  tests property A..B
+  tests cover A..B [CALLS]";
+
+fn main() -> ExitCode {
+    let words: Vec<String> = std::env::args().skip(1).collect();
+    match command(&words) {
+        Ok(true) => ExitCode::SUCCESS,
+        Ok(false) => ExitCode::from(1),
+        Err(why) => {
+            eprintln!("{why}\n{USAGE}");
+            ExitCode::from(2)
+        }
+    }
+}
+
+fn number<T: std::str::FromStr>(word: &str) -> Result<T, String> {
+    word.parse().map_err(|_| format!("no number: {word}"))
+}
+
+fn seeds(word: &str) -> Result<Range<u64>, String> {
+    let (from, to) = word
+        .split_once("..")
+        .ok_or_else(|| format!("no range of seeds: {word}"))?;
+    Ok(number(from)?..number(to)?)
+}
+
+fn kinds(word: &str) -> Result<String, String> {
+    let known = |letter: char| generate::KINDS.contains(letter) || letter == 'Y';
+    if !word.is_empty() && word.chars().all(known) {
+        Ok(word.to_string())
+    } else {
+        Err(format!("no list of call letters: {word}"))
+    }
+}
+
+/// The words of the program and the options behind them.
+struct Options {
+    program: Vec<String>,
+    seeds: Range<u64>,
+    calls: usize,
+    kinds: String,
+    seconds: Option<u64>,
+}
+
+fn options(words: &[String]) -> Result<Options, String> {
+    let mut options = Options {
+        program: vec![],
+        seeds: 0..20,
+        calls: 2000,
+        kinds: generate::KINDS.to_string(),
+        seconds: None,
+    };
+    let mut rest = words.iter();
+    while let Some(word) = rest.next() {
+        let mut value = || rest.next().ok_or_else(|| format!("no value for {word}"));
+        match word.as_str() {
+            "--seeds" => options.seeds = seeds(value()?)?,
+            "--calls" => options.calls = number(value()?)?,
+            "--kinds" => options.kinds = kinds(value()?)?,
+            "--seconds" => options.seconds = Some(number(value()?)?),
+            _ => options.program.push(word.clone()),
+        }
+    }
+    match options.program.first() {
+        None => Err("no program named".to_string()),
+        Some(first) if !compare::looks_runnable(first) => Err(format!("no such program: {first}")),
+        Some(_) => Ok(options),
+    }
+}
+
+fn command(words: &[String]) -> Result<bool, String> {
+    let words: Vec<&str> = words.iter().map(String::as_str).collect();
+    let owned = |words: &[&str]| words.iter().map(|w| w.to_string()).collect::<Vec<_>>();
+    let text = |error: std::io::Error| error.to_string();
+    match words[..] {
+        ["make", seed, calls] => make(number(seed)?, number(calls)?, generate::KINDS),
+        ["make", seed, calls, list] => make(number(seed)?, number(calls)?, &kinds(list)?),
+        ["answer"] => answer().map_err(text),
+        ["list"] => {
+            let mut stream = vec![];
+            std::io::stdin().read_to_end(&mut stream).map_err(text)?;
+            print!("{}", seen::listing(&stream));
+            Ok(true)
+        }
+        ["compare", ref rest @ ..] => {
+            let options = options(&owned(rest))?;
+            let folder = compare::Folder::new().map_err(text)?;
+            Ok(tell(compare::over(
+                options.seeds.clone(),
+                options.seconds,
+                |seed| {
+                    compare::script_differs(
+                        &options.program,
+                        &folder,
+                        seed,
+                        options.calls,
+                        &options.kinds,
+                    )
+                },
+            )))
+        }
+        ["screens", ref rest @ ..] => {
+            let options = options(&owned(rest))?;
+            let folder = compare::Folder::new().map_err(text)?;
+            Ok(tell(compare::over(
+                options.seeds.clone(),
+                options.seconds,
+                |seed| compare::listing_differs(&options.program, &folder, seed),
+            )))
+        }
+        ["property", range] => Ok(properties(seeds(range)?)),
+        ["cover", range] => Ok(covered(seeds(range)?, 2000)),
+        ["cover", range, calls] => Ok(covered(seeds(range)?, number(calls)?)),
+        _ => Err("no such command".to_string()),
+    }
+}
+
+/// Prints the last line. False if one failed or none was tried.
+fn tell((passed, failed): (u64, u64)) -> bool {
+    println!("{passed} passed, {failed} failed");
+    failed == 0 && passed > 0
+}
+
+fn make(seed: u64, calls: usize, kinds: &str) -> Result<bool, String> {
+    let script = generate::script(seed, calls, kinds);
+    std::io::stdout()
+        .write_all(&script)
+        .map_err(|error| error.to_string())?;
+    Ok(true)
+}
+
+fn answer() -> std::io::Result<bool> {
+    let mut out = std::io::BufWriter::new(std::io::stdout().lock());
+    let mut record = record::power_on();
+    for line in std::io::stdin().lock().split(record::LF) {
+        out.write_all(&script::answer(&mut record, &line?))?;
+    }
+    out.flush()?;
+    Ok(true)
+}
+
+fn properties(seeds: Range<u64>) -> bool {
+    let (mut passed, mut failed) = (0, 0);
+    let mut tell_one = |name: &str, result: Result<(), String>| match result {
+        Ok(()) => passed += 1,
+        Err(why) => {
+            println!("{name}: {why}");
+            failed += 1;
+        }
+    };
+    tell_one("commands read back", property::commands_read_back());
+    for (name, check) in property::CHECKS {
+        for seed in seeds.clone() {
+            tell_one(name, check(seed));
+        }
+    }
+    tell((passed, failed))
+}
+
+fn covered(seeds: Range<u64>, calls: usize) -> bool {
+    let cover = cover::over(seeds, calls);
+    let (mut passed, mut failed) = (0, 0);
+    for name in cover::wanted() {
+        let count = cover.count(&name);
+        println!("{count:8} {name}");
+        if count > 0 {
+            passed += 1;
+        } else {
+            failed += 1;
+        }
+    }
+    tell((passed, failed))
+}

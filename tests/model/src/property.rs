@@ -1,0 +1,257 @@
+//! Checks of the model against itself.
+
+use crate::generate::{random_record, stream_of};
+use crate::grammar::{readings, Command};
+use crate::keys;
+use crate::ranges::in_range;
+use crate::record::*;
+use crate::rng::Rng;
+use crate::script::{command, COMMANDS};
+use crate::stream::{self, parting, Part};
+use crate::writers;
+
+/// Cutting a stream elsewhere changes nothing, if unused bytes are offered
+/// again first and the room in the end takes all answers.
+pub fn cutting(seed: u64) -> Result<(), String> {
+    let mut rng = Rng::new(seed ^ 0xC07);
+    let start = random_record(seed);
+    let pieces = rng.between(1, 12);
+    let bytes = stream_of(&mut rng, pieces);
+
+    let mut whole = start.clone();
+    let mut answers = vec![0; bytes.len()];
+    let (number, used, written) = stream::call(&mut whole, &bytes, &mut answers);
+    if (number, used) != (0, bytes.len()) {
+        return Err(format!(
+            "seed {seed}: one call used {used} of {}",
+            bytes.len()
+        ));
+    }
+
+    let mut cut = start;
+    let mut asked = 0;
+    let mut from = 0;
+    let mut to = 0;
+    let mut room_of_call = 0;
+    while from < bytes.len() {
+        to = (to + rng.below(20)).clamp(from, bytes.len());
+        let mut room = vec![7; room_of_call];
+        let (_, used, written) = stream::call(&mut cut, &bytes[from..to], &mut room);
+        if room[..written].iter().any(|&byte| byte != QUESTION) {
+            return Err(format!("seed {seed}: an answer that is no question mark"));
+        }
+        if room[written..].iter().any(|&byte| byte != 7) {
+            return Err(format!("seed {seed}: a place past the written count"));
+        }
+        if !in_range(&cut) {
+            return Err(format!("seed {seed}: record out of range"));
+        }
+        asked += written;
+        from += used;
+        room_of_call = rng.below(3);
+    }
+    if cut != whole || asked != written {
+        return Err(format!(
+            "seed {seed}: cutting changed something ({asked}, {written})"
+        ));
+    }
+    Ok(())
+}
+
+/// The parts put together are the stream, each with its right bytes.
+pub fn parts_join(seed: u64) -> Result<(), String> {
+    let mut rng = Rng::new(seed ^ 0xA11);
+    let pieces = rng.between(0, 12);
+    let bytes = stream_of(&mut rng, pieces);
+    let mut joined = vec![];
+    for (part, behind) in parting(&bytes) {
+        let clean = |body: &[u8]| !body.contains(&ESC) && !body.contains(&CR);
+        let fits = match &part {
+            Part::Text(code) => *code >= 0x20,
+            Part::Skipped(code) => *code < 0x20 && *code != ESC,
+            Part::Closed(body) => clean(body),
+            Part::Abandoned(body) => clean(body) && bytes.get(behind) == Some(&ESC),
+            Part::Tail(body) => clean(body) && behind == bytes.len(),
+        };
+        match part {
+            Part::Text(code) | Part::Skipped(code) => joined.push(code),
+            Part::Closed(body) => {
+                joined.push(ESC);
+                joined.extend(body);
+                joined.push(CR);
+            }
+            Part::Abandoned(body) | Part::Tail(body) => {
+                joined.push(ESC);
+                joined.extend(body);
+            }
+        }
+        if !fits || joined.len() != behind {
+            return Err(format!("seed {seed}: a part that doesn't fit"));
+        }
+    }
+    if joined == bytes {
+        Ok(())
+    } else {
+        Err(format!("seed {seed}: the parts aren't the stream"))
+    }
+}
+
+/// No frame can be read in two ways.
+pub fn one_reading(seed: u64) -> Result<(), String> {
+    let mut rng = Rng::new(seed ^ 0x0E1);
+    let bytes = stream_of(&mut rng, 8);
+    for (part, _) in parting(&bytes) {
+        if let Part::Closed(body) = part {
+            if readings(&body).len() > 1 {
+                return Err(format!("seed {seed}: two readings of {body:?}"));
+            }
+        }
+    }
+    Ok(())
+}
+
+/// A bad frame gives one question mark, and a frame out of range none;
+/// neither changes anything.
+pub fn no_effect(seed: u64) -> Result<(), String> {
+    let mut rng = Rng::new(seed ^ 0xBAD);
+    let mut start = random_record(seed);
+    start.frame = NO_FRAME;
+    let bytes = stream_of(&mut rng, 8);
+    for (part, _) in parting(&bytes) {
+        let Part::Closed(body) = part else { continue };
+        let good = readings(&body);
+        let bad = body.len() > FRAME || good.is_empty();
+        let silent = good.iter().any(|good| !crate::effect::obeyed(&start, good));
+        if !bad && !silent {
+            continue;
+        }
+        let mut record = start.clone();
+        let mut room = [0; 4];
+        let stream = [&[ESC], &body[..], &[CR]].concat();
+        let (_, _, written) = stream::call(&mut record, &stream, &mut room);
+        if record != start || written != usize::from(bad) {
+            return Err(format!("seed {seed}: {body:?} did something"));
+        }
+    }
+    Ok(())
+}
+
+/// What is written reads back: one closed frame and one skipped LF.
+fn reads_back(frame: &[u8], command: Command, numbers: &[u16], codes: &[u8]) -> Result<(), String> {
+    let parts: Vec<Part> = parting(frame).into_iter().map(|(part, _)| part).collect();
+    let [Part::Closed(body), Part::Skipped(LF)] = &parts[..] else {
+        return Err(format!("{command:?}: written {frame:?}"));
+    };
+    let all = readings(body);
+    let [good] = &all[..] else {
+        return Err(format!("{command:?}: {} readings", all.len()));
+    };
+    if good.command == command && good.numbers == numbers && good.codes == codes {
+        Ok(())
+    } else {
+        Err(format!("{command:?} {numbers:?} reads back as {good:?}"))
+    }
+}
+
+/// Every command with all numbers 0 to 300.
+pub fn commands_read_back() -> Result<(), String> {
+    let mut written = 0;
+    for number in 0..COMMANDS {
+        let command = command(number);
+        let count = crate::grammar::count_of_numbers(command);
+        let most = |place: usize| if count > place { 300 } else { 0 };
+        for a in 0..=most(0) {
+            for b in 0..=most(1) {
+                let mut room = [0; 40];
+                let (number, length) = writers::command(command, [a, b], &mut room);
+                if number == 0 {
+                    reads_back(&room[..length], command, &[a, b][..count], &[])?;
+                    written += 1;
+                }
+            }
+        }
+    }
+    // 12 without numbers, and the sizes of all ranges.
+    let sizes = 7 + 5 * 16 + (2 + 3 + 7 + 2 + 20 + 4) + 3 * 11 + 2 + 47 * 48 + 256 + 256;
+    if written == 12 + sizes {
+        Ok(())
+    } else {
+        Err(format!("{written} commands written, not {}", 12 + sizes))
+    }
+}
+
+/// Labels and picture rows read back.
+pub fn rows_read_back(seed: u64) -> Result<(), String> {
+    let mut rng = Rng::new(seed ^ 0x60D);
+    let mut room = [0; 300];
+    let length = rng.between(0, 7);
+    let codes: Vec<u8> = (0..length).map(|_| rng.between(0x20, 0xFF) as u8).collect();
+    for (side, command) in [(0, Command::LeftLabel), (1, Command::RightLabel)] {
+        let (number, length) = writers::label(side, &codes, &mut room);
+        if number != 0 {
+            return Err(format!("seed {seed}: label {codes:?} gives {number}"));
+        }
+        reads_back(&room[..length], command, &[], &codes)?;
+    }
+    let row = rng.below(7) as u8;
+    let mut columns: Vec<u8> = vec![];
+    for _ in 0..rng.between(1, 40) {
+        let run = rng.pick(&[1, 1, 1, 2, 3, 25, 26, 27, 52, 53]);
+        columns.extend(vec![rng.byte() & if row == 6 { 31 } else { 255 }; run]);
+    }
+    columns.truncate(rng.between(1, 96));
+    let (number, length) = writers::picture(row, &columns, &mut room);
+    if number != 0 {
+        return Err(format!("seed {seed}: picture gives {number}"));
+    }
+    reads_back(&room[..length], Command::Picture, &[row.into()], &columns)
+}
+
+/// Cutting a key log elsewhere changes nothing.
+pub fn log_cutting(seed: u64) -> Result<(), String> {
+    let mut rng = Rng::new(seed ^ 0x106);
+    let start = random_record(seed);
+    let entries = rng.between(1, 60);
+    let mut now = rng.next() as u16;
+    let (mut ticks, mut edges) = (vec![], vec![]);
+    for _ in 0..entries {
+        now = now.wrapping_add(rng.pick(&[0, 1, 39, 40, 119, 120, 121, 500, 40_000]));
+        ticks.push(now);
+        let key = rng.below(3) as u8;
+        edges.push(rng.pick(&[key, 128 + key, 255, 255]));
+    }
+    let mut whole = start.clone();
+    let mut all = vec![0; entries];
+    let (_, used, written) = keys::call(&mut whole, &ticks, &edges, &mut all);
+    if used != entries {
+        return Err(format!("seed {seed}: log used {used} of {entries}"));
+    }
+    let mut cut = start;
+    let mut sent: Vec<u8> = vec![];
+    let mut from = 0;
+    while from < entries {
+        let to = (from + rng.below(9)).min(entries);
+        let mut room = vec![0; rng.below(3)];
+        let (_, used, written) =
+            keys::call(&mut cut, &ticks[from..to], &edges[from..to], &mut room);
+        sent.extend(&room[..written]);
+        from += used;
+    }
+    if cut == whole && sent == all[..written] {
+        Ok(())
+    } else {
+        Err(format!("seed {seed}: cutting the log changed something"))
+    }
+}
+
+type Check = fn(u64) -> Result<(), String>;
+
+/// All checks that take a seed.
+pub const CHECKS: [(&str, Check); 6] = [
+    ("cutting a stream elsewhere changes nothing", cutting),
+    ("the parts are the stream", parts_join),
+    ("a frame has one reading", one_reading),
+    ("bad and out-of-range frames change nothing", no_effect),
+    ("labels and pictures read back", rows_read_back),
+    ("cutting a key log elsewhere changes nothing", log_cutting),
+];

@@ -1,0 +1,274 @@
+//! The record of the handset, held in types that can be out of range,
+//! and its power-on value.
+
+/// Bytes that part a stream.
+pub const ESC: u8 = 0x1B;
+pub const CR: u8 = 0x0D;
+pub const LF: u8 = 0x0A;
+pub const QUESTION: u8 = b'?';
+
+/// The most bytes an open frame holds.
+pub const FRAME: usize = 250;
+/// Columns of a picture row, and codes of a text row and of a label.
+pub const COLUMNS: usize = 96;
+pub const CODES: usize = 16;
+pub const LABEL: usize = 7;
+
+#[derive(Clone, Copy, PartialEq, Eq, Debug)]
+pub struct Label {
+    pub length: u8,
+    pub codes: [u8; LABEL],
+}
+
+/// which: 0 none, 1 private, 2 handsfree.
+#[derive(Clone, Copy, PartialEq, Eq, Debug)]
+pub struct Volume {
+    pub which: u8,
+    pub level: u8,
+    pub mute: bool,
+    pub hidden: bool,
+}
+
+/// mode: 0 off, 1 on, 2 auto. duration and left count seconds.
+#[derive(Clone, Copy, PartialEq, Eq, Debug)]
+pub struct Backlight {
+    pub mode: u8,
+    pub duration: u8,
+    pub left: u8,
+    pub keypad: bool,
+}
+
+#[derive(Clone, Copy, PartialEq, Eq, Debug)]
+pub struct Held {
+    pub down: bool,
+    pub key: u8,
+    pub tick: u16,
+    pub long: bool,
+}
+
+/// state: 0 none, 1 open, 2 overlong.
+#[derive(Clone, Copy, PartialEq, Eq, Debug)]
+pub struct Frame {
+    pub state: u8,
+    pub length: u8,
+    pub bytes: [u8; FRAME],
+}
+
+/// Places of the icons in `Record::icons`.
+pub const ICON_S: usize = 0;
+pub const ICON_U: usize = 1;
+pub const ICON_F: usize = 2;
+pub const ICON_R: usize = 3;
+pub const ICON_P: usize = 4;
+pub const ICON_W: usize = 5;
+
+#[derive(Clone, PartialEq, Eq, Debug)]
+pub struct Record {
+    pub display: bool,
+    pub mode: u8,
+    pub overlay: u8,
+    pub shown: bool,
+    pub row: u8,
+    pub column: u8,
+    pub text: [u8; 5 * CODES],
+    pub left: Label,
+    pub right: Label,
+    pub picture: [u8; 7 * COLUMNS],
+    pub icons: [u8; 6],
+    pub volume: Volume,
+    pub time1: u8,
+    pub time2: u8,
+    pub buzzer: u8,
+    pub backlight: Backlight,
+    pub held: Held,
+    pub frame: Frame,
+}
+
+pub const NO_LABEL: Label = Label {
+    length: 0,
+    codes: [0; LABEL],
+};
+
+pub const NO_KEY: Held = Held {
+    down: false,
+    key: 0,
+    tick: 0,
+    long: false,
+};
+
+pub const NO_FRAME: Frame = Frame {
+    state: 0,
+    length: 0,
+    bytes: [0; FRAME],
+};
+
+pub fn power_on() -> Record {
+    Record {
+        display: true,
+        mode: 0,
+        overlay: 0,
+        shown: false,
+        row: 0,
+        column: 0,
+        text: [0x20; 5 * CODES],
+        left: NO_LABEL,
+        right: NO_LABEL,
+        picture: [0; 7 * COLUMNS],
+        icons: [0; 6],
+        volume: Volume {
+            which: 0,
+            level: 0,
+            mute: false,
+            hidden: false,
+        },
+        time1: 12,
+        time2: 12,
+        buzzer: 0,
+        backlight: Backlight {
+            mode: 0,
+            duration: 30,
+            left: 0,
+            keypad: false,
+        },
+        held: NO_KEY,
+        frame: NO_FRAME,
+    }
+}
+
+/// The label that holds these codes (at most seven).
+pub fn label_of(codes: &[u8]) -> Label {
+    let mut label = NO_LABEL;
+    label.length = codes.len() as u8;
+    label.codes[..codes.len()].copy_from_slice(codes);
+    label
+}
+
+/// Text rows of a text mode; none where the number is no text mode.
+pub fn rows(mode: u8) -> Option<u8> {
+    match mode {
+        0 | 1 => Some(4),
+        5 | 6 => Some(5),
+        _ => None,
+    }
+}
+
+/// The fields by number, as a script names them.
+pub const FIELD_NAMES: [&str; 36] = [
+    "display",
+    "text mode",
+    "overlay",
+    "cursor shown",
+    "row",
+    "column",
+    "text",
+    "left label length",
+    "left label codes",
+    "right label length",
+    "right label codes",
+    "picture",
+    "icon S",
+    "icon U",
+    "icon F",
+    "icon R",
+    "icon P",
+    "icon W",
+    "volume which",
+    "volume level",
+    "mute",
+    "hidden",
+    "Time1",
+    "Time2",
+    "buzzer",
+    "backlight mode",
+    "duration",
+    "left",
+    "keypad flag",
+    "held",
+    "held key",
+    "held tick",
+    "stage",
+    "frame state",
+    "frame length",
+    "frame bytes",
+];
+
+/// How many places a field has.
+pub fn places(field: u16) -> usize {
+    match field {
+        6 => 5 * CODES,
+        8 | 10 => LABEL,
+        11 => 7 * COLUMNS,
+        35 => FRAME,
+        _ => 1,
+    }
+}
+
+enum Spot<'a> {
+    Flag(&'a mut bool),
+    Byte(&'a mut u8),
+    Word(&'a mut u16),
+}
+
+fn spot(record: &mut Record, field: u16, place: usize) -> Option<Spot<'_>> {
+    use Spot::{Byte, Flag, Word};
+    if place >= places(field) {
+        return None;
+    }
+    Some(match field {
+        0 => Flag(&mut record.display),
+        1 => Byte(&mut record.mode),
+        2 => Byte(&mut record.overlay),
+        3 => Flag(&mut record.shown),
+        4 => Byte(&mut record.row),
+        5 => Byte(&mut record.column),
+        6 => Byte(&mut record.text[place]),
+        7 => Byte(&mut record.left.length),
+        8 => Byte(&mut record.left.codes[place]),
+        9 => Byte(&mut record.right.length),
+        10 => Byte(&mut record.right.codes[place]),
+        11 => Byte(&mut record.picture[place]),
+        12..=17 => Byte(&mut record.icons[usize::from(field) - 12]),
+        18 => Byte(&mut record.volume.which),
+        19 => Byte(&mut record.volume.level),
+        20 => Flag(&mut record.volume.mute),
+        21 => Flag(&mut record.volume.hidden),
+        22 => Byte(&mut record.time1),
+        23 => Byte(&mut record.time2),
+        24 => Byte(&mut record.buzzer),
+        25 => Byte(&mut record.backlight.mode),
+        26 => Byte(&mut record.backlight.duration),
+        27 => Byte(&mut record.backlight.left),
+        28 => Flag(&mut record.backlight.keypad),
+        29 => Flag(&mut record.held.down),
+        30 => Byte(&mut record.held.key),
+        31 => Word(&mut record.held.tick),
+        32 => Flag(&mut record.held.long),
+        33 => Byte(&mut record.frame.state),
+        34 => Byte(&mut record.frame.length),
+        35 => Byte(&mut record.frame.bytes[place]),
+        _ => return None,
+    })
+}
+
+/// Sets one place of one field to any value its type holds. False where
+/// there is no such field or place.
+pub fn set(record: &mut Record, field: u16, place: usize, value: u16) -> bool {
+    match spot(record, field, place) {
+        None => return false,
+        Some(Spot::Flag(flag)) => *flag = value != 0,
+        Some(Spot::Byte(byte)) => *byte = (value % 256) as u8,
+        Some(Spot::Word(word)) => *word = value,
+    }
+    true
+}
+
+/// What stands in one place of one field (0 where there is none).
+pub fn get(record: &Record, field: u16, place: usize) -> u16 {
+    let mut copy = record.clone();
+    match spot(&mut copy, field, place) {
+        None => 0,
+        Some(Spot::Flag(flag)) => u16::from(*flag),
+        Some(Spot::Byte(byte)) => u16::from(*byte),
+        Some(Spot::Word(word)) => *word,
+    }
+}
