@@ -1,0 +1,272 @@
+// Reads a stream from standard input, from the power-on record, and draws what a person then sees, in a terminal that takes
+// UTF-8:
+//
+//   ./run show_screen < examples/picture.stream
+//
+// Each of the seven display rows is asked for by the proved row question and drawn as two lines of 48 places in a frame, 50
+// columns in all. A place is two dots wide and four high, so a picture row is drawn dot by dot in braille signs, and a code of
+// a text row, six dots wide, has three places. Codes outside 0x20 to 0x7E are drawn as '.'. The icon bar is drawn in words:
+// signal strength, missed calls, roaming, SMS, volume. The soft keys' row has a label at each side and the rocker between.
+// With the display off the frame is empty. The cursor is no part of what is seen.
+use libc::STDOUT_FILENO;
+use record::Label;
+use record::Record;
+use seen::Bar;
+use seen::Labels;
+use seen::Owner;
+use seen::SmsPanel;
+use seen::VolumePanel;
+
+const PLACES: usize = 48;
+
+fn say(words: &[u8]) {
+    io::write_all(STDOUT_FILENO, words);
+}
+
+// Either side of the frame.
+fn side() {
+    say(b"\xE2\x94\x82");
+}
+
+fn end_of_line() {
+    say(b"\xE2\x94\x82\n");
+}
+
+fn repeated(sign: &[u8], times: usize) {
+    for i in 0..times {
+        say(sign);
+    }
+}
+
+fn blanks(n: usize) {
+    repeated(b" ", n);
+}
+
+fn empty_line() {
+    side();
+    blanks(PLACES);
+    end_of_line();
+}
+
+// The line between two corners of the frame.
+fn edge() {
+    repeated(b"\xE2\x94\x80", PLACES);
+}
+
+fn top_edge() {
+    say(b"\xE2\x95\xAD");
+    edge();
+    say(b"\xE2\x95\xAE\n");
+}
+
+fn bottom_edge() {
+    say(b"\xE2\x95\xB0");
+    edge();
+    say(b"\xE2\x95\xAF\n");
+}
+
+fn printable(code: u8) -> u8 {
+    if code < 0x20 {
+        return b'.';
+    }
+    if 0x7E < code {
+        return b'.';
+    }
+    code
+}
+
+// The first n codes, three places each.
+fn say_codes(codes: &[u8], n: usize) {
+    for i in 0..n {
+        if i < codes.len() {
+            let places = [b' ', printable(codes[i]), b' '];
+            say(&places);
+        }
+    }
+}
+
+fn draw_text(codes: [u8; 16]) {
+    side();
+    say_codes(&codes, 16);
+    end_of_line();
+    empty_line();
+}
+
+// A number of one or two digits in two places.
+fn say_number(n: u8) {
+    if n < 10 {
+        say(b" ");
+    }
+    io::print_decimal(STDOUT_FILENO, n as u64);
+}
+
+// Strength 1 is the icon without bars, 6 that with five.
+fn say_signal(f: u8) {
+    match f {
+        1 => say(b" Y      "),
+        2 => say(b" Y\xE2\x96\x81     "),
+        3 => say(b" Y\xE2\x96\x81\xE2\x96\x82    "),
+        4 => say(b" Y\xE2\x96\x81\xE2\x96\x82\xE2\x96\x84   "),
+        5 => say(b" Y\xE2\x96\x81\xE2\x96\x82\xE2\x96\x84\xE2\x96\x86  "),
+        6 => say(b" Y\xE2\x96\x81\xE2\x96\x82\xE2\x96\x84\xE2\x96\x86\xE2\x96\x88 "),
+        _ => blanks(8),
+    }
+}
+
+fn say_missed(p: u8) {
+    if p == 0 {
+        blanks(10);
+        return;
+    }
+    say(b"missed ");
+    say_number(p);
+    say(b" ");
+}
+
+fn say_roaming(r: u8) {
+    if r == 0 {
+        blanks(6);
+        return;
+    }
+    say(b"roam  ");
+}
+
+fn say_sms(panel: SmsPanel) {
+    match panel {
+        SmsPanel::Nothing => blanks(11),
+        SmsPanel::Read => say(b"SMS read   "),
+        SmsPanel::Unread => say(b"SMS unread "),
+    }
+}
+
+fn say_level(words: &[u8], level: u8) {
+    say(words);
+    say_number(level);
+    say(b" ");
+}
+
+fn say_volume(panel: VolumePanel) {
+    match panel {
+        VolumePanel::Nothing => blanks(13),
+        VolumePanel::Mute => say(b"        mute "),
+        VolumePanel::Private(level) => say_level(b"  private ", level),
+        VolumePanel::Handsfree(level) => say_level(b"handsfree ", level),
+    }
+}
+
+fn draw_bar(bar: Bar) {
+    let sms = bar.sms;
+    let volume = bar.volume;
+    side();
+    say_signal(bar.f);
+    say_missed(bar.p);
+    say_roaming(bar.r);
+    say_sms(sms);
+    say_volume(volume);
+    end_of_line();
+    empty_line();
+}
+
+// The places that a label leaves of the room for seven codes.
+fn places_left(len: u8) -> usize {
+    if len < 7 {
+        let codes = 7 - len;
+        return 3 * codes as usize;
+    }
+    0
+}
+
+fn say_left(label: Label) {
+    say_codes(&label.codes, label.len as usize);
+    blanks(places_left(label.len));
+}
+
+fn say_right(label: Label) {
+    blanks(places_left(label.len));
+    say_codes(&label.codes, label.len as usize);
+}
+
+// 1 is down, 2 up, 3 both.
+fn say_rocker(w: u8) {
+    match w {
+        1 => say(b"   \xE2\x96\xBC  "),
+        2 => say(b"  \xE2\x96\xB2   "),
+        3 => say(b"  \xE2\x96\xB2\xE2\x96\xBC  "),
+        _ => blanks(6),
+    }
+}
+
+fn draw_labels(labels: Labels) {
+    let left = labels.left;
+    let right = labels.right;
+    side();
+    say_left(left);
+    say_rocker(labels.w);
+    say_right(right);
+    end_of_line();
+    empty_line();
+}
+
+// The low four dots of two columns as one braille sign, U+2800 and up. The sign counts the upper three dots of its left
+// column, then those of its right one, then the lowest of each.
+fn say_dots(left: u8, right: u8) {
+    let upper = left % 8 + right % 8 * 8;
+    let lowest = left / 8 % 2 + right / 8 % 2 * 2;
+    let sign = [0xE2, 0xA0 + lowest, 0x80 + upper];
+    say(&sign);
+}
+
+// The upper four dots of a column are its low four bits.
+fn half(column: u8, lower: bool) -> u8 {
+    if lower {
+        return column / 16;
+    }
+    column
+}
+
+// One of the two lines of a picture row.
+fn dots_line(columns: &[u8; 96], lower: bool) {
+    side();
+    for i in 0..PLACES {
+        let left = half(columns[2 * i], lower);
+        let right = half(columns[2 * i + 1], lower);
+        say_dots(left, right);
+    }
+    end_of_line();
+}
+
+fn draw_picture(columns: [u8; 96]) {
+    dots_line(&columns, false);
+    dots_line(&columns, true);
+}
+
+fn draw_nothing() {
+    empty_line();
+    empty_line();
+}
+
+fn draw_row(r: Record, row: u8) {
+    let seen = seen::row_seen(r, row);
+    let owner = seen.owner;
+    let codes = seen.codes;
+    let columns = seen.columns;
+    let bar = seen.bar;
+    let labels = seen.labels;
+    match owner {
+        Owner::Nothing => draw_nothing(),
+        Owner::IconBar => draw_bar(bar),
+        Owner::TextRow(_) => draw_text(codes),
+        Owner::PictureRow(_) => draw_picture(columns),
+        Owner::SoftKeys => draw_labels(labels),
+    }
+}
+
+fn main() {
+    let heard = listen::hear(Record::power_on());
+    let r = heard.record;
+    top_edge();
+    for row in 0..7 {
+        draw_row(r, row);
+    }
+    bottom_edge();
+}
