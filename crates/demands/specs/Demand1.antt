@@ -1,0 +1,104 @@
+-- DEMAND 1. "Every call ends with a named answer, on all bytes, key logs and records. A record with a field outside its range is
+-- refused and handed back as it came, with no lent byte altered. A bad frame gets one question mark, an out-of-range one gets
+-- silence, and neither changes text, icon, label, picture or setting." Statements first; each call's own clause is told by these
+-- definitions. Assumes nothing.
+use Prim.Native.Nat.{ℕ, _<_, _≤_}
+use mathlib.Core.Path.{_≡_, refl}
+use mathlib.Core.Bool.{true, false, cond, not}
+use mathlib.Core.List.{List, [], _∷_}
+use lib.Dec.{ltb}
+use lib.ListN.{length}
+use borrow.Author.Tests.{le-leb, lt-leb}
+use Rattle.lists.specs.Codes.{questionMark}
+use Rattle.lists.specs.Every.{every}
+use Rattle.record.specs.declared.Record.{Record}
+use Rattle.record.specs.declared.Backlight.{Backlight}
+use Rattle.record.specs.Answer.{numberOf}
+use Rattle.record.specs.Range.{inRange, backlightInRange}
+use Rattle.command.specs.Order.{Order}
+use Rattle.command.specs.Grammar.{Spells}
+use Rattle.command.specs.InRange.{inRangeInMode}
+use Rattle.command.specs.Reading.{orderOf}
+use Rattle.command.specs.Agree.{agree, bad-frame}
+use Rattle.effect.specs.Core.{Core}
+use Rattle.effect.specs.Obey.{isGood}
+use Rattle.effect.specs.Keeps.{out-of-range-keeps}
+use Rattle.reader.specs.Stream.{obeyFrame, fedOf, answersAfter}
+use Rattle.keys.specs.Rules.{listed}
+use Rattle.keys.specs.Log.{outcome, handedBack, bufferAfter}
+use Rattle.keys.specs.Laws.{answers-1, answers-5, answers-4, answers-0}
+use Rattle.light.specs.Seconds.{passed, lightPassed}
+use Rattle.light.specs.Laws.{second-done, second-refused, light-done, light-refused}
+use Rattle.seen.specs.Rows.{rowSeen, smsSeen, volumeSeen}
+use Rattle.seen.specs.Laws.{row-number, panel-numbers}
+use Rattle.writer.specs.Writing.{writtenOf, roomAfter}
+
+-- what a refusal hands back of a call that takes a record and lends a buffer: its number, the record as it came, no byte used or
+-- written, the buffer as it was
+pub record Refused (number : ℕ) (answered : ℕ) (given back : Record) (used written : ℕ) (before after : List ℕ) : Type 0 where
+  pub named : answered ≡ number
+  pub as-it-came : back ≡ given
+  pub none-used : used ≡ 0
+  pub none-written : written ≡ 0
+  pub untouched : after ≡ before
+
+pub record Demand1 : Type 0 where
+  -- The stream call: 1, else 0.
+  pub feed-refuses : (r : Record) (bytes before : List ℕ) → inRange r ≡ false
+      → (let f = fedOf r bytes (length before) in Refused 1 (numberOf (f .answer)) r (f .record) (f .used) (f .written) before (answersAfter r bytes before))
+  pub feed-done : (r : Record) (bytes : List ℕ) (room : ℕ) → inRange r ≡ true → numberOf (fedOf r bytes room .answer) ≡ 0
+  -- The key log: 1, then 5, then 4, else 0.
+  pub log-refuses-1 : (r : Record) (ticks edges before : List ℕ) → inRange r ≡ false
+      → (let o = outcome r ticks edges (length before) in let l = handedBack o in Refused 1 (numberOf (l .answer)) r (l .record) (l .used) (l .written) before (bufferAfter o before))
+  pub log-refuses-5 : (r : Record) (ticks edges before : List ℕ) → inRange r ≡ true → (length ticks ≡ length edges → ⊥)
+      → (let o = outcome r ticks edges (length before) in let l = handedBack o in Refused 5 (numberOf (l .answer)) r (l .record) (l .used) (l .written) before (bufferAfter o before))
+  pub log-refuses-4 : (r : Record) (ticks edges before : List ℕ) → inRange r ≡ true → length ticks ≡ length edges → every listed edges ≡ false
+      → (let o = outcome r ticks edges (length before) in let l = handedBack o in Refused 4 (numberOf (l .answer)) r (l .record) (l .used) (l .written) before (bufferAfter o before))
+  pub log-done : (r : Record) (ticks edges : List ℕ) (room : ℕ) → inRange r ≡ true → length ticks ≡ length edges → every listed edges ≡ true
+      → numberOf (outcome r ticks edges room .answer) ≡ 0
+  -- The second: 1 and the same record, else 0; in place: by the backlight's own ranges.
+  pub second-answers : (r : Record) → inRange r ≡ false → (numberOf (passed r .answer) ≡ 1) × (passed r .after ≡ r)
+  pub second-passes : (r : Record) → inRange r ≡ true → numberOf (passed r .answer) ≡ 0
+  pub light-answers : (b : Backlight) → backlightInRange b ≡ false → (numberOf (lightPassed b .answer) ≡ 1) × (lightPassed b .backlight ≡ b)
+  pub light-passes : (b : Backlight) → backlightInRange b ≡ true → numberOf (lightPassed b .answer) ≡ 0
+  -- The questions: 1, then 4 for a row above 6, else 0.
+  pub row-answers : (r : Record) (row : ℕ) → numberOf (rowSeen r row .answer) ≡ cond (not (inRange r)) 1 (cond (ltb 6 row) 4 0)
+  pub panels-answer : (r : Record) → (numberOf (smsSeen r .answer) ≡ cond (not (inRange r)) 1 0) × (numberOf (volumeSeen r .answer) ≡ cond (not (inRange r)) 1 0)
+  -- The writers: 2, then 3, nothing written then, count 0; else 0. `good` is whether the command, label or row is in range.
+  pub writer-refuses-2 : (frame room : List ℕ) → (numberOf (writtenOf false frame room .answer) ≡ 2) × (writtenOf false frame room .count ≡ 0) × (roomAfter false frame room ≡ room)
+  pub writer-refuses-3 : (frame room : List ℕ) → length room < length frame
+      → (numberOf (writtenOf true frame room .answer) ≡ 3) × (writtenOf true frame room .count ≡ 0) × (roomAfter true frame room ≡ room)
+  pub writer-done : (frame room : List ℕ) → length frame ≤ length room → (numberOf (writtenOf true frame room .answer) ≡ 0) × (writtenOf true frame room .count ≡ length frame)
+  -- A bad frame gets one question mark, and nothing changes.
+  pub bad-frame-asked : (c : Core) (frame : List ℕ) → ((o : Order) → Spells o frame → ⊥) → obeyFrame c frame ≡ record { core = c; answers = questionMark ∷ [] }
+  -- A frame with a number out of range gets silence, and nothing changes.
+  pub out-of-range-silent : (c : Core) (frame : List ℕ) (o : Order) → Spells o frame → inRangeInMode (c .panel .screen .mode) o ≡ false
+      → obeyFrame c frame ≡ record { core = c; answers = [] }
+
+-- The proof ---------------------------------------------------------------------------------------------------------
+
+pub demand1 : Demand1
+unfolding fedOf answersAfter writtenOf roomAfter
+demand1 =
+    record {
+      feed-refuses = λ r bytes before h. rw h (record { named = refl; as-it-came = refl; none-used = refl; none-written = refl; untouched = refl });
+      feed-done = λ r bytes room h. rw h;
+      log-refuses-1 = λ r ticks edges before h. rw (answers-1 r ticks edges (length before) h) (record { named = refl; as-it-came = refl; none-used = refl; none-written = refl; untouched = refl });
+      log-refuses-5 = λ r ticks edges before h d. rw (answers-5 r ticks edges (length before) h d) (record { named = refl; as-it-came = refl; none-used = refl; none-written = refl; untouched = refl });
+      log-refuses-4 = λ r ticks edges before h e k. rw (answers-4 r ticks edges (length before) h e k) (record { named = refl; as-it-came = refl; none-used = refl; none-written = refl; untouched = refl });
+      log-done = λ r ticks edges room h e k. rw (answers-0 r ticks edges room h e k);
+      second-answers = second-refused;
+      second-passes = λ r h. second-done r h .0;
+      light-answers = light-refused;
+      light-passes = λ b h. light-done b h .0;
+      row-answers = row-number;
+      panels-answer = panel-numbers;
+      writer-refuses-2 = λ frame room. (refl, refl, refl);
+      writer-refuses-3 = λ frame room l. rw (lt-leb (length frame) (length room) l) (refl, refl, refl);
+      writer-done = λ frame room l. rw (le-leb (length frame) (length room) l) (refl, refl);
+      bad-frame-asked = λ c frame h. rw (bad-frame frame .1 h);
+      out-of-range-silent = λ c frame o s h.
+          let found = agree o frame .1 s in
+          let same = out-of-range-keeps c frame o found h in
+          λ j. record { core = same j; answers = cond (isGood (found j)) [] (questionMark ∷ []) };
+    }

@@ -1,0 +1,23 @@
+-- DEMAND 3. "From a record within its ranges, its open frame standing first, any byte stream parts in exactly one way into text
+-- bytes, skipped bytes, closed frames, abandoned frames and at most one unfinished tail. The rules of that parting, and of the good
+-- frames, are written without the reader. The record and the question marks at the end are those of taking the parts in order. With
+-- no key, clock or power-on call between, cutting the stream elsewhere changes nothing, if each call's unused bytes are offered again
+-- first and the room for answers in the end takes them all." The rules are parting's Rules and command's Grammar. Assumes nothing.
+use Prim.Native.Nat.{ℕ}
+use mathlib.Core.Path.{_≡_}
+use mathlib.Core.Bool.{true}
+use mathlib.Core.List.{List}
+use Rattle.record.specs.declared.Record.{Record}
+use Rattle.record.specs.Range.{inRange}
+use Rattle.parting.specs.Rules.{Stands}
+use Rattle.reader.specs.Stream.{stateOf, fedOf}
+use Rattle.reader.specs.Demand.{FeedDemand3, feed-demand3, fed-in-range}
+
+-- `FeedDemand3 r before` has the letter's sentences one by one, of the stream call `fedOf`.
+pub record Demand3 : Type 0 where
+  pub streams : (r : Record) (before : List ℕ) → inRange r ≡ true → Stands (stateOf r .frame) before → FeedDemand3 r before
+  -- and the record comes back within its ranges, so that it holds of the next call too
+  pub in-range-again : (r : Record) (bytes : List ℕ) (room : ℕ) → inRange r ≡ true → inRange (fedOf r bytes room .record) ≡ true
+
+pub demand3 : Demand3
+demand3 = record { streams = feed-demand3; in-range-again = fed-in-range }
