@@ -1,0 +1,54 @@
+-- One turn of each loop: what is left gives the same before and after it. Assumes nothing.
+use Prim.Native.Nat.{ℕ, zero, suc, _+_, _-_, _≤_, _<_}
+use native.Mathlib.Omega.{arith}
+use native.Mathlib.Numerals.{add-one}
+use mathlib.Core.Path.{_≡_, refl, sym, ap, _∙_}
+use mathlib.Core.Bool.{Bool, cond}
+use mathlib.Core.List.{List, [], _∷_}
+use lib.ListN.{length, getD, take, drop}
+use lib.Seq.{drop-cons, drop-length, drop-drop}
+use Rattle.record.specs.declared.Record.{Record}
+use Rattle.record.specs.Range.{inRange}
+use Rattle.reader.specs.declared.Fed.{Fed}
+use Rattle.reader.specs.Stream.{fedOf, answersAfter}
+use Rattle.measure.specs.Mark.{mixed, marked}
+use Rattle.measure.specs.Calls.{Between, inOrder, withFirst, goodOnes}
+
+next : (s : List ℕ) (i : ℕ) → i < length s → drop i s ≡ getD s i 0 ∷ drop (i + 1) s
+next s i h = drop-cons s i 0 h ∙ ap (λ (n : ℕ). getD s i 0 ∷ drop n s) (sym (add-one i))
+
+pub mark-on : (mark : ℕ) (s : List ℕ) (i : ℕ) → i < length s → marked mark (drop i s) ≡ marked (mixed mark (getD s i 0)) (drop (i + 1) s)
+unfolding marked
+mark-on mark s i h = ap (marked mark) (next s i h)
+
+pub mark-end : (mark : ℕ) (s : List ℕ) (i : ℕ) → i ≤ length s → length s ≤ i → marked mark (drop i s) ≡ mark
+unfolding marked
+mark-end mark s i h l =
+    let there : i ≡ length s = omega arith in
+    ap (marked mark) (ap (λ (n : ℕ). drop n s) there ∙ drop-length s)
+
+pub good-on : (r : Record) (s : List ℕ) (i : ℕ) → i < length s
+    → goodOnes r (drop i s) ≡ cond (inRange (withFirst r (getD s i 0))) 1 0 + goodOnes (withFirst r (getD s i 0)) (drop (i + 1) s)
+unfolding goodOnes
+good-on r s i h = ap (goodOnes r) (next s i h)
+
+pub good-end : (r : Record) (s : List ℕ) (i : ℕ) → i ≤ length s → length s ≤ i → goodOnes r (drop i s) ≡ 0
+unfolding goodOnes
+good-end r s i h l =
+    let there : i ≡ length s = omega arith in
+    ap (goodOnes r) (ap (λ (n : ℕ). drop n s) there ∙ drop-length s)
+
+pub call-on : (left at : ℕ) (r : Record) (answers s piece later : List ℕ) (f : Fed) → 0 < left → piece ≡ take 64 (drop at s) → f ≡ fedOf r piece (length answers) → later ≡ answersAfter r piece answers
+    → inOrder (left - 1) (record { after = f .record; buffer = later; coming = drop (at + 64) s }) ≡ inOrder left (record { after = r; buffer = answers; coming = drop at s })
+unfolding inOrder
+call-on zero at r answers s piece later f h a b c = absurd (omega (arith, h))
+call-on (suc n) at r answers s piece later f h a b c =
+    let fed : f ≡ fedOf r (take 64 (drop at s)) (length answers) = b ∙ ap (λ (x : List ℕ). fedOf r x (length answers)) a in
+    let written : later ≡ answersAfter r (take 64 (drop at s)) answers = c ∙ ap (λ (x : List ℕ). answersAfter r x answers) a in
+    ap (λ (k : ℕ). inOrder k (record { after = f .record; buffer = later; coming = drop (at + 64) s })) {x = suc n - 1} {y = n} (omega arith)
+    ∙ ap (inOrder n) (λ j. record { after = fed j .record; buffer = written j; coming = sym (drop-drop 64 at s) j })
+
+pub call-end : (left : ℕ) (b : Between) → left ≤ 0 → inOrder left b ≡ b
+unfolding inOrder
+call-end zero b h = refl
+call-end (suc n) b h = absurd (omega (arith, h))

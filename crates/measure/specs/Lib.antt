@@ -1,0 +1,3 @@
+pub mod Mark
+pub mod Calls
+pub mod Laws

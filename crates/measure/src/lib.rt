@@ -1,0 +1,137 @@
+// What ./bench times: the stream call in one call and in calls of 64 bytes, and the range check. Each hands back one number that
+// is taken from all that was done, so that the timed work can't be left out, and so that two readers can be compared by it.
+ghost use mathlib.Core.Path.{_≡_};
+ghost use mathlib.Core.Bool.{cond};
+ghost use Prim.Native.Nat.{_≤_, _<_};
+ghost use lib.ListN.{length};
+ghost use Rattle.record.specs.PowerOn.{powerOn};
+ghost use Rattle.reader.specs.Stream.{fedOf, answersAfter};
+ghost use Rattle.measure.specs.Mark.{prime, mixed, marked, small, markOf};
+ghost use Rattle.measure.specs.Calls.{inOrder, fedInCalls, answersInCalls, goodOnes};
+use reader::Fed;
+use record::Panel;
+use record::Record;
+
+// Marks stay below this prime.
+const PRIME: u64 = 1_000_003;
+
+// So many bytes in each of the short calls.
+const CALL: usize = 64;
+
+fn mix(mark: u64, n: u64) -> u64
+    requires { ⌜ mark < prime ⌝ }
+    ensures same { λ r. ⌜ r ≡ mixed mark n ⌝ }
+    ensures below { λ r. ⌜ r < prime ⌝ }
+{
+    (mark * 31 + n % PRIME) % PRIME
+}
+
+fn mark_all(mark: u64, s: &[u8]) -> u64
+    requires { ⌜ mark < prime ⌝ }
+    ensures same { λ r. ⌜ r ≡ marked mark (now (s .entry)) ⌝ }
+    ensures below { λ r. ⌜ r < prime ⌝ }
+{
+    let mut sum = mark;
+    let mut i = 0;
+    while i < s.len() {
+        sum = mix(sum, s[i] as u64);
+        i += 1;
+    }
+    sum
+}
+
+// The small numbers of a panel, one after another.
+fn small_numbers(p: Panel) -> [u8; 14]
+    ensures same { λ r. ⌜ r ≡ small p ⌝ }
+{
+    [
+        p.screen.mode,
+        p.screen.overlay,
+        p.screen.row,
+        p.screen.column,
+        p.left.len,
+        p.right.len,
+        p.icons.s,
+        p.icons.u,
+        p.icons.f,
+        p.icons.r,
+        p.icons.p,
+        p.icons.w,
+        p.volume.which,
+        p.volume.level,
+    ]
+}
+
+// The mark of what a call left.
+fn mark(f: Fed) -> u64
+    ensures same { λ r. ⌜ r ≡ markOf f ⌝ }
+{
+    let r = f.record;
+    let p = r.panel;
+    let left = p.left;
+    let right = p.right;
+    let numbers = small_numbers(p);
+    let text = mark_all(0, &r.text);
+    let picture = mark_all(text, &r.picture);
+    let labels = mark_all(mark_all(picture, &left.codes), &right.codes);
+    let panel = mark_all(labels, &numbers);
+    mix(mix(panel, f.used as u64), f.written as u64)
+}
+
+// A stream in one call, from the power-on record.
+#[no_mangle]
+pub extern "C" fn measure_one_call(s: &[u8], answers: &mut [u8]) -> u64
+    ensures same { λ r. ⌜ r ≡ markOf (fedOf powerOn (now (s .entry)) (length (now (answers .entry)))) ⌝ }
+    ensures buffer { λ _. ⌜ now (answers .exit) ≡ answersAfter powerOn (now (s .entry)) (now (answers .entry)) ⌝ }
+{
+    mark(reader::feed(Record::power_on(), s, answers))
+}
+
+// A stream in calls of 64 bytes, and what is left over in a last one. Each call is lent the whole buffer.
+fn feed_in_calls(s: &[u8], answers: &mut [u8]) -> Fed
+    ensures same { λ f. ⌜ f ≡ fedInCalls (now (s .entry)) (now (answers .entry)) ⌝ }
+    ensures buffer { λ _. ⌜ now (answers .exit) ≡ answersInCalls (now (s .entry)) (now (answers .entry)) ⌝ }
+{
+    let mut r = Record::power_on();
+    let mut left = s.len() / CALL;
+    let mut at = 0;
+    while 0 < left {
+        let f = reader::feed(r, &s[at..at + CALL], answers);
+        let after = f.record;
+        r = after;
+        at += CALL;
+        left -= 1;
+    }
+    reader::feed(r, &s[at..], answers)
+}
+
+#[no_mangle]
+pub extern "C" fn measure_short_calls(s: &[u8], answers: &mut [u8]) -> u64
+    ensures same { λ r. ⌜ r ≡ markOf (fedInCalls (now (s .entry)) (now (answers .entry))) ⌝ }
+    ensures buffer { λ _. ⌜ now (answers .exit) ≡ answersInCalls (now (s .entry)) (now (answers .entry)) ⌝ }
+{
+    mark(feed_in_calls(s, answers))
+}
+
+fn one_if(good: bool) -> u64
+    ensures same { λ r. ⌜ r ≡ cond good 1 0 ⌝ }
+    ensures small { λ r. ⌜ r ≤ 1 ⌝ }
+{
+    if good { 1 } else { 0 }
+}
+
+// The range check alone: how many of the bytes, put in turn at the first place of the power-on record's text, leave it in range.
+#[no_mangle]
+pub extern "C" fn measure_range_checks(s: &[u8]) -> u64
+    ensures same { λ r. ⌜ r ≡ goodOnes powerOn (now (s .entry)) ⌝ }
+{
+    let mut r = Record::power_on();
+    let mut good: u64 = 0;
+    let mut i = 0;
+    while i < s.len() {
+        r.text[0] = s[i];
+        good += one_if(record::in_range(r));
+        i += 1;
+    }
+    good
+}

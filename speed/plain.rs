@@ -1,0 +1,488 @@
+//! A reader of the handset's language as one writes it in Rust by hand: one struct, changed in place, no allocation, safe code,
+//! no proof. It shares nothing with crates/. It keeps the same rules: the record is judged first, a frame may be cut anywhere,
+//! the call stops before an answer that has no room, and the places of the frame that are not used hold zero.
+
+const ESCAPE: u8 = 0x1B;
+const CARRIAGE_RETURN: u8 = 0x0D;
+const LIMIT: usize = 250;
+
+#[derive(Clone, Copy, PartialEq)]
+enum Reading {
+    Text,
+    Frame,
+    Overlong,
+}
+
+struct Label {
+    len: usize,
+    codes: [u8; 7],
+}
+
+impl Label {
+    fn set(&mut self, text: &[u8]) -> bool {
+        if text.len() > 7 || text.iter().any(|&b| b < 0x20) {
+            return false;
+        }
+        self.codes = [0; 7];
+        self.codes[..text.len()].copy_from_slice(text);
+        self.len = text.len();
+        true
+    }
+
+    fn in_range(&self) -> bool {
+        self.len <= 7 && self.codes[..self.len].iter().all(|&b| b >= 0x20) && self.codes[self.len..].iter().all(|&b| b == 0)
+    }
+}
+
+struct Volume {
+    which: u8,
+    level: u8,
+    mute: bool,
+    hidden: bool,
+}
+
+struct Backlight {
+    mode: u8,
+    duration: u8,
+    left: u8,
+    keypad: bool,
+}
+
+struct Held {
+    down: bool,
+    key: u8,
+    tick: u16,
+    long: bool,
+}
+
+// All that a frame can change.
+struct Display {
+    on: bool,
+    mode: u8,
+    overlay: u8,
+    shown: bool,
+    row: usize,
+    column: usize,
+    text: [u8; 80],
+    labels: [Label; 2],
+    picture: [u8; 672],
+    icons: [u8; 6],
+    volume: Volume,
+    times: [u8; 2],
+    buzzer: u8,
+    backlight: Backlight,
+}
+
+pub struct Handset {
+    display: Display,
+    held: Held,
+    reading: Reading,
+    len: usize,
+    frame: [u8; LIMIT],
+}
+
+pub struct Fed {
+    #[allow(dead_code)]
+    pub number: u8,
+    pub used: usize,
+    pub written: usize,
+}
+
+fn number(digits: &[u8]) -> Option<u16> {
+    if digits.is_empty() || digits.len() > 3 {
+        return None;
+    }
+    let mut n = 0;
+    for &d in digits {
+        if !d.is_ascii_digit() {
+            return None;
+        }
+        n = n * 10 + (d - b'0') as u16;
+    }
+    Some(n)
+}
+
+fn pair(text: &[u8]) -> Option<(u16, u16)> {
+    let at = text.iter().position(|&b| b == b';')?;
+    Some((number(&text[..at])?, number(&text[at + 1..])?))
+}
+
+fn hex(b: u8) -> Option<u8> {
+    match b {
+        b'0'..=b'9' => Some(b - b'0'),
+        b'A'..=b'F' => Some(b - b'A' + 10),
+        _ => None,
+    }
+}
+
+// The columns that data draws, and how many; none where it is no data.
+fn columns(data: &[u8]) -> Option<([u8; 96], usize)> {
+    let mut row = [0; 96];
+    let mut used = 0;
+    let mut rest = data;
+    while let [first, ..] = rest {
+        let count = match first {
+            b'a'..=b'y' => {
+                rest = &rest[1..];
+                (first - b'a') as usize + 2
+            }
+            _ => 1,
+        };
+        let [high, low, later @ ..] = rest else { return None };
+        let column = hex(*high)? << 4 | hex(*low)?;
+        row.get_mut(used..used + count)?.fill(column);
+        used += count;
+        rest = later;
+    }
+    if used == 0 {
+        return None;
+    }
+    Some((row, used))
+}
+
+impl Display {
+    fn put(&mut self, b: u8) {
+        if self.column < 16 {
+            self.text[self.row * 16 + self.column] = b;
+            self.column += 1;
+        }
+    }
+
+    fn rows(&self) -> usize {
+        if self.mode <= 1 { 4 } else { 5 }
+    }
+
+    fn set_mode(&mut self, n: u16) {
+        match n {
+            0 | 1 | 5 | 6 => {
+                self.mode = n as u8;
+                self.overlay = 0;
+                self.row = 0;
+                self.column = 0;
+            }
+            11..=13 => self.overlay = n as u8,
+            _ => {}
+        }
+    }
+
+    fn set_volume(&mut self, which: u8, n: u16) {
+        match n {
+            0 => {
+                self.volume.which = 0;
+                self.volume.level = 0;
+                self.volume.hidden = true;
+            }
+            1..=10 => {
+                self.volume.which = which;
+                self.volume.level = n as u8;
+                self.volume.hidden = false;
+            }
+            _ => {}
+        }
+    }
+
+    fn set_light(&mut self, n: u16) {
+        match n {
+            0 => {
+                self.backlight.mode = 0;
+                self.backlight.left = 0;
+            }
+            1..=255 => self.backlight.duration = n as u8,
+            _ => {}
+        }
+    }
+
+    fn set_icon(&mut self, icon: usize, n: u16, good: bool) {
+        if good {
+            self.icons[icon] = n as u8;
+        }
+    }
+
+    fn numbered(&mut self, letter: u8, n: u16) -> bool {
+        match letter {
+            b'D' => self.set_mode(n),
+            b'S' => self.set_icon(0, n, n <= 1),
+            b'U' => self.set_icon(1, n, n <= 1 || n == 255),
+            b'F' => self.set_icon(2, n, n <= 6),
+            b'R' => self.set_icon(3, n, n <= 1),
+            b'P' => self.set_icon(4, n, n <= 19),
+            b'W' => self.set_icon(5, n, n <= 3),
+            b'L' => self.set_volume(1, n),
+            b'J' | b'I' => self.set_volume(2, n),
+            b'M' => match n {
+                0 => self.volume.mute = false,
+                1 => {
+                    self.volume.mute = true;
+                    self.volume.hidden = false;
+                }
+                _ => {}
+            },
+            b'B' => {
+                if n <= 255 {
+                    self.buzzer = n as u8;
+                }
+            }
+            b'E' => self.set_light(n),
+            _ => return false,
+        }
+        true
+    }
+
+    fn light_letter(&mut self, letter: u8) -> bool {
+        match letter {
+            b'E' => {
+                self.backlight.mode = 1;
+                self.backlight.left = 0;
+            }
+            b'A' => {
+                self.backlight.mode = 2;
+                self.backlight.left = self.backlight.duration;
+            }
+            b'S' => self.backlight.mode = 2,
+            b'R' => self.backlight.duration = 30,
+            b'e' => self.backlight.keypad = true,
+            b'r' => self.backlight.keypad = false,
+            _ => return false,
+        }
+        true
+    }
+
+    // Whether the frame is good; a number out of range is passed over.
+    fn obey(&mut self, frame: &[u8]) -> bool {
+        match frame {
+            [b'[', numbers @ .., b'H'] => match pair(numbers) {
+                None => false,
+                Some((row, column)) => {
+                    if (row as usize) < self.rows() && column <= 15 {
+                        self.row = row as usize;
+                        self.column = column as usize;
+                    }
+                    true
+                }
+            },
+            [b'&', b'#'] => {
+                self.text = [0x20; 80];
+                self.row = 0;
+                self.column = 0;
+                true
+            }
+            [b'&', b'C'] => {
+                self.shown = true;
+                true
+            }
+            [b'&', b'D'] => {
+                self.shown = false;
+                true
+            }
+            [b'I', b'K', b'0'] => {
+                self.labels[0].set(b"") && self.labels[1].set(b"")
+            }
+            [b'I', b'K', b'1', text @ ..] => self.labels[0].set(text),
+            [b'I', b'K', b'2', text @ ..] => self.labels[1].set(text),
+            [b'I', b'D', b'D'] => {
+                self.on = false;
+                true
+            }
+            [b'I', b'D', b'E'] => {
+                self.on = true;
+                true
+            }
+            [b'I', b'E', letter] if self.light_letter(*letter) => true,
+            [b'I', b'T', numbers @ ..] => match pair(numbers) {
+                None => false,
+                Some((time1, time2)) => {
+                    if (4..=50).contains(&time1) && (time2 == 0 || (4..=50).contains(&time2)) {
+                        self.times = [time1 as u8, time2 as u8];
+                    }
+                    true
+                }
+            },
+            [b'I', letter, digits @ ..] => match number(digits) {
+                None => false,
+                Some(n) => self.numbered(*letter, n),
+            },
+            [b'G', b'r', row @ b'0'..=b'9', b',', data @ .., b'z'] => match columns(data) {
+                None => false,
+                Some((columns, used)) => {
+                    let row = (row - b'0') as usize;
+                    if row <= 6 {
+                        let kept = if row == 6 { 31 } else { 255 };
+                        for (place, column) in self.picture[row * 96..].iter_mut().zip(&columns[..used]) {
+                            *place = column & kept;
+                        }
+                    }
+                    true
+                }
+            },
+            _ => false,
+        }
+    }
+
+    fn in_range(&self) -> bool {
+        let [s, u, f, r, p, w] = self.icons;
+        let v = &self.volume;
+        matches!(self.mode, 0 | 1 | 5 | 6)
+            && matches!(self.overlay, 0 | 11 | 12 | 13)
+            && self.row < self.rows()
+            && self.column <= 16
+            && self.text.iter().fold(true, |ok, &b| ok & (b >= 0x20))
+            && self.labels[0].in_range()
+            && self.labels[1].in_range()
+            && self.picture[576..].iter().fold(true, |ok, &b| ok & (b < 32))
+            && (s <= 1 && (u <= 1 || u == 255) && f <= 6 && r <= 1 && p <= 19 && w <= 3)
+            && (v.which <= 2 && (if v.which == 0 { v.level == 0 } else { (1..=10).contains(&v.level) && !v.hidden }))
+            && (4..=50).contains(&self.times[0])
+            && (self.times[1] == 0 || (4..=50).contains(&self.times[1]))
+            && (self.backlight.mode <= 2 && self.backlight.duration >= 1 && (self.backlight.left == 0 || self.backlight.mode == 2))
+    }
+}
+
+impl Handset {
+    pub fn power_on() -> Handset {
+        let label = || Label { len: 0, codes: [0; 7] };
+        Handset {
+            display: Display {
+                on: true,
+                mode: 0,
+                overlay: 0,
+                shown: false,
+                row: 0,
+                column: 0,
+                text: [0x20; 80],
+                labels: [label(), label()],
+                picture: [0; 672],
+                icons: [0; 6],
+                volume: Volume { which: 0, level: 0, mute: false, hidden: false },
+                times: [12, 12],
+                buzzer: 0,
+                backlight: Backlight { mode: 0, duration: 30, left: 0, keypad: false },
+            },
+            held: Held { down: false, key: 0, tick: 0, long: false },
+            reading: Reading::Text,
+            len: 0,
+            frame: [0; LIMIT],
+        }
+    }
+
+    fn in_range(&self) -> bool {
+        let h = &self.held;
+        let held = if h.down { h.key <= 18 } else { h.key == 0 && h.tick == 0 && !h.long };
+        self.display.in_range()
+            && held
+            && self.len <= LIMIT
+            && (self.reading == Reading::Frame || self.len == 0)
+            && self.frame[..self.len].iter().fold(true, |ok, &b| ok & (b != ESCAPE) & (b != CARRIAGE_RETURN))
+            && self.frame[self.len..].iter().fold(true, |ok, &b| ok & (b == 0))
+    }
+
+    /// The stream call, byte by byte.
+    #[inline(never)]
+    pub fn feed(&mut self, bytes: &[u8], answers: &mut [u8]) -> Fed {
+        if !self.in_range() {
+            return Fed { number: 1, used: 0, written: 0 };
+        }
+        let mut written = 0;
+        let mut used = 0;
+        while used < bytes.len() {
+            if !self.take(bytes[used], answers, &mut written) {
+                break;
+            }
+            used += 1;
+        }
+        self.frame[self.len..].fill(0);
+        Fed { number: 0, used, written }
+    }
+
+    // One byte; false where its answer has no room.
+    #[inline(always)]
+    fn take(&mut self, b: u8, answers: &mut [u8], written: &mut usize) -> bool {
+        if self.reading == Reading::Text {
+            if b >= 0x20 {
+                self.display.put(b);
+            } else if b == ESCAPE {
+                self.reading = Reading::Frame;
+            }
+            return true;
+        }
+        if b == ESCAPE || b == CARRIAGE_RETURN {
+            let good = b == CARRIAGE_RETURN && self.reading == Reading::Frame && self.display.obey(&self.frame[..self.len]);
+            if !good {
+                let Some(place) = answers.get_mut(*written) else { return false };
+                *place = b'?';
+                *written += 1;
+            }
+            self.reading = if b == ESCAPE { Reading::Frame } else { Reading::Text };
+            self.len = 0;
+        } else if self.reading == Reading::Frame {
+            if self.len < LIMIT {
+                self.frame[self.len] = b;
+                self.len += 1;
+            } else {
+                self.reading = Reading::Overlong;
+                self.len = 0;
+            }
+        }
+        true
+    }
+
+    /// The same call, tuned: a frame that stands whole in the bytes is obeyed there and not collected.
+    #[inline(never)]
+    pub fn feed_where_it_stands(&mut self, bytes: &[u8], answers: &mut [u8]) -> Fed {
+        if !self.in_range() {
+            return Fed { number: 1, used: 0, written: 0 };
+        }
+        let mut written = 0;
+        let mut used = 0;
+        while used < bytes.len() {
+            if self.reading == Reading::Text && bytes[used] == ESCAPE {
+                let rest = &bytes[used + 1..];
+                let end = rest.iter().take(LIMIT + 1).position(|&b| b == CARRIAGE_RETURN || b == ESCAPE);
+                if let Some(end) = end {
+                    if rest[end] == CARRIAGE_RETURN && self.display.obey(&rest[..end]) {
+                        used += end + 2;
+                        continue;
+                    }
+                }
+            }
+            if !self.take(bytes[used], answers, &mut written) {
+                break;
+            }
+            used += 1;
+        }
+        self.frame[self.len..].fill(0);
+        Fed { number: 0, used, written }
+    }
+
+    /// The number that crates/measure takes from what a call left.
+    pub fn mark(&self, fed: &Fed) -> u64 {
+        const PRIME: u64 = 1_000_003;
+        let d = &self.display;
+        let small = [
+            d.mode,
+            d.overlay,
+            d.row as u8,
+            d.column as u8,
+            d.labels[0].len as u8,
+            d.labels[1].len as u8,
+            d.icons[0],
+            d.icons[1],
+            d.icons[2],
+            d.icons[3],
+            d.icons[4],
+            d.icons[5],
+            d.volume.which,
+            d.volume.level,
+        ];
+        let bytes = d.text.iter().chain(&d.picture).chain(&d.labels[0].codes).chain(&d.labels[1].codes).chain(&small);
+        let counts = [fed.used as u64, fed.written as u64];
+        let numbers = bytes.map(|&b| b as u64).chain(counts);
+        numbers.fold(0, |mark, n| (mark * 31 + n % PRIME) % PRIME)
+    }
+
+    /// What a peer's screen is compared with: the text, both labels and icon P.
+    #[allow(dead_code)]
+    pub fn seen(&self) -> (&[u8; 80], [&[u8]; 2], u8) {
+        let d = &self.display;
+        (&d.text, [&d.labels[0].codes[..d.labels[0].len], &d.labels[1].codes[..d.labels[1].len]], d.icons[4])
+    }
+}

@@ -1,0 +1,109 @@
+//! The streams that are timed, made by a fixed seed: the same operations for the handset and as ANSI.
+
+pub struct Work {
+    pub handset: Vec<u8>,
+    pub ansi: Vec<u8>,
+}
+
+// xorshift, by a fixed seed
+struct Dice(u64);
+
+impl Dice {
+    fn below(&mut self, n: u64) -> u64 {
+        self.0 ^= self.0 << 13;
+        self.0 ^= self.0 >> 7;
+        self.0 ^= self.0 << 17;
+        (self.0 >> 11) % n
+    }
+
+    fn codes(&mut self, n: u64) -> Vec<u8> {
+        (0..n).map(|_| b' ' + self.below(95) as u8).collect()
+    }
+
+    // Letters alone: an ANSI string command would end or part at some signs.
+    fn letters(&mut self, n: u64) -> Vec<u8> {
+        (0..n).map(|_| b'a' + self.below(26) as u8).collect()
+    }
+}
+
+fn command(stream: &mut Vec<u8>, body: &[u8]) {
+    stream.push(0x1B);
+    stream.extend_from_slice(body);
+    stream.extend_from_slice(b"\r\n");
+}
+
+fn operation(dice: &mut Dice, work: &mut Work) {
+    match dice.below(16) {
+        0 => {
+            command(&mut work.handset, b"&#");
+            work.ansi.extend_from_slice(b"\x1b[2J\x1b[H");
+        }
+        1 => {
+            let side = 1 + dice.below(2);
+            let length = dice.below(8);
+            let text = dice.letters(length);
+            command(&mut work.handset, &[format!("IK{side}").as_bytes(), &text[..]].concat());
+            work.ansi.extend_from_slice(&[format!("\x1b]{side};").as_bytes(), &text[..], b"\x07"].concat());
+        }
+        2 => {
+            let icon = dice.below(20);
+            command(&mut work.handset, format!("IP{icon}").as_bytes());
+            work.ansi.extend_from_slice(format!("\x1b]3;{icon}\x07").as_bytes());
+        }
+        _ => {
+            let row = dice.below(4);
+            let column = dice.below(4);
+            let length = 13 + dice.below(4 - column);
+            let text = dice.codes(length);
+            command(&mut work.handset, format!("[{row};{column}H").as_bytes());
+            work.handset.extend_from_slice(&text);
+            work.handset.extend_from_slice(b"\r\n");
+            work.ansi.extend_from_slice(format!("\x1b[{};{}H", row + 1, column + 1).as_bytes());
+            work.ansi.extend_from_slice(&text);
+        }
+    }
+}
+
+fn fresh() -> (Dice, Work) {
+    (Dice(0x2545F4914F6CDD1D), Work { handset: Vec::new(), ansi: Vec::new() })
+}
+
+/// So many operations: text at positions, an icon now and then, labels, clears.
+pub fn mixed(operations: usize) -> Work {
+    let (mut dice, mut work) = fresh();
+    for _ in 0..operations {
+        operation(&mut dice, &mut work);
+    }
+    work
+}
+
+/// The mixed operations up to this many bytes.
+pub fn mixed_of(bytes: usize) -> Vec<u8> {
+    let (mut dice, mut work) = fresh();
+    while work.handset.len() < bytes {
+        work.ansi.clear();
+        operation(&mut dice, &mut work);
+    }
+    work.handset.truncate(bytes);
+    work.handset
+}
+
+/// So many picture frames of a whole row each, with runs and without.
+pub fn pictures(frames: usize) -> Vec<u8> {
+    let (mut dice, mut work) = fresh();
+    for _ in 0..frames {
+        let mut body = format!("Gr{},", dice.below(7)).into_bytes();
+        let mut left = 96;
+        while 0 < left {
+            let run = if dice.below(4) == 0 { (2 + dice.below(25)).min(left) } else { 1 };
+            if 1 < run {
+                body.push(b'a' + run as u8 - 2);
+            }
+            body.extend_from_slice(format!("{:02X}", dice.below(256)).as_bytes());
+            left -= run;
+        }
+        body.push(b'z');
+        command(&mut work.handset, &body);
+    }
+    work.handset
+}
