@@ -1,0 +1,219 @@
+-- EACH PUBLIC FUNCTION'S OWN CLAUSE, as its proof was checked against it, is the equation that this page speaks of: by refl, in every
+-- model of the logic. `a` is the arguments in their order, `q` the result, `e` the arguments at exit; what is lent is read by `now`.
+-- Assumes nothing.
+use Prim.Native.Nat.{ℕ}
+use mathlib.Core.Path.{_≡_, refl}
+use lib.ListN.{length}
+use base.Logic.{sep}
+use contract.Lifetimes.{Lfts}
+use contract.Monad.{fact}
+use denote.Ref.{now}
+use denote.Triple.Clauses.{Ended, AtExit}
+use borrow.Fn.World.{World, Pr, ArgsD, ResD}
+use Rattle.record.specs.Answer.{numberOf}
+use Rattle.record.specs.Range.{rowsOf, lastColumnOf, inRange}
+use Rattle.record.specs.PowerOn.{timesAtPowerOn, startingWith, powerOn}
+use Rattle.fields.specs.Fields.{withField}
+use Rattle.numeral.specs.Numeral as Numerals
+use Rattle.picture.specs.Reading.{columnsRead}
+use Rattle.picture.specs.Writing.{dataWritten}
+use Rattle.command.specs.InRange.{commandInRange, mostRows}
+use Rattle.command.specs.Reading.{readOf, opensPicture, pictureOf}
+use Rattle.effect.specs.Obey.{Obeys, core}
+use Rattle.reader.specs.Stream.{fedOf, answersAfter}
+use Rattle.keys.specs.Log.{outcome, handedBack, bufferAfter}
+use Rattle.light.specs.Seconds.{passed, lightPassed}
+use Rattle.seen.specs.Rows.{rowSeen, smsSeen, volumeSeen}
+use Rattle.writer.specs.Writing.{bodyOf, labelBody, rowBody, frameOf, isLabel, isRow, writtenOf, roomAfter}
+use Rattle.record.proofs.number as Number
+use Rattle.record.proofs.number.Reads as NumberReads
+use Rattle.record.proofs.rows as Rows
+use Rattle.record.proofs.rows.Reads as RowsReads
+use Rattle.record.proofs.last_column as LastColumn
+use Rattle.record.proofs.last_column.Reads as LastColumnReads
+use Rattle.record.proofs.in_range as RecordInRange
+use Rattle.record.proofs.in_range.Reads as RecordInRangeReads
+use Rattle.record.proofs.Times.power_on as TimesPowerOn
+use Rattle.record.proofs.Times.power_on.Reads as TimesPowerOnReads
+use Rattle.record.proofs.Record.starting_with as StartingWith
+use Rattle.record.proofs.Record.starting_with.Reads as StartingWithReads
+use Rattle.record.proofs.Record.power_on as PowerOn
+use Rattle.record.proofs.Record.power_on.Reads as PowerOnReads
+use Rattle.fields.proofs.with_field as WithField
+use Rattle.fields.proofs.with_field.Reads as WithFieldReads
+use Rattle.numeral.proofs.read_number as ReadNumber
+use Rattle.numeral.proofs.read_number.Reads as ReadNumberReads
+use Rattle.numeral.proofs.digits_of as DigitsOf
+use Rattle.numeral.proofs.digits_of.Reads as DigitsOfReads
+use Rattle.picture.proofs.read_data as ReadData
+use Rattle.picture.proofs.read_data.Reads as ReadDataReads
+use Rattle.picture.proofs.write_data as WriteData
+use Rattle.picture.proofs.write_data.Reads as WriteDataReads
+use Rattle.command.proofs.in_range as CommandInRange
+use Rattle.command.proofs.in_range.Reads as CommandInRangeReads
+use Rattle.command.proofs.read_command as ReadCommand
+use Rattle.command.proofs.read_command.Reads as ReadCommandReads
+use Rattle.command.proofs.opens_picture as OpensPicture
+use Rattle.command.proofs.opens_picture.Reads as OpensPictureReads
+use Rattle.command.proofs.read_picture as ReadPicture
+use Rattle.command.proofs.read_picture.Reads as ReadPictureReads
+use Rattle.effect.proofs.obey as Obey
+use Rattle.effect.proofs.obey.Reads as ObeyReads
+use Rattle.reader.proofs.feed as Feed
+use Rattle.reader.proofs.feed.Reads as FeedReads
+use Rattle.keys.proofs.take_log as TakeLog
+use Rattle.keys.proofs.take_log.Reads as TakeLogReads
+use Rattle.light.proofs.second as Second
+use Rattle.light.proofs.second.Reads as SecondReads
+use Rattle.light.proofs.second_in_place as SecondInPlace
+use Rattle.seen.proofs.row_seen as RowSeen
+use Rattle.seen.proofs.row_seen.Reads as RowSeenReads
+use Rattle.seen.proofs.sms_seen as SmsSeen
+use Rattle.seen.proofs.sms_seen.Reads as SmsSeenReads
+use Rattle.seen.proofs.volume_seen as VolumeSeen
+use Rattle.seen.proofs.volume_seen.Reads as VolumeSeenReads
+use Rattle.writer.proofs.write_command as WriteCommand
+use Rattle.writer.proofs.write_command.Reads as WriteCommandReads
+use Rattle.writer.proofs.write_label as WriteLabel
+use Rattle.writer.proofs.write_label.Reads as WriteLabelReads
+use Rattle.writer.proofs.write_picture_row as WritePictureRow
+use Rattle.writer.proofs.write_picture_row.Reads as WritePictureRowReads
+
+-- a contract's ensures clause, of the arguments, the result and the arguments at exit, in a model
+abbrev Clause : Ended → Type 2
+Clause t = (κs : Lfts (t .signature .lifetimes)) → ArgsD (t .signature) κs → Unit {0} → ResD (t .signature) κs → AtExit t κs → (w : World) → Pr w
+
+-- what a clause claims of them
+abbrev Claim : Ended → Type 1
+Claim t = (κs : Lfts (t .signature .lifetimes)) → ArgsD (t .signature) κs → ResD (t .signature) κs → AtExit t κs → Type 0
+
+-- the clause is this claim; two clauses are these two
+abbrev Says : (t : Ended) → Clause t → Claim t → Type 2
+Says t ensures claim =
+    (κs : Lfts (t .signature .lifetimes)) (a : ArgsD (t .signature) κs) (q : ResD (t .signature) κs) (e : AtExit t κs) (w : World)
+    → ensures κs a tt q e w ≡ fact (w .𝓤) (claim κs a q e)
+
+abbrev SaysBoth : (t : Ended) → Clause t → Claim t → Claim t → Type 2
+SaysBoth t ensures first second =
+    (κs : Lfts (t .signature .lifetimes)) (a : ArgsD (t .signature) κs) (q : ResD (t .signature) κs) (e : AtExit t κs) (w : World)
+    → ensures κs a tt q e w ≡ sep (w .𝓤) (fact (w .𝓤) (first κs a q e)) (fact (w .𝓤) (second κs a q e))
+
+-- record::number
+pub number-says : Says Number.ended NumberReads.ensures (λ κs a q e. q ≡ numberOf (a .0))
+number-says κs a q e w = refl
+
+-- record::rows
+pub rows-says : Says Rows.ended RowsReads.ensures (λ κs a q e. q ≡ rowsOf (a .0))
+rows-says κs a q e w = refl
+
+-- record::last_column
+pub last-column-says : Says LastColumn.ended LastColumnReads.ensures (λ κs a q e. q ≡ lastColumnOf (a .0))
+last-column-says κs a q e w = refl
+
+-- record::in_range
+pub record-in-range-says : Says RecordInRange.ended RecordInRangeReads.ensures (λ κs a q e. q ≡ inRange (a .0))
+record-in-range-says κs a q e w = refl
+
+-- record::Times::power_on
+pub times-power-on-says : Says TimesPowerOn.ended TimesPowerOnReads.ensures (λ κs a q e. q ≡ timesAtPowerOn)
+times-power-on-says κs a q e w = refl
+
+-- record::Record::starting_with
+pub record-starting-with-says : Says StartingWith.ended StartingWithReads.ensures (λ κs a q e. q ≡ startingWith (a .0))
+record-starting-with-says κs a q e w = refl
+
+-- record::Record::power_on
+pub record-power-on-says : Says PowerOn.ended PowerOnReads.ensures (λ κs a q e. q ≡ powerOn)
+record-power-on-says κs a q e w = refl
+
+-- fields::with_field
+pub with-field-says : Says WithField.ended WithFieldReads.ensures (λ κs a q e. q ≡ withField (a .0) (a .1 .0) (a .1 .1 .0) (a .1 .1 .1 .0))
+with-field-says κs a q e w = refl
+
+-- numeral::read_number
+pub read-number-says : Says ReadNumber.ended ReadNumberReads.ensures (λ κs a q e. q ≡ Numerals.numberOf (now (a .0)))
+read-number-says κs a q e w = refl
+
+-- numeral::digits_of
+pub digits-of-says : Says DigitsOf.ended DigitsOfReads.ensures (λ κs a q e. q ≡ Numerals.digitsOf (a .0))
+digits-of-says κs a q e w = refl
+
+-- picture::read_data
+pub read-data-says : Says ReadData.ended ReadDataReads.ensures (λ κs a q e. q ≡ columnsRead (now (a .0)))
+read-data-says κs a q e w = refl
+
+-- picture::write_data
+pub write-data-says : Says WriteData.ended WriteDataReads.ensures (λ κs a q e. q ≡ dataWritten (now (a .0)))
+write-data-says κs a q e w = refl
+
+-- command::in_range
+pub command-in-range-says : Says CommandInRange.ended CommandInRangeReads.ensures (λ κs a q e. q ≡ commandInRange (a .1 .0) (a .0))
+command-in-range-says κs a q e w = refl
+
+-- command::read_command
+pub read-command-says : Says ReadCommand.ended ReadCommandReads.ensures (λ κs a q e. q ≡ readOf (now (a .0)))
+read-command-says κs a q e w = refl
+
+-- command::opens_picture
+pub opens-picture-says : Says OpensPicture.ended OpensPictureReads.ensures (λ κs a q e. q ≡ opensPicture (now (a .0)))
+opens-picture-says κs a q e w = refl
+
+-- command::read_picture
+pub read-picture-says : Says ReadPicture.ended ReadPictureReads.ensures (λ κs a q e. q ≡ pictureOf (now (a .0)))
+read-picture-says κs a q e w = refl
+
+-- effect::obey
+pub obey-says : Says Obey.ended ObeyReads.ensures (λ κs a q e. Obeys (now (a .1 .1 .1 .0)) (core (a .0) (now (a .1 .0)) (now (a .1 .1 .0))) q (core (q .panel) (now (e .1 .0)) (now (e .1 .1 .0))))
+obey-says κs a q e w = refl
+
+-- reader::feed
+pub feed-says : SaysBoth Feed.ended FeedReads.ensures
+    (λ κs a q e. q ≡ fedOf (a .0) (now (a .1 .0)) (length (now (a .1 .1 .0))))
+    (λ κs a q e. now (e .1 .1 .0) ≡ answersAfter (a .0) (now (a .1 .0)) (now (a .1 .1 .0)))
+feed-says κs a q e w = refl
+
+-- keys::take_log
+pub take-log-says : SaysBoth TakeLog.ended TakeLogReads.ensures
+    (λ κs a q e. q ≡ handedBack (outcome (a .0) (now (a .1 .0)) (now (a .1 .1 .0)) (length (now (a .1 .1 .1 .0)))))
+    (λ κs a q e. now (e .1 .1 .1 .0) ≡ bufferAfter (outcome (a .0) (now (a .1 .0)) (now (a .1 .1 .0)) (length (now (a .1 .1 .1 .0)))) (now (a .1 .1 .1 .0)))
+take-log-says κs a q e w = refl
+
+-- light::second
+pub second-says : Says Second.ended SecondReads.ensures (λ κs a q e. q ≡ passed (a .0))
+second-says κs a q e w = refl
+
+-- light::second_in_place: its clause is named by the contract itself
+pub second-in-place-says : Says SecondInPlace.ended
+    (λ κs a g q e w. SecondInPlace.clauses (w .𝓤) (w .H) (w .𝓖 .A) (w .𝓜 .mem) (w .𝓡 .run) κs a .ensures g q e)
+    (λ κs a q e. (q ≡ lightPassed (now (a .0)) .answer) × (now (e .0) ≡ lightPassed (now (a .0)) .backlight))
+second-in-place-says κs a q e w = refl
+
+-- seen::row_seen
+pub row-seen-says : Says RowSeen.ended RowSeenReads.ensures (λ κs a q e. q ≡ rowSeen (a .0) (a .1 .0))
+row-seen-says κs a q e w = refl
+
+-- seen::sms_seen
+pub sms-seen-says : Says SmsSeen.ended SmsSeenReads.ensures (λ κs a q e. q ≡ smsSeen (a .0))
+sms-seen-says κs a q e w = refl
+
+-- seen::volume_seen
+pub volume-seen-says : Says VolumeSeen.ended VolumeSeenReads.ensures (λ κs a q e. q ≡ volumeSeen (a .0))
+volume-seen-says κs a q e w = refl
+
+-- writer::write_command
+pub write-command-says : SaysBoth WriteCommand.ended WriteCommandReads.ensures
+    (λ κs a q e. q ≡ writtenOf (commandInRange mostRows (a .0)) (frameOf (bodyOf (a .0))) (now (a .1 .0)))
+    (λ κs a q e. now (e .1 .0) ≡ roomAfter (commandInRange mostRows (a .0)) (frameOf (bodyOf (a .0))) (now (a .1 .0)))
+write-command-says κs a q e w = refl
+
+-- writer::write_label
+pub write-label-says : SaysBoth WriteLabel.ended WriteLabelReads.ensures
+    (λ κs a q e. q ≡ writtenOf (isLabel (now (a .1 .0))) (frameOf (labelBody (a .0) (now (a .1 .0)))) (now (a .1 .1 .0)))
+    (λ κs a q e. now (e .1 .1 .0) ≡ roomAfter (isLabel (now (a .1 .0))) (frameOf (labelBody (a .0) (now (a .1 .0)))) (now (a .1 .1 .0)))
+write-label-says κs a q e w = refl
+
+-- writer::write_picture_row
+pub write-picture-row-says : SaysBoth WritePictureRow.ended WritePictureRowReads.ensures
+    (λ κs a q e. q ≡ writtenOf (isRow (a .0) (now (a .1 .0))) (frameOf (rowBody (a .0) (now (a .1 .0)))) (now (a .1 .1 .0)))
+    (λ κs a q e. now (e .1 .1 .0) ≡ roomAfter (isRow (a .0) (now (a .1 .0))) (frameOf (rowBody (a .0) (now (a .1 .0)))) (now (a .1 .1 .0)))
+write-picture-row-says κs a q e w = refl

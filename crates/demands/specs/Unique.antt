@@ -1,0 +1,199 @@
+-- UNIQUENESS: for each public function two results, and two contents of what it was lent, that its own promise allows are equal. What is
+-- allowed is `Learnt`: what a caller learns of the result `q` and the arguments at exit `e` from the clauses. Assumes nothing.
+use mathlib.Core.Path.{_≡_, refl, sym, _∙_}
+use Prim.Native.Nat.{ℕ}
+use mathlib.Core.List.{List}
+use Rattle.record.specs.declared.Backlight.{Backlight}
+use contract.Lifetimes.{Lfts}
+use denote.Ref.{now}
+use denote.Triple.Clauses.{Ended, AtExit}
+use borrow.Fn.World.{ArgsD, ResD}
+use Rattle.light.specs.Seconds.{lightPassed}
+use Rattle.record.proofs.number as Number
+use Rattle.record.proofs.number.Reads as NumberReads
+use Rattle.record.proofs.rows as Rows
+use Rattle.record.proofs.rows.Reads as RowsReads
+use Rattle.record.proofs.last_column as LastColumn
+use Rattle.record.proofs.last_column.Reads as LastColumnReads
+use Rattle.record.proofs.in_range as RecordInRange
+use Rattle.record.proofs.in_range.Reads as RecordInRangeReads
+use Rattle.record.proofs.Times.power_on as TimesPowerOn
+use Rattle.record.proofs.Times.power_on.Reads as TimesPowerOnReads
+use Rattle.record.proofs.Record.starting_with as StartingWith
+use Rattle.record.proofs.Record.starting_with.Reads as StartingWithReads
+use Rattle.record.proofs.Record.power_on as PowerOn
+use Rattle.record.proofs.Record.power_on.Reads as PowerOnReads
+use Rattle.fields.proofs.with_field as WithField
+use Rattle.fields.proofs.with_field.Reads as WithFieldReads
+use Rattle.numeral.proofs.read_number as ReadNumber
+use Rattle.numeral.proofs.read_number.Reads as ReadNumberReads
+use Rattle.numeral.proofs.digits_of as DigitsOf
+use Rattle.numeral.proofs.digits_of.Reads as DigitsOfReads
+use Rattle.picture.proofs.read_data as ReadData
+use Rattle.picture.proofs.read_data.Reads as ReadDataReads
+use Rattle.picture.proofs.write_data as WriteData
+use Rattle.picture.proofs.write_data.Reads as WriteDataReads
+use Rattle.command.proofs.in_range as CommandInRange
+use Rattle.command.proofs.in_range.Reads as CommandInRangeReads
+use Rattle.command.proofs.read_command as ReadCommand
+use Rattle.command.proofs.read_command.Reads as ReadCommandReads
+use Rattle.command.proofs.opens_picture as OpensPicture
+use Rattle.command.proofs.opens_picture.Reads as OpensPictureReads
+use Rattle.command.proofs.read_picture as ReadPicture
+use Rattle.command.proofs.read_picture.Reads as ReadPictureReads
+use Rattle.effect.proofs.obey as Obey
+use Rattle.effect.proofs.obey.Reads as ObeyReads
+use Rattle.reader.proofs.feed as Feed
+use Rattle.reader.proofs.feed.Reads as FeedReads
+use Rattle.keys.proofs.take_log as TakeLog
+use Rattle.keys.proofs.take_log.Reads as TakeLogReads
+use Rattle.light.proofs.second as Second
+use Rattle.light.proofs.second.Reads as SecondReads
+use Rattle.light.proofs.second_in_place as SecondInPlace
+use Rattle.seen.proofs.row_seen as RowSeen
+use Rattle.seen.proofs.row_seen.Reads as RowSeenReads
+use Rattle.seen.proofs.sms_seen as SmsSeen
+use Rattle.seen.proofs.sms_seen.Reads as SmsSeenReads
+use Rattle.seen.proofs.volume_seen as VolumeSeen
+use Rattle.seen.proofs.volume_seen.Reads as VolumeSeenReads
+use Rattle.writer.proofs.write_command as WriteCommand
+use Rattle.writer.proofs.write_command.Reads as WriteCommandReads
+use Rattle.writer.proofs.write_label as WriteLabel
+use Rattle.writer.proofs.write_label.Reads as WriteLabelReads
+use Rattle.writer.proofs.write_picture_row as WritePictureRow
+use Rattle.writer.proofs.write_picture_row.Reads as WritePictureRowReads
+
+-- What two things are equal to the same is equal.
+pub two-equal : {A : Type 0} {one other it : A} → one ≡ it → other ≡ it → one ≡ other
+two-equal p q = p ∙ sym q
+
+-- what a promise allows of the arguments, the result and the arguments at exit
+abbrev Allows : Ended → Type 1
+Allows t = (κs : Lfts (t .signature .lifetimes)) → ArgsD (t .signature) κs → ResD (t .signature) κs → AtExit t κs → Type 0
+
+-- two results that are allowed, on the same arguments, are equal
+abbrev OneResult : (t : Ended) → Allows t → Type 0
+OneResult t allows =
+    (κs : Lfts (t .signature .lifetimes)) (a : ArgsD (t .signature) κs) (q q′ : ResD (t .signature) κs) (e e′ : AtExit t κs)
+    → allows κs a q e → allows κs a q′ e′ → q ≡ q′
+
+-- and what was lent is left the same, where `left` looks at it
+abbrev OneEnd : (t : Ended) (L : Type 0) → Allows t → ((κs : Lfts (t .signature .lifetimes)) → AtExit t κs → L) → Type 0
+OneEnd t L allows left =
+    (κs : Lfts (t .signature .lifetimes)) (a : ArgsD (t .signature) κs) (q q′ : ResD (t .signature) κs) (e e′ : AtExit t κs)
+    → allows κs a q e → allows κs a q′ e′ → (q ≡ q′) × (left κs e ≡ left κs e′)
+
+-- record::number
+pub number-one : OneResult Number.ended NumberReads.Learnt
+number-one κs a q q′ e e′ p p′ = two-equal p p′
+
+-- record::rows
+pub rows-one : OneResult Rows.ended RowsReads.Learnt
+rows-one κs a q q′ e e′ p p′ = two-equal p p′
+
+-- record::last_column
+pub last-column-one : OneResult LastColumn.ended LastColumnReads.Learnt
+last-column-one κs a q q′ e e′ p p′ = two-equal p p′
+
+-- record::in_range
+pub record-in-range-one : OneResult RecordInRange.ended RecordInRangeReads.Learnt
+record-in-range-one κs a q q′ e e′ p p′ = two-equal p p′
+
+-- record::Times::power_on
+pub times-power-on-one : OneResult TimesPowerOn.ended TimesPowerOnReads.Learnt
+times-power-on-one κs a q q′ e e′ p p′ = two-equal p p′
+
+-- record::Record::starting_with
+pub record-starting-with-one : OneResult StartingWith.ended StartingWithReads.Learnt
+record-starting-with-one κs a q q′ e e′ p p′ = two-equal p p′
+
+-- record::Record::power_on
+pub record-power-on-one : OneResult PowerOn.ended PowerOnReads.Learnt
+record-power-on-one κs a q q′ e e′ p p′ = two-equal p p′
+
+-- fields::with_field
+pub with-field-one : OneResult WithField.ended WithFieldReads.Learnt
+with-field-one κs a q q′ e e′ p p′ = two-equal p p′
+
+-- numeral::read_number
+pub read-number-one : OneResult ReadNumber.ended ReadNumberReads.Learnt
+read-number-one κs a q q′ e e′ p p′ = two-equal p p′
+
+-- numeral::digits_of
+pub digits-of-one : OneResult DigitsOf.ended DigitsOfReads.Learnt
+digits-of-one κs a q q′ e e′ p p′ = two-equal p p′
+
+-- picture::read_data
+pub read-data-one : OneResult ReadData.ended ReadDataReads.Learnt
+read-data-one κs a q q′ e e′ p p′ = two-equal p p′
+
+-- picture::write_data
+pub write-data-one : OneResult WriteData.ended WriteDataReads.Learnt
+write-data-one κs a q q′ e e′ p p′ = two-equal p p′
+
+-- command::in_range
+pub command-in-range-one : OneResult CommandInRange.ended CommandInRangeReads.Learnt
+command-in-range-one κs a q q′ e e′ p p′ = two-equal p p′
+
+-- command::read_command
+pub read-command-one : OneResult ReadCommand.ended ReadCommandReads.Learnt
+read-command-one κs a q q′ e e′ p p′ = two-equal p p′
+
+-- command::opens_picture
+pub opens-picture-one : OneResult OpensPicture.ended OpensPictureReads.Learnt
+opens-picture-one κs a q q′ e e′ p p′ = two-equal p p′
+
+-- command::read_picture
+pub read-picture-one : OneResult ReadPicture.ended ReadPictureReads.Learnt
+read-picture-one κs a q q′ e e′ p p′ = two-equal p p′
+
+-- reader::feed
+pub feed-one : OneEnd Feed.ended (List ℕ) FeedReads.Learnt (λ κs e. now (e .1 .1 .0))
+feed-one κs a q q′ e e′ p p′ = (two-equal (p .0) (p′ .0), two-equal (p .1) (p′ .1))
+
+-- keys::take_log
+pub take-log-one : OneEnd TakeLog.ended (List ℕ) TakeLogReads.Learnt (λ κs e. now (e .1 .1 .1 .0))
+take-log-one κs a q q′ e e′ p p′ = (two-equal (p .0) (p′ .0), two-equal (p .1) (p′ .1))
+
+-- light::second
+pub second-one : OneResult Second.ended SecondReads.Learnt
+second-one κs a q q′ e e′ p p′ = two-equal p p′
+
+-- light::second_in_place: what its clause claims (Tie, second-in-place-says)
+pub second-in-place-one : OneEnd SecondInPlace.ended Backlight
+    (λ κs a q e. (q ≡ lightPassed (now (a .0)) .answer) × (now (e .0) ≡ lightPassed (now (a .0)) .backlight))
+    (λ κs e. now (e .0))
+second-in-place-one κs a q q′ e e′ p p′ = (two-equal (p .0) (p′ .0), two-equal (p .1) (p′ .1))
+
+-- seen::row_seen
+pub row-seen-one : OneResult RowSeen.ended RowSeenReads.Learnt
+row-seen-one κs a q q′ e e′ p p′ = two-equal p p′
+
+-- seen::sms_seen
+pub sms-seen-one : OneResult SmsSeen.ended SmsSeenReads.Learnt
+sms-seen-one κs a q q′ e e′ p p′ = two-equal p p′
+
+-- seen::volume_seen
+pub volume-seen-one : OneResult VolumeSeen.ended VolumeSeenReads.Learnt
+volume-seen-one κs a q q′ e e′ p p′ = two-equal p p′
+
+-- writer::write_command
+pub write-command-one : OneEnd WriteCommand.ended (List ℕ) WriteCommandReads.Learnt (λ κs e. now (e .1 .0))
+write-command-one κs a q q′ e e′ p p′ = (two-equal (p .0) (p′ .0), two-equal (p .1) (p′ .1))
+
+-- writer::write_label
+pub write-label-one : OneEnd WriteLabel.ended (List ℕ) WriteLabelReads.Learnt (λ κs e. now (e .1 .1 .0))
+write-label-one κs a q q′ e e′ p p′ = (two-equal (p .0) (p′ .0), two-equal (p .1) (p′ .1))
+
+-- writer::write_picture_row
+pub write-picture-row-one : OneEnd WritePictureRow.ended (List ℕ) WritePictureRowReads.Learnt (λ κs e. now (e .1 .1 .0))
+write-picture-row-one κs a q q′ e e′ p p′ = (two-equal (p .0) (p′ .0), two-equal (p .1) (p′ .1))
+
+-- effect::obey: whether the frame is good, and the panel, text and picture as they are afterwards
+pub obey-one : (κs : Lfts (Obey.ended .signature .lifetimes)) (a : ArgsD (Obey.ended .signature) κs) (q q′ : ResD (Obey.ended .signature) κs) (e e′ : AtExit Obey.ended κs)
+    → ObeyReads.Learnt κs a q e → ObeyReads.Learnt κs a q′ e′
+    → (q ≡ q′) × (now (e .1 .0) ≡ now (e′ .1 .0)) × (now (e .1 .1 .0) ≡ now (e′ .1 .1 .0))
+obey-one κs a q q′ e e′ p p′ =
+    let same = two-equal (p .same) (p′ .same) in
+    let good = two-equal (p .good) (p′ .good) in
+    (λ j. record { good = good j; panel = same j .panel }, λ j. same j .text, λ j. same j .picture)
