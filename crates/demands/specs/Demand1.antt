@@ -23,7 +23,9 @@ use Rattle.command.specs.Agree.{agree, bad-frame}
 use Rattle.effect.specs.Core.{Core}
 use Rattle.effect.specs.Obey.{isGood}
 use Rattle.effect.specs.Keeps.{out-of-range-keeps}
-use Rattle.reader.specs.Stream.{obeyFrame, fedOf, answersAfter}
+use Rattle.parting.specs.Rules.{closed, abandoned, limit}
+use Rattle.parting.specs.Meaning.{close, act}
+use Rattle.reader.specs.Stream.{handset, obeyFrame, fedOf, answersAfter}
 use Rattle.keys.specs.Rules.{listed}
 use Rattle.keys.specs.Log.{outcome, handedBack, bufferAfter}
 use Rattle.keys.specs.Laws.{answers-1, answers-5, answers-4, answers-0}
@@ -71,6 +73,9 @@ pub record Demand1 : Type 0 where
   pub writer-done : (frame room : List ℕ) → length frame ≤ length room → (numberOf (writtenOf true frame room .answer) ≡ 0) × (writtenOf true frame room .count ≡ length frame)
   -- A bad frame gets one question mark, and nothing changes.
   pub bad-frame-asked : (c : Core) (frame : List ℕ) → ((o : Order) → Spells o frame → ⊥) → obeyFrame c frame ≡ record { core = c; answers = questionMark ∷ [] }
+  -- So do one that ESC abandons, and one that is closed with more than 250 bytes.
+  pub abandoned-asked : (c : Core) (body : List ℕ) → act handset c (abandoned body) ≡ record { core = c; answers = questionMark ∷ [] }
+  pub overlong-asked : (c : Core) (body : List ℕ) → limit < length body → act handset c (closed body) ≡ record { core = c; answers = questionMark ∷ [] }
   -- A frame with a number out of range gets silence, and nothing changes.
   pub out-of-range-silent : (c : Core) (frame : List ℕ) (o : Order) → Spells o frame → inRangeInMode (c .panel .screen .mode) o ≡ false
       → obeyFrame c frame ≡ record { core = c; answers = [] }
@@ -78,7 +83,7 @@ pub record Demand1 : Type 0 where
 -- The proof ---------------------------------------------------------------------------------------------------------
 
 pub demand1 : Demand1
-unfolding fedOf answersAfter writtenOf roomAfter
+unfolding fedOf answersAfter writtenOf roomAfter act close
 demand1 =
     record {
       feed-refuses = λ r bytes before h. rw h (record { named = refl; as-it-came = refl; none-used = refl; none-written = refl; untouched = refl });
@@ -97,6 +102,8 @@ demand1 =
       writer-refuses-3 = λ frame room l. rw (lt-leb (length frame) (length room) l) (refl, refl, refl);
       writer-done = λ frame room l. rw (le-leb (length frame) (length room) l) (refl, refl);
       bad-frame-asked = λ c frame h. rw (bad-frame frame .1 h);
+      abandoned-asked = λ c body. refl;
+      overlong-asked = λ c body l. rw (lt-leb (length body) limit l);
       out-of-range-silent = λ c frame o s h.
           let found = agree o frame .1 s in
           let same = out-of-range-keeps c frame o found h in
