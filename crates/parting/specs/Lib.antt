@@ -7,7 +7,6 @@ pub mod Reading
 pub mod Stream
 pub mod Room
 pub mod Calls
-pub mod Loop
 pub mod Kept
 pub mod Frames
 pub mod Joined
