@@ -13,6 +13,7 @@ use borrow.Fn.World.{World, Pr, ArgsD, ResD}
 use Rattle.record.specs.Answer.{numberOf}
 use Rattle.record.specs.Range.{rowsOf, lastColumnOf, inRange}
 use Rattle.record.specs.PowerOn.{timesAtPowerOn, startingWith, powerOn}
+use Rattle.ranges.specs.Parts.{joined}
 use Rattle.fields.specs.Fields.{withField}
 use Rattle.numeral.specs.Numeral as Numerals
 use Rattle.picture.specs.Reading.{columnsRead}
@@ -31,14 +32,16 @@ use Rattle.record.proofs.rows as Rows
 use Rattle.record.proofs.rows.Reads as RowsReads
 use Rattle.record.proofs.last_column as LastColumn
 use Rattle.record.proofs.last_column.Reads as LastColumnReads
-use Rattle.record.proofs.in_range as RecordInRange
-use Rattle.record.proofs.in_range.Reads as RecordInRangeReads
 use Rattle.record.proofs.Times.power_on as TimesPowerOn
 use Rattle.record.proofs.Times.power_on.Reads as TimesPowerOnReads
 use Rattle.record.proofs.Record.starting_with as StartingWith
 use Rattle.record.proofs.Record.starting_with.Reads as StartingWithReads
 use Rattle.record.proofs.Record.power_on as PowerOn
 use Rattle.record.proofs.Record.power_on.Reads as PowerOnReads
+use Rattle.ranges.proofs.in_range as RecordInRange
+use Rattle.ranges.proofs.in_range.Reads as RecordInRangeReads
+use Rattle.ranges.proofs.in_range_lent as InRangeLent
+use Rattle.ranges.proofs.in_range_lent.Reads as InRangeLentReads
 use Rattle.fields.proofs.with_field as WithField
 use Rattle.fields.proofs.with_field.Reads as WithFieldReads
 use Rattle.numeral.proofs.read_number as ReadNumber
@@ -110,10 +113,6 @@ rows-says κs a q e w = refl
 pub last-column-says : Says LastColumn.ended LastColumnReads.ensures (λ κs a q e. q ≡ lastColumnOf (a .0))
 last-column-says κs a q e w = refl
 
--- record::in_range
-pub record-in-range-says : Says RecordInRange.ended RecordInRangeReads.ensures (λ κs a q e. q ≡ inRange (a .0))
-record-in-range-says κs a q e w = refl
-
 -- record::Times::power_on
 pub times-power-on-says : Says TimesPowerOn.ended TimesPowerOnReads.ensures (λ κs a q e. q ≡ timesAtPowerOn)
 times-power-on-says κs a q e w = refl
@@ -125,6 +124,15 @@ record-starting-with-says κs a q e w = refl
 -- record::Record::power_on
 pub record-power-on-says : Says PowerOn.ended PowerOnReads.ensures (λ κs a q e. q ≡ powerOn)
 record-power-on-says κs a q e w = refl
+
+-- ranges::in_range
+pub record-in-range-says : Says RecordInRange.ended RecordInRangeReads.ensures (λ κs a q e. q ≡ inRange (a .0))
+record-in-range-says κs a q e w = refl
+
+-- ranges::in_range_lent
+pub in-range-lent-says : Says InRangeLent.ended InRangeLentReads.ensures
+    (λ κs a q e. q ≡ inRange (joined (a .0) (now (a .1 .0)) (now (a .1 .1 .0)) (a .1 .1 .1 .0) (a .1 .1 .1 .1 .0) (a .1 .1 .1 .1 .1 .0) (now (a .1 .1 .1 .1 .1 .1 .0))))
+in-range-lent-says κs a q e w = refl
 
 -- fields::with_field
 pub with-field-says : Says WithField.ended WithFieldReads.ensures (λ κs a q e. q ≡ withField (a .0) (a .1 .0) (a .1 .1 .0) (a .1 .1 .1 .0))

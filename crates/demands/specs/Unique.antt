@@ -15,14 +15,16 @@ use Rattle.record.proofs.rows as Rows
 use Rattle.record.proofs.rows.Reads as RowsReads
 use Rattle.record.proofs.last_column as LastColumn
 use Rattle.record.proofs.last_column.Reads as LastColumnReads
-use Rattle.record.proofs.in_range as RecordInRange
-use Rattle.record.proofs.in_range.Reads as RecordInRangeReads
 use Rattle.record.proofs.Times.power_on as TimesPowerOn
 use Rattle.record.proofs.Times.power_on.Reads as TimesPowerOnReads
 use Rattle.record.proofs.Record.starting_with as StartingWith
 use Rattle.record.proofs.Record.starting_with.Reads as StartingWithReads
 use Rattle.record.proofs.Record.power_on as PowerOn
 use Rattle.record.proofs.Record.power_on.Reads as PowerOnReads
+use Rattle.ranges.proofs.in_range as RecordInRange
+use Rattle.ranges.proofs.in_range.Reads as RecordInRangeReads
+use Rattle.ranges.proofs.in_range_lent as InRangeLent
+use Rattle.ranges.proofs.in_range_lent.Reads as InRangeLentReads
 use Rattle.fields.proofs.with_field as WithField
 use Rattle.fields.proofs.with_field.Reads as WithFieldReads
 use Rattle.numeral.proofs.read_number as ReadNumber
@@ -95,10 +97,6 @@ rows-one κs a q q′ e e′ p p′ = two-equal p p′
 pub last-column-one : OneResult LastColumn.ended LastColumnReads.Learnt
 last-column-one κs a q q′ e e′ p p′ = two-equal p p′
 
--- record::in_range
-pub record-in-range-one : OneResult RecordInRange.ended RecordInRangeReads.Learnt
-record-in-range-one κs a q q′ e e′ p p′ = two-equal p p′
-
 -- record::Times::power_on
 pub times-power-on-one : OneResult TimesPowerOn.ended TimesPowerOnReads.Learnt
 times-power-on-one κs a q q′ e e′ p p′ = two-equal p p′
@@ -110,6 +108,14 @@ record-starting-with-one κs a q q′ e e′ p p′ = two-equal p p′
 -- record::Record::power_on
 pub record-power-on-one : OneResult PowerOn.ended PowerOnReads.Learnt
 record-power-on-one κs a q q′ e e′ p p′ = two-equal p p′
+
+-- ranges::in_range
+pub record-in-range-one : OneResult RecordInRange.ended RecordInRangeReads.Learnt
+record-in-range-one κs a q q′ e e′ p p′ = two-equal p p′
+
+-- ranges::in_range_lent
+pub in-range-lent-one : OneResult InRangeLent.ended InRangeLentReads.Learnt
+in-range-lent-one κs a q q′ e e′ p p′ = two-equal p p′
 
 -- fields::with_field
 pub with-field-one : OneResult WithField.ended WithFieldReads.Learnt

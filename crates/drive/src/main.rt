@@ -504,7 +504,7 @@ fn power_on_call(out: &mut [u8], at: usize) -> Told {
 }
 
 fn in_range_call(r: Record, out: &mut [u8], at: usize) -> Told {
-    let good = flag(record::in_range(r));
+    let good = flag(ranges::in_range(r));
     let end = put_line(out, at, b"R", &[good]);
     kept(r, end)
 }

@@ -356,7 +356,7 @@ pub fn take_log(r: Record, ticks: &[u16], edges: &[u8], codes: &mut [u8]) -> Log
     ensures same { λ l. ⌜ l ≡ handedBack (outcome r (now (ticks .entry)) (now (edges .entry)) (length (now (codes .entry)))) ⌝ }
     ensures buffer { λ _. ⌜ now (codes .exit) ≡ bufferAfter (outcome r (now (ticks .entry)) (now (edges .entry)) (length (now (codes .entry)))) (now (codes .entry)) ⌝ }
 {
-    let good = record::in_range(r);
+    let good = ranges::in_range(r);
     if !good {
         return refuse(Answer::FieldOutOfRange, r);
     }

@@ -3,10 +3,10 @@ ghost use mathlib.Core.Path.{_≡_};
 ghost use Prim.Native.Nat.{_-_};
 ghost use Rattle.record.specs.Range.{backlightInRange};
 ghost use Rattle.light.specs.Seconds.{lowered, lightPassed, passed};
+use ranges::in_range;
 use record::Answer;
 use record::Backlight;
 use record::Record;
-use record::in_range;
 
 pub struct Passed {
     pub answer: Answer,

@@ -21,7 +21,7 @@ fn try_value(r: Record, field: Field, from: usize, end: usize, value: u16) -> Ta
     let mut everywhere = true;
     let mut anywhere = false;
     for place in from..end {
-        let ok = record::in_range(fields::with_field(r, field, place, value));
+        let ok = ranges::in_range(fields::with_field(r, field, place, value));
         everywhere = everywhere & ok;
         anywhere = anywhere | ok;
     }
@@ -114,7 +114,7 @@ fn list_lengths(name: &[u8], r: Record, array: Field, length: Field, most: u16) 
         first: 0,
     };
     for n in 0..=most {
-        run = next_run(run, record::in_range(of_length(r, array, length, n)), n);
+        run = next_run(run, ranges::in_range(of_length(r, array, length, n)), n);
     }
     if run.open {
         say_run(run.first, most);

@@ -130,7 +130,7 @@ pub extern "C" fn measure_range_checks(s: &[u8]) -> u64
     let mut i = 0;
     while i < s.len() {
         r.text[0] = s[i];
-        good += one_if(record::in_range(r));
+        good += one_if(ranges::in_range(r));
         i += 1;
     }
     good

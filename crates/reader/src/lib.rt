@@ -213,7 +213,7 @@ pub fn feed(r: Record, bytes: &[u8], answers: &mut [u8]) -> Fed
     ensures same { λ f. ⌜ f ≡ fedOf r (now (bytes .entry)) (length (now (answers .entry))) ⌝ }
     ensures buffer { λ f. ⌜ now (answers .exit) ≡ answersAfter r (now (bytes .entry)) (now (answers .entry)) ⌝ }
 {
-    if record::in_range(r) {
+    if ranges::in_range(r) {
         let d = read(r, bytes, answers);
         let after = d.record;
         return Fed {

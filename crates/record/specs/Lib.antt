@@ -1,6 +1,5 @@
 pub mod Answer
 pub mod Range
 pub mod PowerOn
-pub mod Scan
 pub mod With
 pub mod Laws

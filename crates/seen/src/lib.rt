@@ -8,6 +8,7 @@ ghost use lib.Seq.{slice};
 ghost use Rattle.seen.specs.Panels.{smsPanel, volumePanel};
 ghost use Rattle.seen.specs.Places.{covered, underBar, underLabels, underText, firstTextRow, ownerOn, placed};
 ghost use Rattle.seen.specs.Rows.{rowOf, barOf, labelsOf, noColumns, nothingSeen, contents, rowSeen, smsSeen, volumeSeen};
+use ranges::in_range;
 use record::Answer;
 use record::Icons;
 use record::Label;
@@ -15,7 +16,6 @@ use record::Panel;
 use record::Record;
 use record::Screen;
 use record::Volume;
-use record::in_range;
 
 pub enum SmsPanel {
     Nothing,

@@ -1,0 +1,201 @@
+// Whether each field of a record is within its range: the definitions of document 01's table are the record's.
+ghost use mathlib.Core.Path.{_≡_};
+ghost use Prim.Native.Nat.{_≤_};
+ghost use lib.ListN.{length};
+ghost use Rattle.record.specs.Range.{modeInRange, overlayInRange, cursorInRange, textInRange, labelInRange, pictureInRange, iconsInRange, volumeInRange, timesInRange, buzzerInRange, backlightInRange, heldInRange, frameInRange, inRange};
+ghost use Rattle.ranges.specs.Scan.{testOf, rightAt, filled};
+ghost use Rattle.ranges.specs.Parts.{joined};
+use record::Backlight;
+use record::Held;
+use record::Icons;
+use record::Label;
+use record::Panel;
+use record::Record;
+use record::Screen;
+use record::Times;
+use record::Volume;
+
+const ESCAPE: u8 = 0x1B;
+
+const CARRIAGE_RETURN: u8 = 0x0D;
+
+// What a used place of an array may hold.
+enum Place {
+    Code,
+    LowColumn,
+    FrameByte,
+}
+
+fn fits(place: Place, b: u8) -> bool
+    ensures { λ r. ⌜ r ≡ testOf place b ⌝ }
+{
+    match place {
+        Place::Code => 0x20 <= b,
+        Place::LowColumn => b < 32,
+        Place::FrameByte => (b != ESCAPE) & (b != CARRIAGE_RETURN),
+    }
+}
+
+// A used place holds what its kind may, an unused one zero.
+fn place_right(place: Place, used: bool, b: u8) -> bool
+    ensures { λ r. ⌜ r ≡ rightAt (testOf place) used b ⌝ }
+{
+    (used & fits(place, b)) | (!used & (b == 0))
+}
+
+// Whether every place is right where the first `len` are used. It looks at all of them and has no branch, so that it becomes vector
+// code. Whether a place is used is told by a byte that counts down from 255 to 255 - `len`: one that counted up would be taken for the
+// index and widened, and fewer places would go through at a time.
+fn scan(s: &[u8], len: u8, place: Place) -> bool
+    requires { ⌜ length (now s) ≤ 255 ⌝ }
+    ensures { λ r. ⌜ r ≡ filled (testOf place) len (now (s .entry)) ⌝ }
+{
+    let end = 255 - len;
+    let mut ok = true;
+    let mut left: u8 = 255;
+    let mut i = 0;
+    while i < s.len() {
+        ok = ok & place_right(place, end < left, s[i]);
+        left -= 1;
+        i += 1;
+    }
+    ok
+}
+
+fn mode_in_range(mode: u8) -> bool
+    ensures { λ r. ⌜ r ≡ modeInRange mode ⌝ }
+{
+    (mode == 0) | (mode == 1) | (mode == 5) | (mode == 6)
+}
+
+fn overlay_in_range(overlay: u8) -> bool
+    ensures { λ r. ⌜ r ≡ overlayInRange overlay ⌝ }
+{
+    (overlay == 0) | (overlay == 11) | (overlay == 12) | (overlay == 13)
+}
+
+fn cursor_in_range(s: Screen) -> bool
+    ensures { λ r. ⌜ r ≡ cursorInRange s ⌝ }
+{
+    (s.row < record::rows(s.mode)) & (s.column <= record::last_column(s.mode))
+}
+
+fn text_in_range(text: &[u8; 80]) -> bool
+    ensures { λ r. ⌜ r ≡ textInRange (now (text .entry)) ⌝ }
+{
+    scan(text, 80, Place::Code)
+}
+
+// Rows 0 to 5 take every byte.
+fn picture_in_range(picture: &[u8; 672]) -> bool
+    ensures { λ r. ⌜ r ≡ pictureInRange (now (picture .entry)) ⌝ }
+{
+    let rows = &picture[..];
+    scan(&rows[576..], 96, Place::LowColumn)
+}
+
+fn label_in_range(l: Label) -> bool
+    ensures { λ r. ⌜ r ≡ labelInRange l ⌝ }
+{
+    let len = l.len;
+    (len <= 7) & scan(&l.codes, len, Place::Code)
+}
+
+fn icons_in_range(i: Icons) -> bool
+    ensures { λ r. ⌜ r ≡ iconsInRange i ⌝ }
+{
+    (i.s <= 1)
+        & ((i.u == 0) | (i.u == 1) | (i.u == 255))
+        & (i.f <= 6)
+        & (i.r <= 1)
+        & (i.p <= 19)
+        & (i.w <= 3)
+}
+
+fn volume_in_range(v: Volume) -> bool
+    ensures { λ r. ⌜ r ≡ volumeInRange v ⌝ }
+{
+    (v.which <= 2)
+        & (((v.which == 0) & (v.level == 0)) | ((v.which != 0) & (1 <= v.level) & (v.level <= 10)))
+        & ((v.which == 0) | !v.hidden)
+}
+
+fn times_in_range(t: Times) -> bool
+    ensures { λ r. ⌜ r ≡ timesInRange t ⌝ }
+{
+    (4 <= t.time1.0)
+        & (t.time1.0 <= 50)
+        & ((t.time2.0 == 0) | ((4 <= t.time2.0) & (t.time2.0 <= 50)))
+}
+
+fn buzzer_in_range(value: u8) -> bool
+    ensures { λ r. ⌜ r ≡ buzzerInRange value ⌝ }
+{
+    value <= 255
+}
+
+fn backlight_in_range(b: Backlight) -> bool
+    ensures { λ r. ⌜ r ≡ backlightInRange b ⌝ }
+{
+    (b.mode <= 2)
+        & ((1 <= b.duration.0) & (b.duration.0 <= 255))
+        & ((b.left.0 == 0) | (b.mode == 2))
+}
+
+fn held_in_range(h: Held) -> bool
+    ensures { λ r. ⌜ r ≡ heldInRange h ⌝ }
+{
+    (h.down & (h.key <= 18)) | (!h.down & (h.key == 0) & (h.tick.0 == 0) & !h.long)
+}
+
+fn frame_in_range(state: u8, len: u8, bytes: &[u8; 250]) -> bool
+    ensures { λ r. ⌜ r ≡ frameInRange (record { state = state; len = len; bytes = now (bytes .entry) }) ⌝ }
+{
+    (len <= 250) & (state <= 2) & ((state == 1) | (len == 0)) & scan(bytes, len, Place::FrameByte)
+}
+
+// Whether every field is within its range, in the order of document 01's table, for one who keeps the arrays elsewhere.
+pub fn in_range_lent<'a>(
+    panel: Panel,
+    text: &'a [u8; 80],
+    picture: &'a [u8; 672],
+    held: Held,
+    state: u8,
+    len: u8,
+    bytes: &'a [u8; 250],
+) -> bool
+    ensures same { λ b. ⌜ b ≡ inRange (joined panel (now (text .entry)) (now (picture .entry)) held state len (now (bytes .entry))) ⌝ }
+{
+    mode_in_range(panel.screen.mode)
+        & overlay_in_range(panel.screen.overlay)
+        & cursor_in_range(panel.screen)
+        & text_in_range(text)
+        & label_in_range(panel.left)
+        & label_in_range(panel.right)
+        & picture_in_range(picture)
+        & icons_in_range(panel.icons)
+        & volume_in_range(panel.volume)
+        & times_in_range(panel.times)
+        & buzzer_in_range(panel.buzzer.0)
+        & backlight_in_range(panel.backlight)
+        & held_in_range(held)
+        & frame_in_range(state, len, bytes)
+}
+
+// The same of a record.
+pub fn in_range(r: Record) -> bool
+    ensures same { λ b. ⌜ b ≡ inRange r ⌝ }
+{
+    let held = r.held;
+    let state = r.frame.state;
+    let len = r.frame.len;
+    in_range_lent(
+        r.panel,
+        &r.text,
+        &r.picture,
+        held,
+        state,
+        len,
+        &r.frame.bytes,
+    )
+}
