@@ -3,18 +3,19 @@
 use Prim.Native.Nat.{ℕ, suc, _≤_, _<_}
 use mathlib.Core.Logic.{_⊎_}
 use mathlib.Core.Path.{_≡_, refl, sym, ap, _∙_, subst}
-use mathlib.Core.Bool.{true, cond}
+use mathlib.Core.Bool.{true}
 use mathlib.Core.List.{List, [], _∷_, _++_}
 use lib.ListN.{length, take, drop, replicate, length-replicate}
 use lib.Seq.{take-append-seam}
+use Rattle.record.specs.declared.Answer.the-variants.{Done}
 use Rattle.record.specs.declared.Held.{Held}
 use Rattle.record.specs.declared.Record.{Record}
-use Rattle.record.specs.Range.{inRange, heldInRange}
+use Rattle.record.specs.Range.{inRange}
 use Rattle.record.specs.Laws.{ranges, in-range}
 use Rattle.turns.specs.Room.{Ran, takenOf}
 use Rattle.turns.specs.Taking.{Taken}
 use Rattle.turns.specs.Calls.{Session, session, takenIn, sessions-alike, session-keeps}
-use Rattle.parting.specs.Rules.{Parted, Parting, Frame, Stands}
+use Rattle.parting.specs.Rules.{Parted, Parting, Stands}
 use Rattle.parting.specs.Meaning.{State, taking}
 use Rattle.parting.specs.Room.{run}
 use Rattle.parting.specs.Calls.{Call, offered}
@@ -23,8 +24,10 @@ use Rattle.parting.specs.Exactly.{ExactlyOne, exactly-one}
 use Rattle.parting.specs.Demand.{Demand3, demand3}
 use Rattle.effect.specs.Core.{Core, coreOf}
 use Rattle.effect.specs.Keeps.{CoreInRange, core-of-record, record-of-core, obey-keeps, store-keeps}
-use Rattle.reader.specs.declared.Fed.{Fed}
-use Rattle.reader.specs.Stream.{handset, keptFrame, frameIn, stateOf, recordOf, fedBy, fedOf, answersAfter, Ready}
+use Rattle.reader.specs.declared.Small.{Small}
+use Rattle.reader.specs.declared.Done.{Done as ReadDone}
+use Rattle.reader.specs.Stream.{handset, keptFrame, stateOf, recordOf, together, standing, emptied, fedBy, fedOf, answersAfter, Ready, Reads}
+use Rattle.reader.specs.Turns.{put-together}
 use Rattle.reader.specs.Frames.{places-of, frame-read, frame-back, frame-kept, frame-same}
 
 -- what a call writes into a room of so many places (it does not depend on what stood there before)
@@ -68,8 +71,23 @@ pub record FeedDemand3 (r : Record) (before : List ℕ) : Type 0 where
 -- The proof ---------------------------------------------------------------------------------------------------------
 
 -- A record in range is ready to be read on from.
-pub ready : (r : Record) → inRange r ≡ true → Ready r
+pub ready : (r : Record) → inRange r ≡ true → Ready (r .panel) (r .text) (r .picture) (r .frame .state) (r .frame .len) (r .frame .bytes)
 ready r h = record { range = core-of-record r (ranges r h); fits = places-of (r .frame) (ranges r h .frame) .fits }
+
+-- What the loop leaves of it, put together, is what the call hands back; the answers are the call's.
+module _ (small : Small) (t g fr bytes before : List ℕ) {done : ReadDone} {t′ g′ fr′ after : List ℕ} (n : ℕ) (e : n ≡ small .len) (h : inRange (together small t g fr) ≡ true)
+    (reads : Reads (standing (small .panel) t g (small .state) n fr) bytes before done t′ g′ fr′ after) where
+  reads-on : Reads (stateOf (together small t g fr)) bytes before done t′ g′ fr′ after
+  reads-on = subst (λ (m : ℕ). Reads (standing (small .panel) t g (small .state) m fr) bytes before done t′ g′ fr′ after) e reads
+
+  pub feeds : record { answer = Done; «record» = together (record { panel = done .panel; held = small .held; state = done .state; len = done .len }) t′ g′ (emptied fr′ (done .len)); used = done .used; written = done .written }
+      ≡ fedOf (together small t g fr) bytes (length before)
+  unfolding fedOf
+  feeds = rw h (λ j. record { answer = Done; «record» = put-together (small .held) reads-on j; used = reads-on .account .used j; written = reads-on .account .written j })
+
+  pub answers-fed : after ≡ answersAfter (together small t g fr) bytes before
+  unfolding answersAfter
+  answers-fed = rw h (reads-on .account .buffer)
 
 pub state-in-range : (r : Record) → inRange r ≡ true → Sound CoreInRange (stateOf r)
 state-in-range r h = record { holds = core-of-record r (ranges r h); frame = frame-read (r .frame) (ranges r h .frame) }

@@ -1,12 +1,12 @@
 -- The record's frame and the parting's frame are the same thing, told twice. Assumes nothing.
-use Prim.Native.Nat.{ℕ, zero, suc, _+_, _-_, _≤_, _<_}
+use Prim.Native.Nat.{ℕ, zero, suc, _+_, _-_}
 use native.Mathlib.Omega.{arith}
 use mathlib.Core.Path.{_≡_, refl, sym, ap, _∙_}
-use mathlib.Core.Bool.{Bool, true, false, true≢false, not, cond, _&&_, _||_}
+use mathlib.Core.Bool.{Bool, true, false, cond, _||_}
 use mathlib.Core.List.{List, [], _∷_, _++_}
-use lib.Dec.{eqb, leb}
+use lib.Dec.{eqb}
 use lib.ListN.{length, take, drop, replicate, length-drop, take-append-drop}
-use lib.Seq.{slice, take-all, take-append-seam, drop-append-seam, length-take-le}
+use lib.Seq.{take-all, drop-append-seam, length-take-le}
 use borrow.Author.Tests.{eqb-true, eqb-false, eq-eqb, ne-eqb, leb-true, le-leb, not-true}
 use Rattle.lists.specs.Codes.{escape, carriageReturn}
 use Rattle.lists.specs.Both.{both, and-both}
@@ -14,7 +14,7 @@ use Rattle.lists.specs.Every.{every}
 use Rattle.lists.specs.Padded.{padded, length-padded, held}
 use Rattle.record.specs.declared.Frame.{Frame as KeptFrame}
 use Rattle.record.specs.Range.{isFrameByte, isUnused, frameInRange}
-use Rattle.parting.specs.Rules.{Plain, Body, empty, collect, Frame, noFrame, openFrame, overlong, limit, FrameInRange}
+use Rattle.parting.specs.Rules.{Body, empty, collect, Frame, noFrame, openFrame, overlong, limit, FrameInRange}
 use Rattle.reader.specs.Stream.{keptFrame, frameIn, emptied, Fits}
 use Rattle.reader.specs.Turns.{coded}
 

@@ -1,27 +1,33 @@
 -- The handset's meaning for the parting's theory, how the record keeps a frame, and what the stream call hands back. Assumes nothing.
 use Prim.Native.Nat.{ℕ, _+_, _-_, _*_, _≤_}
 use mathlib.Core.Path.{_≡_}
-use mathlib.Core.Bool.{true, cond}
+use mathlib.Core.Bool.{true, false, cond}
 use mathlib.Core.List.{List, [], _∷_, _++_}
 use lib.Dec.{eqb, ltb}
 use lib.ListN.{length, take, drop, set, replicate}
-use Rattle.lists.specs.Codes.{questionMark}
+use Rattle.lists.specs.Codes.{carriageReturn, questionMark}
 use Rattle.lists.specs.Padded.{padded}
 use Rattle.record.specs.declared.Answer.the-variants.{Done, FieldOutOfRange}
 use Rattle.record.specs.declared.Panel.{Panel}
 use Rattle.record.specs.declared.Held.{Held}
 use Rattle.record.specs.declared.Frame.{Frame as KeptFrame}
 use Rattle.record.specs.declared.Record.{Record}
-use Rattle.record.specs.Range.{inRange, lastColumnOf}
+use Rattle.record.specs.Range.{inRange}
+use Rattle.ranges.specs.Parts.{joined}
 use Rattle.parting.specs.Rules.{Frame, noFrame, openFrame, overlong, limit}
-use Rattle.parting.specs.Meaning.{Answered, Meaning, State}
+use Rattle.parting.specs.Meaning.{Answered, Meaning, State, Taken}
+use Rattle.parting.specs.Reading.{step}
 use Rattle.parting.specs.Room.{Ran, run}
+use Rattle.turns.specs.Loop.{Account, still}
 use Rattle.effect.specs.Core.{Core, coreOf}
 use Rattle.effect.specs.Effect.{storeText}
 use Rattle.command.specs.Reading.{orderOf}
-use Rattle.effect.specs.Obey.{obeyOrder, isGood}
+use Rattle.effect.specs.declared.Obeyed.{Obeyed}
+use Rattle.effect.specs.Obey.{obeyOrder, isGood, core}
 use Rattle.effect.specs.Keeps.{CoreInRange}
 use Rattle.reader.specs.declared.Fed.{Fed}
+use Rattle.reader.specs.declared.Small.{Small}
+use Rattle.reader.specs.declared.FedLent.{FedLent}
 use Rattle.reader.specs.declared.Done.{Done as ReadDone}
 
 -- THE HANDSET: a text byte is stored, a good frame is obeyed in silence, a bad frame changes nothing and gets one '?'
@@ -65,6 +71,17 @@ writtenOver answers before = answers ++ drop (length answers) before
 unfoldable pub answersAfter : Record → List ℕ → List ℕ → List ℕ
 answersAfter r bytes before = cond (inRange r) (writtenOver (run handset (stateOf r) bytes (length before) .answers) before) before
 
+-- THE STREAM CALL ON LENT ARRAYS is the same call: the record is put together of the small fields and what is lent, and what comes
+-- back is that call's, with text, picture and the frame's bytes in the arrays
+abbrev pub together : Small → List ℕ → List ℕ → List ℕ → Record
+together small text picture bytes = joined (small .panel) text picture (small .held) (small .state) (small .len) bytes
+
+abbrev pub smallOf : Record → Small
+smallOf r = record { panel = r .panel; held = r .held; state = r .frame .state; len = r .frame .len }
+
+abbrev pub lentOf : Fed → FedLent
+lentOf f = record { answer = f .answer; small = smallOf (f .record); used = f .used; written = f .written }
+
 -- What the inner functions do -------------------------------------------------------------------------------------
 
 abbrev pub columnAfter : ℕ → ℕ
@@ -76,13 +93,9 @@ textAfter text row column b = cond (ltb column 16) (set text (row * 16 + column)
 unfoldable pub emptied : List ℕ → ℕ → List ℕ
 emptied bytes len = take len bytes ++ replicate (limit - len) 0
 
-abbrev pub wholeOf : Panel → List ℕ → List ℕ → Held → ℕ → ℕ → List ℕ → Record
-wholeOf panel text picture held state len bytes =
-    record { panel = panel; text = text; picture = picture; held = held; frame = record { state = state; len = len; bytes = emptied bytes len } }
-
 -- the state that the loop's locals stand for
 abbrev pub standing : Panel → List ℕ → List ℕ → ℕ → ℕ → List ℕ → State Core
-standing panel text picture state len bytes = record { core = record { panel = panel; text = text; picture = picture }; frame = frameIn state len bytes }
+standing panel text picture state len bytes = record { core = core panel text picture; frame = frameIn state len bytes }
 
 pub record Fits (state len : ℕ) (bytes : List ℕ) : Type 0 where
   pub known : state ≤ 2
@@ -90,13 +103,31 @@ pub record Fits (state len : ℕ) (bytes : List ℕ) : Type 0 where
   pub none : (state ≡ 1 → ⊥) → len ≡ 0
   pub full : length bytes ≡ limit
 
-pub record Ready (r : Record) : Type 0 where
-  pub range : CoreInRange (coreOf r)
-  pub fits : Fits (r .frame .state) (r .frame .len) (r .frame .bytes)
+-- what may be read on from
+pub record Ready (panel : Panel) (text picture : List ℕ) (state len : ℕ) (bytes : List ℕ) : Type 0 where
+  pub range : CoreInRange (core panel text picture)
+  pub fits : Fits state len bytes
+
+-- a byte that is answered with nothing, and one that is answered with '?'
+abbrev pub quietly : State Core → Taken Core
+quietly state = record { state = state; answers = [] }
+
+abbrev pub asking : State Core → Taken Core
+asking state = record { state = state; answers = questionMark ∷ [] }
+
+-- CR in a frame of which so much is collected: it is obeyed in silence, or asked about and nothing changed
+abbrev pub collecting : ℕ → List ℕ → Frame
+collecting state body = cond (eqb state 1) (openFrame body) overlong
+
+pub record Closes (panel : Panel) (text picture : List ℕ) (state : ℕ) (body : List ℕ) (obeyed : Obeyed) (text′ picture′ : List ℕ) : Type 0 where
+  pub good : obeyed .good ≡ true
+      → step handset (record { core = core panel text picture; frame = collecting state body }) carriageReturn ≡ quietly (record { core = core (obeyed .panel) text′ picture′; frame = noFrame })
+  pub bad : obeyed .good ≡ false
+      → step handset (record { core = core panel text picture; frame = collecting state body }) carriageReturn ≡ asking (record { core = core panel text′ picture′; frame = noFrame })
+  pub keeps : obeyed .good ≡ false → core panel text picture ≡ core panel text′ picture′
+  pub range : CoreInRange (core panel text picture) → CoreInRange (core (obeyed .panel) text′ picture′)
 
 -- what the loop leaves
-pub record Reads (done : ReadDone) (r : Record) (before after : List ℕ) (ran : Ran Core) : Type 0 where
-  pub same : done .record ≡ recordOf (r .held) (ran .state)
-  pub used : done .used ≡ ran .used
-  pub written : done .written ≡ length (ran .answers)
-  pub buffer : after ≡ writtenOver (ran .answers) before
+pub record Reads (start : State Core) (bytes before : List ℕ) (done : ReadDone) (text picture frame after : List ℕ) : Type 0 where
+  pub account : Account (run handset start bytes (length before)) before (still (standing (done .panel) text picture (done .state) (done .len) frame) (done .used) (done .written) after)
+  pub fits : Fits (done .state) (done .len) frame

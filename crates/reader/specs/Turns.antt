@@ -1,26 +1,25 @@
 -- The turns of the reader's loop: what each kind of byte does to the state that the loop's locals stand for. Assumes nothing.
-use Prim.Native.Nat.{ℕ, zero, suc, _+_, _-_, _≤_, _<_}
+use Prim.Native.Nat.{ℕ, suc, _+_, _-_, _≤_, _<_}
 use native.Mathlib.Omega.{arith}
 use native.Mathlib.Numerals.{add-one}
-use native.Mathlib.Nat.{add-zero}
 use mathlib.Core.Path.{_≡_, refl, sym, ap, _∙_, subst}
 use mathlib.Core.Bool.{Bool, true, false, cond, true≢false}
 use mathlib.Core.Option.{Option, none, some}
 use mathlib.Core.List.{List, [], _∷_, _++_, append-nil, append-assoc}
 use lib.Dec.{eqb, ltb, leb}
-use lib.ListN.{length, take, drop, set, getD, replicate, length-set}
+use lib.ListN.{length, take, set, getD, replicate, length-set}
 use lib.Seq.{take-suc-set, length-take-le, take-all}
 use borrow.Author.Tests.{eqb-true, eqb-false, ne-eqb, ltb-true, leb-true}
 use Rattle.lists.specs.Codes.{escape, carriageReturn, blank, questionMark}
 use Rattle.lists.specs.Padded.{padded}
 use Rattle.record.specs.declared.Panel.{Panel}
+use Rattle.record.specs.declared.Held.{Held}
 use Rattle.record.specs.declared.Frame.{Frame as KeptFrame}
-use Rattle.record.specs.declared.Record.{Record}
 use Rattle.lists.specs.Both.{both}
 use Rattle.record.specs.Range.{rowsOf}
 use Rattle.record.specs.With.{withScreen, withColumn}
 use Rattle.parting.specs.Rules.{Frame, noFrame, openFrame, overlong, limit}
-use Rattle.parting.specs.Meaning.{Taken, State}
+use Rattle.parting.specs.Meaning.{State}
 use Rattle.parting.specs.Reading.{step, step-opens, step-stores, step-skips, step-abandons, step-closes, step-ends-overlong, step-collects, step-overflows, step-waits}
 use Rattle.parting.specs.Room.{Ran, run}
 use Rattle.turns.specs.Loop
@@ -34,14 +33,7 @@ use Rattle.command.specs.Reading.{orderOf}
 use Rattle.effect.specs.Obey.{obeyOrder, isGood, core, Obeys}
 use Rattle.effect.specs.Keeps.{CoreInRange, obey-keeps, store-keeps}
 use Rattle.reader.specs.declared.Done.{Done}
-use Rattle.reader.specs.Stream.{handset, keptFrame, frameIn, columnAfter, textAfter, emptied, wholeOf, standing, stateOf, recordOf, Fits, Reads}
-
--- a byte that is answered with nothing, and one that is answered with '?'
-abbrev pub quietly : State Core → Taken Core
-quietly v = record { state = v; answers = [] }
-
-abbrev pub asking : State Core → Taken Core
-asking v = record { state = v; answers = questionMark ∷ [] }
+use Rattle.reader.specs.Stream.{handset, keptFrame, frameIn, columnAfter, textAfter, collecting, emptied, together, standing, recordOf, quietly, asking, Fits, Closes, Reads}
 
 -- the frame that the locals show
 shows-noFrame : (state len : ℕ) (bs : List ℕ) → state ≡ 0 → frameIn state len bs ≡ noFrame
@@ -90,6 +82,54 @@ bad-same : (c : Core) (o : Option Order) → isGood o ≡ false → obeyOrder c 
 bad-same c none e = refl
 bad-same c (some o) e = absurd (true≢false e)
 
+shows-collecting : (state len : ℕ) (bs : List ℕ) → (state ≡ 0 → ⊥) → frameIn state len bs ≡ collecting state (take len bs)
+unfolding frameIn
+shows-collecting state len bs n = rw (ne-eqb state 0 n)
+
+-- CR in a frame ---------------------------------------------------------------------------------------------------
+
+module _ (p : Panel) (t g : List ℕ) (state : ℕ) (body : List ℕ) where
+  abbrev in-frame : State Core
+  in-frame = record { core = core p t g; frame = collecting state body }
+
+  -- of an overlong one
+  pub closes-long : (state ≡ 1 → ⊥) → Closes p t g state body (record { panel = p; good = false }) t g
+  closes-long n =
+      record {
+        good = λ x. absurd (true≢false (sym x));
+        bad = λ x. step-ends-overlong handset in-frame carriageReturn (rw (ne-eqb state 1 n)) refl;
+        keeps = λ x. refl;
+        range = λ x. x;
+      }
+
+  -- of a whole one
+  module _ (o : Obeyed) (t′ g′ : List ℕ) (e : state ≡ 1) (q : Obeys body (core p t g) o (core (o .panel) t′ g′)) where
+    closing : step handset in-frame carriageReturn ≡ record { state = record { core = obeyOrder (core p t g) (orderOf body); frame = noFrame }; answers = cond (isGood (orderOf body)) [] (questionMark ∷ []) }
+    closing = step-closes handset in-frame carriageReturn body (rw e) refl
+
+    obeyed : o .good ≡ true → step handset in-frame carriageReturn ≡ quietly (record { core = core (o .panel) t′ g′; frame = noFrame })
+    obeyed x =
+        let y : isGood (orderOf body) ≡ true = sym (q .good) ∙ x in
+        closing ∙ (λ j. record { state = record { core = sym (q .same) j; frame = noFrame }; answers = cond (y j) [] (questionMark ∷ []) })
+
+    bad-core : o .good ≡ false → obeyOrder (core p t g) (orderOf body) ≡ core p t g
+    bad-core x = bad-same (core p t g) (orderOf body) (sym (q .good) ∙ x)
+
+    bad-keeps : o .good ≡ false → core p t g ≡ core p t′ g′
+    bad-keeps x =
+        let z : core (o .panel) t′ g′ ≡ core p t g = q .same ∙ bad-core x in
+        λ j. record { panel = p; text = sym z j .text; picture = sym z j .picture }
+
+    asked : o .good ≡ false → step handset in-frame carriageReturn ≡ asking (record { core = core p t′ g′; frame = noFrame })
+    asked x =
+        let y : isGood (orderOf body) ≡ false = sym (q .good) ∙ x in
+        closing ∙ (λ j. record { state = record { core = (bad-core x ∙ bad-keeps x) j; frame = noFrame }; answers = cond (y j) [] (questionMark ∷ []) })
+
+    pub closes-whole : Closes p t g state body o t′ g′
+    closes-whole = record { good = obeyed; bad = asked; keeps = bad-keeps; range = λ k. rw (q .same) (obey-keeps (core p t g) body k) }
+
+-- A turn -------------------------------------------------------------------------------------------------------------
+
 module _ (p : Panel) (t g : List ℕ) (state len : ℕ) (fr : List ℕ) (b : ℕ) where
   abbrev here : State Core
   here = standing p t g state len fr
@@ -111,34 +151,19 @@ module _ (p : Panel) (t g : List ℕ) (state len : ℕ) (fr : List ℕ) (b : ℕ
   pub loud-esc : (state ≡ 0 → ⊥) → b ≡ escape → step handset (standing p t g state len fr) b ≡ asking (standing p t g 1 0 fr)
   loud-esc n h = step-abandons handset here b (shows-some state len fr n) h ∙ queried (core p t g) (sym (shows-new 0 fr refl))
 
-  -- CR in an overlong frame
-  pub loud-long : (state ≡ 0 → ⊥) → (state ≡ 1 → ⊥) → b ≡ carriageReturn → step handset (standing p t g state len fr) b ≡ asking (standing p t g 0 0 fr)
-  loud-long n m h = step-ends-overlong handset here b (shows-long state len fr n m) h ∙ queried (core p t g) (sym (shows-noFrame 0 0 fr refl))
+  -- CR in a frame
+  module _ {o : Obeyed} {t′ g′ : List ℕ} (n : state ≡ 0 → ⊥) (e : b ≡ carriageReturn) (k : Closes p t g state (take len fr) o t′ g′) where
+    ended : step handset (standing p t g state len fr) b ≡ step handset (record { core = core p t g; frame = collecting state (take len fr) }) carriageReturn
+    ended = λ j. step handset (record { core = core p t g; frame = shows-collecting state len fr n j }) (e j)
 
-  -- CR in an open frame
-  module _ (o : Obeyed) (t′ g′ : List ℕ) (e : state ≡ 1) (h : b ≡ carriageReturn) (q : Obeys (take len fr) (core p t g) o (core (o .panel) t′ g′)) where
     pub turn-good : o .good ≡ true → step handset (standing p t g state len fr) b ≡ quietly (standing (o .panel) t′ g′ 0 0 fr)
-    turn-good x =
-        let y : isGood (orderOf (take len fr)) ≡ true = sym (q .good) ∙ x in
-        step-closes handset here b (take len fr) (shows-open state len fr e) h
-        ∙ (λ j. record { state = record { core = sym (q .same) j; frame = sym (shows-noFrame 0 0 fr refl) j }; answers = cond (y j) [] (questionMark ∷ []) })
-
-    bad-core : o .good ≡ false → obeyOrder (core p t g) (orderOf (take len fr)) ≡ core p t g
-    bad-core x = bad-same (core p t g) (orderOf (take len fr)) (sym (q .good) ∙ x)
-
-    pub bad-keeps : o .good ≡ false → core p t g ≡ core p t′ g′
-    bad-keeps x =
-        let z : core (o .panel) t′ g′ ≡ core p t g = q .same ∙ bad-core x in
-        λ j. record { panel = p; text = sym z j .text; picture = sym z j .picture }
-
-    pub range-bad : o .good ≡ false → CoreInRange (core p t g) → CoreInRange (core p t′ g′)
-    range-bad x k = rw (← bad-keeps x) k
+    turn-good x = ended ∙ k .good x ∙ inSilence (core (o .panel) t′ g′) (sym (shows-noFrame 0 0 fr refl))
 
     pub loud-bad : o .good ≡ false → step handset (standing p t g state len fr) b ≡ asking (standing p t′ g′ 0 0 fr)
-    loud-bad x =
-        let y : isGood (orderOf (take len fr)) ≡ false = sym (q .good) ∙ x in
-        step-closes handset here b (take len fr) (shows-open state len fr e) h
-        ∙ (λ j. record { state = record { core = (bad-core x ∙ bad-keeps x) j; frame = sym (shows-noFrame 0 0 fr refl) j }; answers = cond (y j) [] (questionMark ∷ []) })
+    loud-bad x = ended ∙ k .bad x ∙ queried (core p t′ g′) (sym (shows-noFrame 0 0 fr refl))
+
+    pub range-bad : o .good ≡ false → CoreInRange (core p t g) → CoreInRange (core p t′ g′)
+    range-bad x r = rw (← k .keeps x) r
 
   -- any other byte in a frame
   pub turn-collect : Fits state len fr → state ≡ 1 → (b ≡ escape → ⊥) → (b ≡ carriageReturn → ⊥) → len < limit → step handset (standing p t g state len fr) b ≡ quietly (standing p t g state (len + 1) (set fr len b))
@@ -152,8 +177,8 @@ module _ (p : Panel) (t g : List ℕ) (state len : ℕ) (fr : List ℕ) (b : ℕ
       step-overflows handset here b (take len fr) (shows-open state len fr e) (record { not-escape = n; not-return = m }) (omega (arith, length-take-le len fr (omega (arith, k .full, k .short))))
       ∙ inSilence (core p t g) (sym (shows-long 2 0 fr (λ x. omega arith) (λ x. omega arith)))
 
-  pub turn-lost : (state ≡ 0 → ⊥) → (state ≡ 1 → ⊥) → (b ≡ escape → ⊥) → (b ≡ carriageReturn → ⊥) → step handset (standing p t g state len fr) b ≡ quietly (standing p t g state len fr)
-  turn-lost x y n m = step-waits handset here b (shows-long state len fr x y) (record { not-escape = n; not-return = m })
+  pub turn-lost : state ≡ 2 → (b ≡ escape → ⊥) → (b ≡ carriageReturn → ⊥) → step handset (standing p t g state len fr) b ≡ quietly (standing p t g state len fr)
+  turn-lost e n m = step-waits handset here b (shows-long state len fr (λ x. omega arith) (λ x. omega arith)) (record { not-escape = n; not-return = m })
 
 -- the places of the frame after each turn
 pub fits-none : (state : ℕ) (bs : List ℕ) → state ≤ 2 → length bs ≡ limit → Fits state 0 bs
@@ -185,19 +210,11 @@ coded state len bs k = go (eqb state 0) (eqb state 1) refl refl
         let two : state ≡ 2 = omega (arith, k .known) in
         empty 2 two (k .none m) ∙ ap keptFrame (sym (shows-long state len bs n m))
 
-pub fed : (r x : Record) (n : ℕ) (p : Panel) (t g : List ℕ) (state len : ℕ) (fr bytes : List ℕ) (i w : ℕ) (before after : List ℕ)
-    → n ≡ r .frame .len → Fits state len fr → x ≡ wholeOf p t g (r .held) state len fr
-    → Account (run handset (standing (r .panel) (r .text) (r .picture) (r .frame .state) n (r .frame .bytes)) bytes (length before)) before (still (standing p t g state len fr) i w after)
-    → Reads (record { «record» = x; used = i; written = w }) r before after (run handset (stateOf r) bytes (length before))
-fed r x n p t g state len fr bytes i w before after a k d e =
-    let start : standing (r .panel) (r .text) (r .picture) (r .frame .state) n (r .frame .bytes) ≡ stateOf r = ap (λ (m : ℕ). standing (r .panel) (r .text) (r .picture) (r .frame .state) m (r .frame .bytes)) a in
-    let q = subst (λ (s : State Core). Account (run handset s bytes (length before)) before (still (standing p t g state len fr) i w after)) start e in
-    record {
-      same = d ∙ ap (λ (y : KeptFrame). record { panel = p; text = t; picture = g; held = r .held; frame = y }) (coded state len fr k) ∙ ap (recordOf (r .held)) (q .state);
-      used = q .used;
-      written = q .written;
-      buffer = q .buffer;
-    }
+-- what the loop leaves, its frame's unused places emptied, is the record of the run
+pub put-together : {start : State Core} {bytes before : List ℕ} {done : Done} {t g fr after : List ℕ} (held : Held) → Reads start bytes before done t g fr after
+    → together (record { panel = done .panel; held = held; state = done .state; len = done .len }) t g (emptied fr (done .len)) ≡ recordOf held (run handset start bytes (length before) .state)
+put-together {done = done} {t = t} {g = g} {fr = fr} held k =
+    ap (λ (y : KeptFrame). record { panel = done .panel; text = t; picture = g; held = held; frame = y }) (coded (done .state) (done .len) fr (k .fits)) ∙ ap (recordOf held) (k .account .state)
 
 -- blanking, a place at a time
 pub blank-more : (bs : List ℕ) (i : ℕ) → i < limit → length bs ≡ limit → emptied bs i ≡ emptied (set bs i 0) (i + 1)
@@ -223,9 +240,9 @@ module _ {bytes before : List ℕ} {s : State Core} {answers : List ℕ} {p : Pa
       → Going bytes before s answers p′ t′ g′ state′ len′ fr′ (i + 1) w
   go-quiet x y e = record { account = Loop.go-quiet (step handset) (k .account) (begins-with bytes i 0 h) _ e; range = x; fits = y }
 
-  pub go-loud : {p′ : Panel} {t′ g′ : List ℕ} {state′ len′ : ℕ} {fr′ : List ℕ} → CoreInRange (core p′ t′ g′) → Fits state′ len′ fr′ → step handset (standing p t g state len fr) (getD bytes i 0) ≡ asking (standing p′ t′ g′ state′ len′ fr′) → w < length answers
-      → Going bytes before s (set answers w questionMark) p′ t′ g′ state′ len′ fr′ (i + 1) (w + 1)
-  go-loud x y e l = record { account = Loop.go-one (step handset) (k .account) (begins-with bytes i 0 h) _ questionMark e l; range = x; fits = y }
+  pub go-loud : {p′ : Panel} {t′ g′ : List ℕ} {state′ len′ : ℕ} {fr′ : List ℕ} {w′ : ℕ} {answers′ : List ℕ} → CoreInRange (core p′ t′ g′) → Fits state′ len′ fr′ → step handset (standing p t g state len fr) (getD bytes i 0) ≡ asking (standing p′ t′ g′ state′ len′ fr′) → w < length answers
+      → (w′ ≡ w + 1) × (answers′ ≡ set answers w questionMark) → Going bytes before s answers′ p′ t′ g′ state′ len′ fr′ (i + 1) w′
+  go-loud x y e l (m, n) = rw (m, n) (record { account = Loop.go-one (step handset) (k .account) (begins-with bytes i 0 h) _ questionMark e l; range = x; fits = y })
 
   pub go-halt : {v : State Core} → step handset (standing p t g state len fr) (getD bytes i 0) ≡ asking v → length answers ≤ w
       → Account (run handset s bytes (length before)) before (still (standing p t g state len fr) i w answers)
@@ -237,9 +254,6 @@ pub same-core : {ran : Ran Core} {before : List ℕ} {x y : Core} {f : Frame} {i
 same-core {ran} {before} {f} {i} {w} {after} e a = subst (λ (c : Core). Account ran before (still (record { core = c; frame = f }) i w after)) e a
 
 -- the core stays in range
-pub range-obeyed : (o : Obeyed) (p : Panel) (t g f t′ g′ : List ℕ) → Obeys f (core p t g) o (core (o .panel) t′ g′) → CoreInRange (core p t g) → CoreInRange (core (o .panel) t′ g′)
-range-obeyed o p t g f t′ g′ q h = rw (q .same) (obey-keeps (core p t g) f h)
-
 pub range-stored : (p : Panel) (t g : List ℕ) (b next : ℕ) (t′ : List ℕ) → blank ≤ b → next ≡ columnAfter (p .screen .column) → t′ ≡ textAfter t (p .screen .row) (p .screen .column) b
     → CoreInRange (core p t g) → CoreInRange (core (withScreen p (withColumn (p .screen) next)) t′ g)
 range-stored p t g b next t′ h x y k = rw (x, y, ← stored p t g b) (store-keeps (core p t g) b k h)
@@ -256,3 +270,40 @@ pub in-place : {p : Panel} {t g : List ℕ} → CoreInRange (core p t g) → (p 
 in-place {p} k =
     let e = both {a = ltb (p .screen .row) (rowsOf (p .screen .mode))} (k .cursor) in
     (rows-at-most (p .screen .mode) (p .screen .row) (e .0), leb-true (p .screen .column) 16 (e .1))
+
+-- A run of text bytes: wherever the loop stood before it, it stands after it ------------------------------------------
+
+pub record Stores (row column : ℕ) (t bytes : List ℕ) (from at next : ℕ) (t′ : List ℕ) : Type 0 where
+  pub inside : at ≤ length bytes
+  pub small : next ≤ 16
+  pub goes : {before : List ℕ} {s : State Core} {answers : List ℕ} {p : Panel} {g : List ℕ} {state len : ℕ} {fr : List ℕ} {w : ℕ} → state ≡ 0 → p .screen .row ≡ row → p .screen .column ≡ column
+      → Going bytes before s answers p t g state len fr from w → Going bytes before s answers (withScreen p (withColumn (p .screen) next)) t′ g state len fr at w
+
+pub stores-none : (row column : ℕ) (t bytes : List ℕ) (from : ℕ) → from ≤ length bytes → column ≤ 16 → Stores row column t bytes from from column t
+stores-none row column t bytes from l k =
+    record {
+      inside = l;
+      small = k;
+      goes = λ {before} {s} {answers} {p} {g} {state} {len} {fr} {w} e r c going.
+          subst (λ (n : ℕ). Going bytes before s answers (withScreen p (withColumn (p .screen) n)) t g state len fr from w) c going;
+    }
+
+pub stores-more : {row column : ℕ} {t bytes : List ℕ} {from at next : ℕ} {t′ : List ℕ} (next′ : ℕ) (t″ : List ℕ) → Stores row column t bytes from at next t′ → at < length bytes → blank ≤ getD bytes at 0 → next′ ≤ 16
+    → next′ ≡ columnAfter next → t″ ≡ textAfter t′ row next (getD bytes at 0) → Stores row column t bytes from (at + 1) next′ t″
+stores-more {row} {column} {t} {bytes} {from} {at} {next} {t′} next′ t″ k l h small x y =
+    record {
+      inside = omega arith;
+      small = small;
+      goes = λ {before} {s} {answers} {p} {g} {state} {len} {fr} {w} e r c going.
+          let on = k .goes e r c going in
+          let z : t″ ≡ textAfter t′ (p .screen .row) next (getD bytes at 0) = y ∙ ap (λ (n : ℕ). textAfter t′ n next (getD bytes at 0)) (sym r) in
+          let q : Panel = withScreen p (withColumn (p .screen) next) in
+          go-quiet on l (range-stored q t′ g (getD bytes at 0) next′ t″ h x z (on .range)) (on .fits) (turn-text q t′ g state len fr (getD bytes at 0) next′ t″ e h x z);
+    }
+
+pub stores-first : {row column : ℕ} {t bytes : List ℕ} {from : ℕ} (next : ℕ) (t′ : List ℕ) → (row < 5) × (column ≤ 16) × (from < length bytes) × (blank ≤ getD bytes from 0) → (next ≡ columnAfter column) × (next ≤ 16) × (t′ ≡ textAfter t row column (getD bytes from 0))
+    → Stores row column t bytes from (from + 1) next t′
+stores-first {row} {column} {t} {bytes} {from} next t′ (r, k, l, h) (x, small, y) = stores-more next t′ (stores-none row column t bytes from (omega arith) k) l h small x y
+
+pub stores-on : {row column : ℕ} {t bytes : List ℕ} {from mid at between next : ℕ} {t′ t″ : List ℕ} → Stores row column t bytes from mid between t′ → Stores row between t′ bytes mid at next t″ → Stores row column t bytes from at next t″
+stores-on first rest = record { inside = rest .inside; small = rest .small; goes = λ e r c going. rest .goes e r refl (first .goes e r c going) }

@@ -1,10 +1,13 @@
 // The stream call: bytes in, the record and question marks out. It is the parting's run at the handset's meaning.
+// It is done on lent arrays, in place, so that a short call copies nothing large; the call on a record by value goes through it.
 ghost use mathlib.Core.Path.{_≡_};
-ghost use Prim.Native.Nat.{_≤_, _<_};
-ghost use lib.ListN.{length};
+ghost use Prim.Native.Nat.{_≤_, _<_, _+_};
+ghost use lib.ListN.{length, getD, set};
+ghost use Rattle.lists.specs.Codes.{blank, questionMark};
 ghost use Rattle.parting.specs.Rules.{limit};
-ghost use Rattle.parting.specs.Room.{run};
-ghost use Rattle.reader.specs.Stream.{columnAfter, textAfter, emptied, wholeOf, handset, stateOf, Ready, Reads, fedOf, answersAfter};
+ghost use Rattle.reader.specs.Turns.{Stores};
+ghost use Rattle.reader.specs.Stream.{columnAfter, textAfter, emptied, together, lentOf, standing, fedOf, answersAfter, Fits, Ready, Closes, Reads};
+use effect::Obeyed;
 use record::Answer;
 use record::Frame;
 use record::Held;
@@ -33,9 +36,27 @@ pub struct Fed {
     pub written: usize,
 }
 
-// What the loop has done: Fed without the answer's name.
+// All of the record but its three arrays.
+pub struct Small {
+    pub panel: Panel,
+    pub held: Held,
+    pub state: u8,
+    pub len: u8,
+}
+
+// As Fed, where text, picture and the frame's bytes were lent.
+pub struct FedLent {
+    pub answer: Answer,
+    pub small: Small,
+    pub used: usize,
+    pub written: usize,
+}
+
+// What the loop leaves beside the lent arrays.
 struct Done {
-    record: Record,
+    panel: Panel,
+    state: u8,
+    len: usize,
     used: usize,
     written: usize,
 }
@@ -71,47 +92,81 @@ fn empty_from(bytes: &mut [u8; 250], len: usize)
     }
 }
 
-// The record put together again. The frame's unused places are emptied here, once a call.
-fn whole(
-    panel: Panel,
-    text: [u8; 80],
-    picture: [u8; 672],
-    held: Held,
-    state: u8,
-    len: usize,
-    bytes: [u8; 250],
-) -> Record
-    requires { ⌜ (len ≤ 250) × (length bytes ≡ 250) ⌝ }
-    ensures { λ r. ⌜ r ≡ wholeOf panel text picture held state len bytes ⌝ }
+// One question mark in the next place: how many answers there are then.
+fn ask(answers: &mut [u8], w: usize) -> usize
+    requires { ⌜ w < length (now answers) ⌝ }
+    ensures { λ r. ⌜ (r ≡ w + 1) × (now (answers .exit) ≡ set (now (answers .entry)) w questionMark) ⌝ }
 {
-    let mut kept = bytes;
-    empty_from(&mut kept, len);
-    Record {
-        panel: panel,
-        text: text,
-        picture: picture,
-        held: held,
-        frame: Frame {
-            state: state,
-            len: len as u8,
-            bytes: kept,
-        },
+    answers[w] = QUESTION_MARK;
+    w + 1
+}
+
+// Where a run of text bytes ends, and the column after it.
+struct Run {
+    at: usize,
+    column: u8,
+}
+
+// Stores the text byte at a place and all that follow it at once: most of a stream is text, and this loop is short.
+fn store_all(text: &mut [u8; 80], row: u8, column: u8, bytes: &[u8], from: usize) -> Run
+    requires { ⌜ (row < 5) × (column ≤ 16) × (from < length (now bytes)) × (blank ≤ getD (now bytes) from 0) ⌝ }
+    ensures { λ r. ⌜ (from < r .at) × (Stores row column (now (text .entry)) (now (bytes .entry)) from (r .at) (r .column) (now (text .exit))) ⌝ }
+{
+    let mut next = store(text, row, column, bytes[from]);
+    let mut i = from + 1;
+    while i < bytes.len() {
+        let b = bytes[i];
+        if b < BLANK {
+            return Run {
+                at: i,
+                column: next,
+            };
+        }
+        next = store(text, row, next, b);
+        i += 1;
+    }
+    Run {
+        at: i,
+        column: next,
     }
 }
 
-// Reads bytes until they end or an answer has no room. The record is taken apart once, worked on in place, and put together once.
-fn read(r: Record, bytes: &[u8], answers: &mut [u8]) -> Done
-    requires { ⌜ Ready r ⌝ }
-    ensures { λ d. ⌜ Reads d r (now (answers .entry)) (now (answers .exit)) (run handset (stateOf r) (now (bytes .entry)) (length (now (answers .entry)))) ⌝ }
+// CR in a frame: a whole one is obeyed, if it is good. One that is not, and an overlong one, is to be asked about.
+fn close(
+    panel: Panel,
+    text: &mut [u8; 80],
+    picture: &mut [u8; 672],
+    frame: &[u8],
+    state: u8,
+) -> Obeyed
+    ensures { λ o. ⌜ Closes panel (now (text .entry)) (now (picture .entry)) state (now (frame .entry)) o (now (text .exit)) (now (picture .exit)) ⌝ }
 {
-    let mut panel = r.panel;
-    let mut text = r.text;
-    let mut picture = r.picture;
-    let held = r.held;
-    let kept = r.frame;
-    let mut state = kept.state;
-    let mut len = wide(kept.len);
-    let mut frame = kept.bytes;
+    if state == OPEN {
+        return effect::obey(panel, text, picture, frame);
+    }
+    Obeyed {
+        panel: panel,
+        good: false,
+    }
+}
+
+// Reads bytes until they end or an answer has no room.
+fn read(
+    given: Panel,
+    text: &mut [u8; 80],
+    picture: &mut [u8; 672],
+    frame: &mut [u8],
+    kept_state: u8,
+    kept_len: usize,
+    bytes: &[u8],
+    answers: &mut [u8],
+) -> Done
+    requires { ⌜ Ready given (now text) (now picture) «kept_state» «kept_len» (now frame) ⌝ }
+    ensures { λ d. ⌜ Reads (standing given (now (text .entry)) (now (picture .entry)) «kept_state» «kept_len» (now (frame .entry))) (now (bytes .entry)) (now (answers .entry)) d (now (text .exit)) (now (picture .exit)) (now (frame .exit)) (now (answers .exit)) ⌝ }
+{
+    let mut panel = given;
+    let mut state = kept_state;
+    let mut len = kept_len;
     let mut i = 0;
     let mut w = 0;
     while i < bytes.len() {
@@ -120,9 +175,9 @@ fn read(r: Record, bytes: &[u8], answers: &mut [u8]) -> Done
             if BLANK <= b {
                 let row = panel.screen.row;
                 let column = panel.screen.column;
-                let next = store(&mut text, row, column, b);
-                panel.screen.column = next;
-                i += 1;
+                let run = store_all(text, row, column, bytes, i);
+                panel.screen.column = run.column;
+                i = run.at;
                 continue;
             }
             if b == ESCAPE {
@@ -135,76 +190,134 @@ fn read(r: Record, bytes: &[u8], answers: &mut [u8]) -> Done
         }
         if b == ESCAPE {
             if w < answers.len() {
-                answers[w] = QUESTION_MARK;
-                w += 1;
+                w = ask(answers, w);
                 state = OPEN;
                 len = 0;
                 i += 1;
                 continue;
             }
             return Done {
-                record: whole(panel, text, picture, held, state, len, frame),
+                panel: panel,
+                state: state,
+                len: len,
                 used: i,
                 written: w,
             };
         }
         if b == CARRIAGE_RETURN {
-            if state == OPEN {
-                let o = effect::obey(panel, &mut text, &mut picture, &frame[..len]);
-                if o.good {
-                    let obeyed = o.panel;
-                    panel = obeyed;
-                    state = NO_FRAME;
-                    len = 0;
-                    i += 1;
-                    continue;
-                }
-                if w < answers.len() {
-                    answers[w] = QUESTION_MARK;
-                    w += 1;
-                    state = NO_FRAME;
-                    len = 0;
-                    i += 1;
-                    continue;
-                }
-                return Done {
-                    record: whole(panel, text, picture, held, state, len, frame),
-                    used: i,
-                    written: w,
-                };
+            let o = close(panel, text, picture, &frame[..len], state);
+            if o.good {
+                let obeyed = o.panel;
+                panel = obeyed;
+                state = NO_FRAME;
+                len = 0;
+                i += 1;
+                continue;
             }
             if w < answers.len() {
-                answers[w] = QUESTION_MARK;
-                w += 1;
+                w = ask(answers, w);
                 state = NO_FRAME;
                 len = 0;
                 i += 1;
                 continue;
             }
             return Done {
-                record: whole(panel, text, picture, held, state, len, frame),
+                panel: panel,
+                state: state,
+                len: len,
                 used: i,
                 written: w,
             };
         }
-        if state == OPEN {
-            if len < 250 {
-                frame[len] = b;
-                len += 1;
-                i += 1;
-                continue;
-            }
-            state = OVERLONG;
-            len = 0;
+        if state == OVERLONG {
             i += 1;
             continue;
         }
+        if len < 250 {
+            frame[len] = b;
+            len += 1;
+            i += 1;
+            continue;
+        }
+        state = OVERLONG;
+        len = 0;
         i += 1;
     }
     Done {
-        record: whole(panel, text, picture, held, state, len, frame),
+        panel: panel,
+        state: state,
+        len: len,
         used: i,
         written: w,
+    }
+}
+
+// The stream call on lent arrays, for any record at all.
+pub fn feed_lent(
+    small: Small,
+    text: &mut [u8; 80],
+    picture: &mut [u8; 672],
+    frame: &mut [u8; 250],
+    bytes: &[u8],
+    answers: &mut [u8],
+) -> FedLent
+    ensures same { λ f. ⌜ f ≡ lentOf (fedOf (together small (now (text .entry)) (now (picture .entry)) (now (frame .entry))) (now (bytes .entry)) (length (now (answers .entry)))) ⌝ }
+    ensures text { λ f. ⌜ now (text .exit) ≡ fedOf (together small (now (text .entry)) (now (picture .entry)) (now (frame .entry))) (now (bytes .entry)) (length (now (answers .entry))) .record .text ⌝ }
+    ensures picture { λ f. ⌜ now (picture .exit) ≡ fedOf (together small (now (text .entry)) (now (picture .entry)) (now (frame .entry))) (now (bytes .entry)) (length (now (answers .entry))) .record .picture ⌝ }
+    ensures frame { λ f. ⌜ now (frame .exit) ≡ fedOf (together small (now (text .entry)) (now (picture .entry)) (now (frame .entry))) (now (bytes .entry)) (length (now (answers .entry))) .record .frame .bytes ⌝ }
+    ensures buffer { λ f. ⌜ now (answers .exit) ≡ answersAfter (together small (now (text .entry)) (now (picture .entry)) (now (frame .entry))) (now (bytes .entry)) (now (answers .entry)) ⌝ }
+{
+    let panel = small.panel;
+    let held = small.held;
+    if ranges::in_range_lent(panel, text, picture, held, small.state, small.len, frame) {
+        let d = read(
+            panel,
+            text,
+            picture,
+            frame,
+            small.state,
+            wide(small.len),
+            bytes,
+            answers,
+        );
+        empty_from(frame, d.len);
+        let after = d.panel;
+        return FedLent {
+            answer: Answer::Done,
+            small: Small {
+                panel: after,
+                held: held,
+                state: d.state,
+                len: d.len as u8,
+            },
+            used: d.used,
+            written: d.written,
+        };
+    }
+    FedLent {
+        answer: Answer::FieldOutOfRange,
+        small: small,
+        used: 0,
+        written: 0,
+    }
+}
+
+// The record put together again.
+fn whole(small: Small, text: [u8; 80], picture: [u8; 672], bytes: [u8; 250]) -> Record
+    ensures { λ r. ⌜ r ≡ together small text picture bytes ⌝ }
+{
+    let panel = small.panel;
+    let held = small.held;
+    Record {
+        panel: panel,
+        text: text,
+        picture: picture,
+        held: held,
+        frame: Frame {
+            state: small.state,
+            len: small.len,
+            bytes: bytes,
+        },
     }
 }
 
@@ -213,20 +326,25 @@ pub fn feed(r: Record, bytes: &[u8], answers: &mut [u8]) -> Fed
     ensures same { λ f. ⌜ f ≡ fedOf r (now (bytes .entry)) (length (now (answers .entry))) ⌝ }
     ensures buffer { λ f. ⌜ now (answers .exit) ≡ answersAfter r (now (bytes .entry)) (now (answers .entry)) ⌝ }
 {
-    if ranges::in_range(r) {
-        let d = read(r, bytes, answers);
-        let after = d.record;
-        return Fed {
-            answer: Answer::Done,
-            record: after,
-            used: d.used,
-            written: d.written,
-        };
-    }
+    let panel = r.panel;
+    let mut text = r.text;
+    let mut picture = r.picture;
+    let held = r.held;
+    let kept = r.frame;
+    let mut frame = kept.bytes;
+    let small = Small {
+        panel: panel,
+        held: held,
+        state: kept.state,
+        len: kept.len,
+    };
+    let f = feed_lent(small, &mut text, &mut picture, &mut frame, bytes, answers);
+    let answer = f.answer;
+    let after = f.small;
     Fed {
-        answer: Answer::FieldOutOfRange,
-        record: r,
-        used: 0,
-        written: 0,
+        answer: answer,
+        record: whole(after, text, picture, frame),
+        used: f.used,
+        written: f.written,
     }
 }
