@@ -24,7 +24,7 @@ use Rattle.effect.specs.Obey.{obeyOrder, isGood}
 use Rattle.effect.specs.Untouched.{groupOf, without, untouched}
 use Rattle.reader.specs.Stream.{obeyFrame}
 use Rattle.turns.specs.Room.{run}
-use Rattle.keys.specs.Rules.{listed, step}
+use Rattle.keying.specs.Rules.{listed, step}
 use Rattle.keys.specs.Log.{entries, outcome}
 use Rattle.keys.specs.Laws.{answers-0}
 use Rattle.light.specs.Seconds.{passed, dimmed}

@@ -19,8 +19,11 @@ use Rattle.picture.specs.Reading.{columnsRead}
 use Rattle.picture.specs.Writing.{dataWritten}
 use Rattle.command.specs.InRange.{commandInRange, mostRows}
 use Rattle.command.specs.Reading.{readOf, opensPicture, pictureOf}
+use Rattle.settings.specs.Settings.{toMode, atLevel}
 use Rattle.effect.specs.Obey.{Obeys, core}
 use Rattle.reader.specs.Stream.{fedOf, answersAfter}
+use Rattle.lists.specs.Every.{every}
+use Rattle.keying.specs.Rules.{listed, keyed}
 use Rattle.keys.specs.Log.{outcome, handedBack, bufferAfter}
 use Rattle.light.specs.Seconds.{passed, lightPassed}
 use Rattle.seen.specs.Rows.{rowSeen, smsSeen, volumeSeen}
@@ -49,18 +52,26 @@ use Rattle.picture.proofs.read_data as ReadData
 use Rattle.picture.proofs.read_data.Reads as ReadDataReads
 use Rattle.picture.proofs.write_data as WriteData
 use Rattle.picture.proofs.write_data.Reads as WriteDataReads
-use Rattle.command.proofs.in_range as CommandInRange
-use Rattle.command.proofs.in_range.Reads as CommandInRangeReads
+use Rattle.limits.proofs.in_range as CommandInRange
+use Rattle.limits.proofs.in_range.Reads as CommandInRangeReads
 use Rattle.command.proofs.read_command as ReadCommand
 use Rattle.command.proofs.read_command.Reads as ReadCommandReads
-use Rattle.command.proofs.opens_picture as OpensPicture
-use Rattle.command.proofs.opens_picture.Reads as OpensPictureReads
-use Rattle.command.proofs.read_picture as ReadPicture
-use Rattle.command.proofs.read_picture.Reads as ReadPictureReads
+use Rattle.drawing.proofs.opens_picture as OpensPicture
+use Rattle.drawing.proofs.opens_picture.Reads as OpensPictureReads
+use Rattle.drawing.proofs.read_picture as ReadPicture
+use Rattle.drawing.proofs.read_picture.Reads as ReadPictureReads
+use Rattle.settings.proofs.to_mode as ToMode
+use Rattle.settings.proofs.to_mode.Reads as ToModeReads
+use Rattle.settings.proofs.at_level as AtLevel
+use Rattle.settings.proofs.at_level.Reads as AtLevelReads
 use Rattle.effect.proofs.obey as Obey
 use Rattle.effect.proofs.obey.Reads as ObeyReads
 use Rattle.reader.proofs.feed as Feed
 use Rattle.reader.proofs.feed.Reads as FeedReads
+use Rattle.keying.proofs.all_listed as AllListed
+use Rattle.keying.proofs.all_listed.Reads as AllListedReads
+use Rattle.keying.proofs.take_entry as TakeEntry
+use Rattle.keying.proofs.take_entry.Reads as TakeEntryReads
 use Rattle.keys.proofs.take_log as TakeLog
 use Rattle.keys.proofs.take_log.Reads as TakeLogReads
 use Rattle.light.proofs.second as Second
@@ -146,7 +157,7 @@ read-data-says κs a q e w = refl
 pub write-data-says : Says WriteData.ended WriteDataReads.ensures (λ κs a q e. q ≡ dataWritten (now (a .0)))
 write-data-says κs a q e w = refl
 
--- command::in_range
+-- limits::in_range
 pub command-in-range-says : Says CommandInRange.ended CommandInRangeReads.ensures (λ κs a q e. q ≡ commandInRange (a .1 .0) (a .0))
 command-in-range-says κs a q e w = refl
 
@@ -154,13 +165,21 @@ command-in-range-says κs a q e w = refl
 pub read-command-says : Says ReadCommand.ended ReadCommandReads.ensures (λ κs a q e. q ≡ readOf (now (a .0)))
 read-command-says κs a q e w = refl
 
--- command::opens_picture
+-- drawing::opens_picture
 pub opens-picture-says : Says OpensPicture.ended OpensPictureReads.ensures (λ κs a q e. q ≡ opensPicture (now (a .0)))
 opens-picture-says κs a q e w = refl
 
--- command::read_picture
+-- drawing::read_picture
 pub read-picture-says : Says ReadPicture.ended ReadPictureReads.ensures (λ κs a q e. q ≡ pictureOf (now (a .0)))
 read-picture-says κs a q e w = refl
+
+-- settings::to_mode
+pub to-mode-says : Says ToMode.ended ToModeReads.ensures (λ κs a q e. q ≡ toMode (a .0) (a .1 .0))
+to-mode-says κs a q e w = refl
+
+-- settings::at_level
+pub at-level-says : Says AtLevel.ended AtLevelReads.ensures (λ κs a q e. q ≡ atLevel (a .0) (a .1 .0) (a .1 .1 .0))
+at-level-says κs a q e w = refl
 
 -- effect::obey
 pub obey-says : Says Obey.ended ObeyReads.ensures (λ κs a q e. Obeys (now (a .1 .1 .1 .0)) (core (a .0) (now (a .1 .0)) (now (a .1 .1 .0))) q (core (q .panel) (now (e .1 .0)) (now (e .1 .1 .0))))
@@ -171,6 +190,14 @@ pub feed-says : SaysBoth Feed.ended FeedReads.ensures
     (λ κs a q e. q ≡ fedOf (a .0) (now (a .1 .0)) (length (now (a .1 .1 .0))))
     (λ κs a q e. now (e .1 .1 .0) ≡ answersAfter (a .0) (now (a .1 .0)) (now (a .1 .1 .0)))
 feed-says κs a q e w = refl
+
+-- keying::all_listed
+pub all-listed-says : Says AllListed.ended AllListedReads.ensures (λ κs a q e. q ≡ every listed (now (a .0)))
+all-listed-says κs a q e w = refl
+
+-- keying::take_entry
+pub take-entry-says : Says TakeEntry.ended TakeEntryReads.ensures (λ κs a q e. q ≡ keyed (a .0) (a .1 .0) (a .1 .1 .0) (a .1 .1 .1 .0) (a .1 .1 .1 .1 .0))
+take-entry-says κs a q e w = refl
 
 -- keys::take_log
 pub take-log-says : SaysBoth TakeLog.ended TakeLogReads.ensures

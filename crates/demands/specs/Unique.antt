@@ -33,18 +33,26 @@ use Rattle.picture.proofs.read_data as ReadData
 use Rattle.picture.proofs.read_data.Reads as ReadDataReads
 use Rattle.picture.proofs.write_data as WriteData
 use Rattle.picture.proofs.write_data.Reads as WriteDataReads
-use Rattle.command.proofs.in_range as CommandInRange
-use Rattle.command.proofs.in_range.Reads as CommandInRangeReads
+use Rattle.limits.proofs.in_range as CommandInRange
+use Rattle.limits.proofs.in_range.Reads as CommandInRangeReads
 use Rattle.command.proofs.read_command as ReadCommand
 use Rattle.command.proofs.read_command.Reads as ReadCommandReads
-use Rattle.command.proofs.opens_picture as OpensPicture
-use Rattle.command.proofs.opens_picture.Reads as OpensPictureReads
-use Rattle.command.proofs.read_picture as ReadPicture
-use Rattle.command.proofs.read_picture.Reads as ReadPictureReads
+use Rattle.drawing.proofs.opens_picture as OpensPicture
+use Rattle.drawing.proofs.opens_picture.Reads as OpensPictureReads
+use Rattle.drawing.proofs.read_picture as ReadPicture
+use Rattle.drawing.proofs.read_picture.Reads as ReadPictureReads
+use Rattle.settings.proofs.to_mode as ToMode
+use Rattle.settings.proofs.to_mode.Reads as ToModeReads
+use Rattle.settings.proofs.at_level as AtLevel
+use Rattle.settings.proofs.at_level.Reads as AtLevelReads
 use Rattle.effect.proofs.obey as Obey
 use Rattle.effect.proofs.obey.Reads as ObeyReads
 use Rattle.reader.proofs.feed as Feed
 use Rattle.reader.proofs.feed.Reads as FeedReads
+use Rattle.keying.proofs.all_listed as AllListed
+use Rattle.keying.proofs.all_listed.Reads as AllListedReads
+use Rattle.keying.proofs.take_entry as TakeEntry
+use Rattle.keying.proofs.take_entry.Reads as TakeEntryReads
 use Rattle.keys.proofs.take_log as TakeLog
 use Rattle.keys.proofs.take_log.Reads as TakeLogReads
 use Rattle.light.proofs.second as Second
@@ -131,7 +139,7 @@ read-data-one κs a q q′ e e′ p p′ = two-equal p p′
 pub write-data-one : OneResult WriteData.ended WriteDataReads.Learnt
 write-data-one κs a q q′ e e′ p p′ = two-equal p p′
 
--- command::in_range
+-- limits::in_range
 pub command-in-range-one : OneResult CommandInRange.ended CommandInRangeReads.Learnt
 command-in-range-one κs a q q′ e e′ p p′ = two-equal p p′
 
@@ -139,17 +147,25 @@ command-in-range-one κs a q q′ e e′ p p′ = two-equal p p′
 pub read-command-one : OneResult ReadCommand.ended ReadCommandReads.Learnt
 read-command-one κs a q q′ e e′ p p′ = two-equal p p′
 
--- command::opens_picture
+-- drawing::opens_picture
 pub opens-picture-one : OneResult OpensPicture.ended OpensPictureReads.Learnt
 opens-picture-one κs a q q′ e e′ p p′ = two-equal p p′
 
--- command::read_picture
+-- drawing::read_picture
 pub read-picture-one : OneResult ReadPicture.ended ReadPictureReads.Learnt
 read-picture-one κs a q q′ e e′ p p′ = two-equal p p′
 
 -- reader::feed
 pub feed-one : OneEnd Feed.ended (List ℕ) FeedReads.Learnt (λ κs e. now (e .1 .1 .0))
 feed-one κs a q q′ e e′ p p′ = (two-equal (p .0) (p′ .0), two-equal (p .1) (p′ .1))
+
+-- keying::all_listed
+pub all-listed-one : OneResult AllListed.ended AllListedReads.Learnt
+all-listed-one κs a q q′ e e′ p p′ = two-equal p p′
+
+-- keying::take_entry
+pub take-entry-one : OneResult TakeEntry.ended TakeEntryReads.Learnt
+take-entry-one κs a q q′ e e′ p p′ = two-equal p p′
 
 -- keys::take_log
 pub take-log-one : OneEnd TakeLog.ended (List ℕ) TakeLogReads.Learnt (λ κs e. now (e .1 .1 .1 .0))
@@ -188,6 +204,14 @@ write-label-one κs a q q′ e e′ p p′ = (two-equal (p .0) (p′ .0), two-eq
 -- writer::write_picture_row
 pub write-picture-row-one : OneEnd WritePictureRow.ended (List ℕ) WritePictureRowReads.Learnt (λ κs e. now (e .1 .1 .0))
 write-picture-row-one κs a q q′ e e′ p p′ = (two-equal (p .0) (p′ .0), two-equal (p .1) (p′ .1))
+
+-- settings::to_mode
+pub to-mode-one : OneResult ToMode.ended ToModeReads.Learnt
+to-mode-one κs a q q′ e e′ p p′ = two-equal p p′
+
+-- settings::at_level
+pub at-level-one : OneResult AtLevel.ended AtLevelReads.Learnt
+at-level-one κs a q q′ e e′ p p′ = two-equal p p′
 
 -- effect::obey: whether the frame is good, and the panel, text and picture as they are afterwards
 pub obey-one : (κs : Lfts (Obey.ended .signature .lifetimes)) (a : ArgsD (Obey.ended .signature) κs) (q q′ : ResD (Obey.ended .signature) κs) (e e′ : AtExit Obey.ended κs)

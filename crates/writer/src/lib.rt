@@ -15,7 +15,7 @@ ghost use Rattle.writer.specs.Writing.{bodyOf, labelBody, rowBody, frame
 ghost use Rattle.writer.specs.Lines.{held, Added, planBody, testOf};
 use command::Command;
 use command::Side;
-use command::in_range;
+use limits::in_range;
 use numeral::digits_of;
 use picture::write_data;
 use record::Answer;
