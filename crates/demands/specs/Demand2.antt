@@ -32,7 +32,8 @@ use Rattle.light.specs.Laws.{second-done}
 use Rattle.seen.specs.Places.{rowOwner}
 use Rattle.seen.specs.Rows.{contents, rowSeen}
 use Rattle.seen.specs.Laws.{seen-row}
-use Rattle.writer.specs.Writing.{bodyOf, labelBody, rowBody, isLabel, isRow}
+use Rattle.fitting.specs.Fitting.{isLabel, isRow}
+use Rattle.writer.specs.Writing.{bodyOf, labelBody, rowBody}
 use Rattle.writer.specs.ReadBack.{ReadsBack, command-reads-back, label-reads-back, row-reads-back}
 
 pub record Demand2 : Type 0 where

@@ -26,8 +26,10 @@ use Rattle.lists.specs.Every.{every}
 use Rattle.keying.specs.Rules.{listed, keyed}
 use Rattle.keys.specs.Log.{outcome, handedBack, bufferAfter}
 use Rattle.light.specs.Seconds.{passed, lightPassed}
+use Rattle.panels.specs.Panels.{smsPanel, volumePanel}
 use Rattle.seen.specs.Rows.{rowSeen, smsSeen, volumeSeen}
-use Rattle.writer.specs.Writing.{bodyOf, labelBody, rowBody, frameOf, isLabel, isRow, writtenOf, roomAfter}
+use Rattle.fitting.specs.Fitting.{isLabel, isRow}
+use Rattle.writer.specs.Writing.{bodyOf, labelBody, rowBody, frameOf, writtenOf, roomAfter}
 use Rattle.record.proofs.number as Number
 use Rattle.record.proofs.number.Reads as NumberReads
 use Rattle.record.proofs.rows as Rows
@@ -50,8 +52,8 @@ use Rattle.numeral.proofs.digits_of as DigitsOf
 use Rattle.numeral.proofs.digits_of.Reads as DigitsOfReads
 use Rattle.picture.proofs.read_data as ReadData
 use Rattle.picture.proofs.read_data.Reads as ReadDataReads
-use Rattle.picture.proofs.write_data as WriteData
-use Rattle.picture.proofs.write_data.Reads as WriteDataReads
+use Rattle.encoding.proofs.write_data as WriteData
+use Rattle.encoding.proofs.write_data.Reads as WriteDataReads
 use Rattle.limits.proofs.in_range as CommandInRange
 use Rattle.limits.proofs.in_range.Reads as CommandInRangeReads
 use Rattle.command.proofs.read_command as ReadCommand
@@ -77,12 +79,20 @@ use Rattle.keys.proofs.take_log.Reads as TakeLogReads
 use Rattle.light.proofs.second as Second
 use Rattle.light.proofs.second.Reads as SecondReads
 use Rattle.light.proofs.second_in_place as SecondInPlace
+use Rattle.panels.proofs.sms_panel as SmsPanelOf
+use Rattle.panels.proofs.sms_panel.Reads as SmsPanelOfReads
+use Rattle.panels.proofs.volume_panel as VolumePanelOf
+use Rattle.panels.proofs.volume_panel.Reads as VolumePanelOfReads
 use Rattle.seen.proofs.row_seen as RowSeen
 use Rattle.seen.proofs.row_seen.Reads as RowSeenReads
 use Rattle.seen.proofs.sms_seen as SmsSeen
 use Rattle.seen.proofs.sms_seen.Reads as SmsSeenReads
 use Rattle.seen.proofs.volume_seen as VolumeSeen
 use Rattle.seen.proofs.volume_seen.Reads as VolumeSeenReads
+use Rattle.fitting.proofs.label_in_range as LabelInRange
+use Rattle.fitting.proofs.label_in_range.Reads as LabelInRangeReads
+use Rattle.fitting.proofs.row_in_range as RowInRange
+use Rattle.fitting.proofs.row_in_range.Reads as RowInRangeReads
 use Rattle.writer.proofs.write_command as WriteCommand
 use Rattle.writer.proofs.write_command.Reads as WriteCommandReads
 use Rattle.writer.proofs.write_label as WriteLabel
@@ -153,7 +163,7 @@ digits-of-says κs a q e w = refl
 pub read-data-says : Says ReadData.ended ReadDataReads.ensures (λ κs a q e. q ≡ columnsRead (now (a .0)))
 read-data-says κs a q e w = refl
 
--- picture::write_data
+-- encoding::write_data
 pub write-data-says : Says WriteData.ended WriteDataReads.ensures (λ κs a q e. q ≡ dataWritten (now (a .0)))
 write-data-says κs a q e w = refl
 
@@ -215,6 +225,14 @@ pub second-in-place-says : Says SecondInPlace.ended
     (λ κs a q e. (q ≡ lightPassed (now (a .0)) .answer) × (now (e .0) ≡ lightPassed (now (a .0)) .backlight))
 second-in-place-says κs a q e w = refl
 
+-- panels::sms_panel
+pub sms-panel-says : Says SmsPanelOf.ended SmsPanelOfReads.ensures (λ κs a q e. q ≡ smsPanel (a .0))
+sms-panel-says κs a q e w = refl
+
+-- panels::volume_panel
+pub volume-panel-says : Says VolumePanelOf.ended VolumePanelOfReads.ensures (λ κs a q e. q ≡ volumePanel (a .0))
+volume-panel-says κs a q e w = refl
+
 -- seen::row_seen
 pub row-seen-says : Says RowSeen.ended RowSeenReads.ensures (λ κs a q e. q ≡ rowSeen (a .0) (a .1 .0))
 row-seen-says κs a q e w = refl
@@ -226,6 +244,14 @@ sms-seen-says κs a q e w = refl
 -- seen::volume_seen
 pub volume-seen-says : Says VolumeSeen.ended VolumeSeenReads.ensures (λ κs a q e. q ≡ volumeSeen (a .0))
 volume-seen-says κs a q e w = refl
+
+-- fitting::label_in_range
+pub label-in-range-says : Says LabelInRange.ended LabelInRangeReads.ensures (λ κs a q e. q ≡ isLabel (now (a .0)))
+label-in-range-says κs a q e w = refl
+
+-- fitting::row_in_range
+pub row-in-range-says : Says RowInRange.ended RowInRangeReads.ensures (λ κs a q e. q ≡ isRow (a .0) (now (a .1 .0)))
+row-in-range-says κs a q e w = refl
 
 -- writer::write_command
 pub write-command-says : SaysBoth WriteCommand.ended WriteCommandReads.ensures

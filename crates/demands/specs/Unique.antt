@@ -31,8 +31,8 @@ use Rattle.numeral.proofs.digits_of as DigitsOf
 use Rattle.numeral.proofs.digits_of.Reads as DigitsOfReads
 use Rattle.picture.proofs.read_data as ReadData
 use Rattle.picture.proofs.read_data.Reads as ReadDataReads
-use Rattle.picture.proofs.write_data as WriteData
-use Rattle.picture.proofs.write_data.Reads as WriteDataReads
+use Rattle.encoding.proofs.write_data as WriteData
+use Rattle.encoding.proofs.write_data.Reads as WriteDataReads
 use Rattle.limits.proofs.in_range as CommandInRange
 use Rattle.limits.proofs.in_range.Reads as CommandInRangeReads
 use Rattle.command.proofs.read_command as ReadCommand
@@ -58,12 +58,20 @@ use Rattle.keys.proofs.take_log.Reads as TakeLogReads
 use Rattle.light.proofs.second as Second
 use Rattle.light.proofs.second.Reads as SecondReads
 use Rattle.light.proofs.second_in_place as SecondInPlace
+use Rattle.panels.proofs.sms_panel as SmsPanelOf
+use Rattle.panels.proofs.sms_panel.Reads as SmsPanelOfReads
+use Rattle.panels.proofs.volume_panel as VolumePanelOf
+use Rattle.panels.proofs.volume_panel.Reads as VolumePanelOfReads
 use Rattle.seen.proofs.row_seen as RowSeen
 use Rattle.seen.proofs.row_seen.Reads as RowSeenReads
 use Rattle.seen.proofs.sms_seen as SmsSeen
 use Rattle.seen.proofs.sms_seen.Reads as SmsSeenReads
 use Rattle.seen.proofs.volume_seen as VolumeSeen
 use Rattle.seen.proofs.volume_seen.Reads as VolumeSeenReads
+use Rattle.fitting.proofs.label_in_range as LabelInRange
+use Rattle.fitting.proofs.label_in_range.Reads as LabelInRangeReads
+use Rattle.fitting.proofs.row_in_range as RowInRange
+use Rattle.fitting.proofs.row_in_range.Reads as RowInRangeReads
 use Rattle.writer.proofs.write_command as WriteCommand
 use Rattle.writer.proofs.write_command.Reads as WriteCommandReads
 use Rattle.writer.proofs.write_label as WriteLabel
@@ -135,7 +143,7 @@ digits-of-one κs a q q′ e e′ p p′ = two-equal p p′
 pub read-data-one : OneResult ReadData.ended ReadDataReads.Learnt
 read-data-one κs a q q′ e e′ p p′ = two-equal p p′
 
--- picture::write_data
+-- encoding::write_data
 pub write-data-one : OneResult WriteData.ended WriteDataReads.Learnt
 write-data-one κs a q q′ e e′ p p′ = two-equal p p′
 
@@ -181,6 +189,14 @@ pub second-in-place-one : OneEnd SecondInPlace.ended Backlight
     (λ κs e. now (e .0))
 second-in-place-one κs a q q′ e e′ p p′ = (two-equal (p .0) (p′ .0), two-equal (p .1) (p′ .1))
 
+-- panels::sms_panel
+pub sms-panel-one : OneResult SmsPanelOf.ended SmsPanelOfReads.Learnt
+sms-panel-one κs a q q′ e e′ p p′ = two-equal p p′
+
+-- panels::volume_panel
+pub volume-panel-one : OneResult VolumePanelOf.ended VolumePanelOfReads.Learnt
+volume-panel-one κs a q q′ e e′ p p′ = two-equal p p′
+
 -- seen::row_seen
 pub row-seen-one : OneResult RowSeen.ended RowSeenReads.Learnt
 row-seen-one κs a q q′ e e′ p p′ = two-equal p p′
@@ -192,6 +208,14 @@ sms-seen-one κs a q q′ e e′ p p′ = two-equal p p′
 -- seen::volume_seen
 pub volume-seen-one : OneResult VolumeSeen.ended VolumeSeenReads.Learnt
 volume-seen-one κs a q q′ e e′ p p′ = two-equal p p′
+
+-- fitting::label_in_range
+pub label-in-range-one : OneResult LabelInRange.ended LabelInRangeReads.Learnt
+label-in-range-one κs a q q′ e e′ p p′ = two-equal p p′
+
+-- fitting::row_in_range
+pub row-in-range-one : OneResult RowInRange.ended RowInRangeReads.Learnt
+row-in-range-one κs a q q′ e e′ p p′ = two-equal p p′
 
 -- writer::write_command
 pub write-command-one : OneEnd WriteCommand.ended (List ℕ) WriteCommandReads.Learnt (λ κs e. now (e .1 .0))

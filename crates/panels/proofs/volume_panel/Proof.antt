@@ -1,9 +1,9 @@
--- `seen::volume_panel` keeps its promise. Assumes nothing.
+-- `panels::volume_panel` keeps its promise. Assumes nothing.
 use native.Mathlib.Omega.{arith}
 use borrow.Author.Tests.{eq-eqb, ne-eqb}
 use borrow.Author.Needs.{needs}
-use Rattle.seen.proofs.volume_panel.Statement.{statement}
-use Rattle.seen.proofs.volume_panel.Tie as tie
+use Rattle.panels.proofs.volume_panel.Statement.{statement}
+use Rattle.panels.proofs.volume_panel.Tie as tie
 
 returns : tie.Need-returns
 returns c = search needs

@@ -5,10 +5,10 @@ use lib.ListN.{length}
 use denote.Ref.{now}
 use borrow.Author.Needs.{needs}
 use Rattle.lists.specs.Padded.{length-padded}
 use Rattle.picture.specs.WriteLaws.{item-length}
-use Rattle.picture.proofs.Encoding.{Encoding, nothing-written, too-many, opens, one-more, next-item, closes}
-use Rattle.picture.proofs.write_data.Statement.{statement}
-use Rattle.picture.proofs.write_data.Tie as tie
+use Rattle.encoding.proofs.Encoding.{Encoding, nothing-written, too-many, opens, one-more, next-item, closes}
+use Rattle.encoding.proofs.write_data.Statement.{statement}
+use Rattle.encoding.proofs.write_data.Tie as tie
 
 abbrev Inv-loop : tie.InvT-loop
 Inv-loop columns text₀ n used₀ column₀ count₀ i₀ text used column count i = Encoding columns text used column count i

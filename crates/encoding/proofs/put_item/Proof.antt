@@ -1,9 +1,9 @@
 -- The stores of an item, with and without a letter. Assumes nothing.
-use Rattle.picture.proofs.Stores.{single-item, lettered-item}
+use Rattle.encoding.proofs.Stores.{single-item, lettered-item}
 use native.Mathlib.Omega.{arith}
 use borrow.Author.Needs.{needs}
-use Rattle.picture.proofs.put_item.Statement.{statement}
-use Rattle.picture.proofs.put_item.Tie as tie
+use Rattle.encoding.proofs.put_item.Statement.{statement}
+use Rattle.encoding.proofs.put_item.Tie as tie
 
 hex-digit-requires : tie.Need-hex-digit-requires
 hex-digit-requires c κs = search needs

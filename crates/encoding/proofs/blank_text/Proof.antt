@@ -1,8 +1,8 @@
 -- Data's 192 places, all zero. Assumes nothing.
 use mathlib.Core.Path.{refl}
 use Rattle.lists.specs.Padded.{padded}
-use Rattle.picture.proofs.blank_text.Statement.{statement}
-use Rattle.picture.proofs.blank_text.Tie as tie
+use Rattle.encoding.proofs.blank_text.Statement.{statement}
+use Rattle.encoding.proofs.blank_text.Tie as tie
 
 returns : tie.Need-returns
 unfolding padded

@@ -1,7 +1,7 @@
 -- Each kind has its test. Assumes nothing.
 use borrow.Author.Needs.{needs}
-use Rattle.writer.proofs.passes.Statement.{statement}
-use Rattle.writer.proofs.passes.Tie as tie
+use Rattle.fitting.proofs.passes.Statement.{statement}
+use Rattle.fitting.proofs.passes.Tie as tie
 
 enum-told : tie.Need-enum-told
 enum-told c = search needs

@@ -4,10 +4,10 @@ use mathlib.Core.Bool.{not, cond}
 use lib.Dec.{eqb}
 use Rattle.record.specs.declared.Icons.{Icons}
 use Rattle.record.specs.declared.Volume.{Volume}
-use Rattle.seen.specs.declared.SmsPanel.{SmsPanel}
-use Rattle.seen.specs.declared.SmsPanel.the-variants as Sms
-use Rattle.seen.specs.declared.VolumePanel.{VolumePanel}
-use Rattle.seen.specs.declared.VolumePanel.the-variants as Sound
+use Rattle.panels.specs.declared.SmsPanel.{SmsPanel}
+use Rattle.panels.specs.declared.SmsPanel.the-variants as Sms
+use Rattle.panels.specs.declared.VolumePanel.{VolumePanel}
+use Rattle.panels.specs.declared.VolumePanel.the-variants as Sound
 
 -- Unread if U is not 0, else Read if S is 1, else nothing
 abbrev pub smsPanel : Icons → SmsPanel

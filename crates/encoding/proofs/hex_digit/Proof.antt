@@ -1,10 +1,10 @@
 -- The digit of a value below 16. Assumes nothing.
 use native.Mathlib.Omega.{arith}
 use borrow.Author.Tests.{lt-ltb, le-ltb}
 use Rattle.picture.specs.Writing.{hexCode}
 use borrow.Author.Needs.{needs}
-use Rattle.picture.proofs.hex_digit.Statement.{statement}
-use Rattle.picture.proofs.hex_digit.Tie as tie
+use Rattle.encoding.proofs.hex_digit.Statement.{statement}
+use Rattle.encoding.proofs.hex_digit.Tie as tie
 
 add-result : tie.Need-add-result
 add-result c = search needs

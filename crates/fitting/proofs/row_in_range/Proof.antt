@@ -5,10 +5,10 @@ use mathlib.Core.Path.{_≡_}
 use denote.Ref.{now}
 use lib.ListN.{length}
 use borrow.Author.Tests.{le-leb, lt-leb, eq-eqb, ne-eqb}
-use Rattle.writer.specs.Writing.{isRow}
+use Rattle.fitting.specs.Fitting.{isRow}
 use borrow.Author.Needs.{needs}
-use Rattle.writer.proofs.row_in_range.Statement.{statement}
-use Rattle.writer.proofs.row_in_range.Tie as tie
+use Rattle.fitting.proofs.row_in_range.Statement.{statement}
+use Rattle.fitting.proofs.row_in_range.Tie as tie
 
 returns : tie.Need-returns
 unfolding isRow

@@ -3,10 +3,10 @@ use native.Mathlib.Omega.{arith}
 use denote.Ref.{now}
 use lib.ListN.{length}
 use borrow.Author.Tests.{le-leb, lt-leb}
-use Rattle.writer.specs.Writing.{isLabel}
+use Rattle.fitting.specs.Fitting.{isLabel}
 use borrow.Author.Needs.{needs}
-use Rattle.writer.proofs.label_in_range.Statement.{statement}
-use Rattle.writer.proofs.label_in_range.Tie as tie
+use Rattle.fitting.proofs.label_in_range.Statement.{statement}
+use Rattle.fitting.proofs.label_in_range.Tie as tie
 
 returns : tie.Need-returns
 unfolding isLabel

@@ -1,8 +1,8 @@
--- `seen::sms_panel` keeps its promise. Assumes nothing.
+-- `panels::sms_panel` keeps its promise. Assumes nothing.
 use native.Mathlib.Omega.{arith}
 use borrow.Author.Tests.{eq-eqb, ne-eqb}
-use Rattle.seen.proofs.sms_panel.Statement.{statement}
-use Rattle.seen.proofs.sms_panel.Tie as tie
+use Rattle.panels.proofs.sms_panel.Statement.{statement}
+use Rattle.panels.proofs.sms_panel.Tie as tie
 
 returns : tie.Need-returns
 returns c = rw (ne-eqb (c .before .before .args .i .u) 0 (λ e. omega (arith, c .if1 .taken)))

@@ -6,10 +6,10 @@ use mathlib.Core.Bool.{_&&_}
 use lib.ListN.{length}
 use lib.Seq.{slice, take-length}
 use Rattle.lists.specs.Every.{every, scan-on, scan-end}
-use Rattle.writer.specs.Lines.{testOf}
+use Rattle.fitting.specs.Fitting.{testOf}
 use borrow.Author.Needs.{needs}
-use Rattle.writer.proofs.all_pass.Statement.{statement}
-use Rattle.writer.proofs.all_pass.Tie as tie
+use Rattle.fitting.proofs.all_pass.Statement.{statement}
+use Rattle.fitting.proofs.all_pass.Tie as tie
 
 abbrev Inv-loop : tie.InvT-loop
 Inv-loop s kind ok₀ i₀ ok i = (i ≤ length s) × (every (testOf kind) (slice 0 (length s) s) ≡ (ok && every (testOf kind) (slice i (length s) s)))
