@@ -6,7 +6,7 @@ use native.Mathlib.Nat.{le-refl}
 use native.Mathlib.Omega.{arith}
 use mathlib.Core.List.{List, [], _∷_}
 use mathlib.Core.Path.{_≡_, refl, sym}
-use mathlib.Core.Bool.{Bool, true, false, cond, _&&_}
+use mathlib.Core.Bool.{cond}
 use lib.Dec.{eqb}
 use lib.ListN.{length, getD, take, drop, length-drop, drop-of-length-le}
 use lib.Seq.{take-all, length-take-le}
@@ -18,7 +18,7 @@ use Rattle.command.specs.declared.NumberPair.the-variants.{None as Neith
 use Rattle.command.specs.declared.Reading.{Reading}
 use Rattle.command.specs.declared.Reading.the-variants.{Bad, Plain}
 use Rattle.command.specs.declared.Command.the-variants.{LabelsEmpty}
-use Rattle.command.specs.Reading.{soleOf, semicolonAt, paired, twoNumbers, onlyIf, labelOf, labelled, afterI, cursorSign, positionOf, readOf, opensPicture, noPicture, drawnRow, pictureOf}
+use Rattle.command.specs.Reading.{soleOf, semicolonAt, paired, twoNumbers, onlyIf, labelOf, labelled, afterI, cursorSign, positionOf, readOf}
 
 pub sole-one : (s : List ℕ) → length s ≡ 1 → getD s 0 0 ≡ soleOf s
 sole-one [] e = absurd (omega arith)
@@ -68,11 +68,6 @@ unfolding positionOf
 position-none [] e = refl
 position-none (a ∷ more) e = absurd (omega arith)
 
-pub row-none : (digit : ℕ) (s : List ℕ) → length s ≡ 0 → noPicture ≡ drawnRow digit s
-unfolding drawnRow
-row-none digit [] e = refl
-row-none digit (a ∷ more) e = absurd (omega arith)
-
 pub read-short : (s : List ℕ) → length s < 2 → Bad ≡ readOf s
 unfolding readOf
 read-short [] e = refl
@@ -91,43 +86,6 @@ unfolding readOf
 read-opens [] e = absurd (omega arith)
 read-opens (a ∷ []) e = absurd (omega arith)
 read-opens (a ∷ b ∷ more) e = refl
-
-pub opens-short : (s : List ℕ) → length s < 2 → false ≡ opensPicture s
-unfolding opensPicture
-opens-short [] e = refl
-opens-short (a ∷ []) e = refl
-opens-short (a ∷ b ∷ more) e = absurd (omega arith)
-
-pub opens-by : (s : List ℕ) → 2 ≤ length s → (eqb (getD s 0 0) (code "G") && eqb (getD s 1 0) (code "r")) ≡ opensPicture s
-unfolding opensPicture
-opens-by [] e = absurd (omega arith)
-opens-by (a ∷ []) e = absurd (omega arith)
-opens-by (a ∷ b ∷ more) e = refl
-
-pub picture-short : (s : List ℕ) → length s < 4 → noPicture ≡ pictureOf s
-unfolding pictureOf
-picture-short [] e = refl
-picture-short (a ∷ []) e = refl
-picture-short (a ∷ b ∷ []) e = refl
-picture-short (a ∷ b ∷ c ∷ []) e = refl
-picture-short (a ∷ b ∷ c ∷ d ∷ more) e = absurd (omega arith)
-
-abbrev pub opensWithComma : List ℕ → Bool
-opensWithComma s = eqb (getD s 0 0) (code "G") && eqb (getD s 1 0) (code "r") && eqb (getD s 3 0) (code ",")
-
-picture-by : (s : List ℕ) → 4 ≤ length s → pictureOf s ≡ cond (opensWithComma s) (drawnRow (getD s 2 0) (drop 4 s)) noPicture
-unfolding pictureOf
-picture-by [] e = absurd (omega arith)
-picture-by (a ∷ []) e = absurd (omega arith)
-picture-by (a ∷ b ∷ []) e = absurd (omega arith)
-picture-by (a ∷ b ∷ c ∷ []) e = absurd (omega arith)
-picture-by (a ∷ b ∷ c ∷ d ∷ more) e = refl
-
-pub picture-opens : (s : List ℕ) → 4 ≤ length s → opensWithComma s ≡ true → drawnRow (getD s 2 0) (drop 4 s) ≡ pictureOf s
-picture-opens s h e = rw (picture-by s h, e)
-
-pub picture-is-none : (s : List ℕ) → 4 ≤ length s → opensWithComma s ≡ false → noPicture ≡ pictureOf s
-picture-is-none s h e = rw (picture-by s h, e)
 
 pub label-empties : (s : List ℕ) → (length s ≡ 0 → ⊥) → getD s 0 0 ≡ code "0" → onlyIf (eqb (length s) 1) (Plain LabelsEmpty) ≡ labelOf s
 unfolding labelOf

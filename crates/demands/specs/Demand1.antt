@@ -26,7 +26,7 @@ use Rattle.effect.specs.Keeps.{out-of-range-keeps}
 use Rattle.parting.specs.Rules.{closed, abandoned, limit}
 use Rattle.parting.specs.Meaning.{close, act}
 use Rattle.reader.specs.Stream.{handset, obeyFrame, fedOf, answersAfter}
-use Rattle.keys.specs.Rules.{listed}
+use Rattle.keying.specs.Rules.{listed}
 use Rattle.keys.specs.Log.{outcome, handedBack, bufferAfter}
 use Rattle.keys.specs.Laws.{answers-1, answers-5, answers-4, answers-0}
 use Rattle.light.specs.Seconds.{passed, lightPassed}

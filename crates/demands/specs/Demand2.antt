@@ -24,7 +24,7 @@ use Rattle.effect.specs.Obey.{obeyOrder, isGood}
 use Rattle.effect.specs.Untouched.{groupOf, without, untouched}
 use Rattle.reader.specs.Stream.{obeyFrame}
 use Rattle.turns.specs.Room.{run}
-use Rattle.keys.specs.Rules.{listed, step}
+use Rattle.keying.specs.Rules.{listed, step}
 use Rattle.keys.specs.Log.{entries, outcome}
 use Rattle.keys.specs.Laws.{answers-0}
 use Rattle.light.specs.Seconds.{passed, dimmed}
@@ -32,7 +32,8 @@ use Rattle.light.specs.Laws.{second-done}
 use Rattle.seen.specs.Places.{rowOwner}
 use Rattle.seen.specs.Rows.{contents, rowSeen}
 use Rattle.seen.specs.Laws.{seen-row}
-use Rattle.writer.specs.Writing.{bodyOf, labelBody, rowBody, isLabel, isRow}
+use Rattle.fitting.specs.Fitting.{isLabel, isRow}
+use Rattle.writer.specs.Writing.{bodyOf, labelBody, rowBody}
 use Rattle.writer.specs.ReadBack.{ReadsBack, command-reads-back, label-reads-back, row-reads-back}
 
 pub record Demand2 : Type 0 where

@@ -22,12 +22,12 @@ use Rattle.parting.specs.Rules.{keep}
 use Rattle.parting.specs.Reading.{step, reading}
 use Rattle.parting.specs.Meaning.{State}
 use Rattle.reader.specs.Stream.{handset, frameIn, stateOf}
-use Rattle.keys.specs.Codes.{codeOf}
-use Rattle.keys.specs.Rules as Keys
-use Rattle.keys.specs.Rules.{Entry, entry, elapsed, keyed}
-use Rattle.seen.specs.Panels.{volumePanel}
-use Rattle.seen.specs.declared.VolumePanel.{VolumePanel}
-use Rattle.seen.specs.declared.VolumePanel.the-variants as Panel
+use Rattle.keying.specs.Codes.{codeOf}
+use Rattle.keying.specs.Rules as Keys
+use Rattle.keying.specs.Rules.{Entry, entry, elapsed, keyed}
+use Rattle.panels.specs.Panels.{volumePanel}
+use Rattle.panels.specs.declared.VolumePanel.{VolumePanel}
+use Rattle.panels.specs.declared.VolumePanel.the-variants as Panel
 
 -- a frame on the cord, and streams of them
 abbrev frame : List ℕ → List ℕ

@@ -20,12 +20,17 @@ use Rattle.picture.specs.Reading.{columnsRead}
 use Rattle.picture.specs.Writing.{dataWritten}
 use Rattle.command.specs.InRange.{commandInRange, mostRows}
 use Rattle.command.specs.Reading.{readOf, opensPicture, pictureOf}
+use Rattle.settings.specs.Settings.{toMode, atLevel}
 use Rattle.effect.specs.Obey.{Obeys, core}
 use Rattle.reader.specs.Stream.{fedOf, answersAfter}
+use Rattle.lists.specs.Every.{every}
+use Rattle.keying.specs.Rules.{listed, keyed}
 use Rattle.keys.specs.Log.{outcome, handedBack, bufferAfter}
 use Rattle.light.specs.Seconds.{passed, lightPassed}
+use Rattle.panels.specs.Panels.{smsPanel, volumePanel}
 use Rattle.seen.specs.Rows.{rowSeen, smsSeen, volumeSeen}
-use Rattle.writer.specs.Writing.{bodyOf, labelBody, rowBody, frameOf, isLabel, isRow, writtenOf, roomAfter}
+use Rattle.fitting.specs.Fitting.{isLabel, isRow}
+use Rattle.writer.specs.Writing.{bodyOf, labelBody, rowBody, frameOf, writtenOf, roomAfter}
 use Rattle.record.proofs.number as Number
 use Rattle.record.proofs.number.Reads as NumberReads
 use Rattle.record.proofs.rows as Rows
@@ -50,31 +55,47 @@ use Rattle.numeral.proofs.digits_of as DigitsOf
 use Rattle.numeral.proofs.digits_of.Reads as DigitsOfReads
 use Rattle.picture.proofs.read_data as ReadData
 use Rattle.picture.proofs.read_data.Reads as ReadDataReads
-use Rattle.picture.proofs.write_data as WriteData
-use Rattle.picture.proofs.write_data.Reads as WriteDataReads
-use Rattle.command.proofs.in_range as CommandInRange
-use Rattle.command.proofs.in_range.Reads as CommandInRangeReads
+use Rattle.encoding.proofs.write_data as WriteData
+use Rattle.encoding.proofs.write_data.Reads as WriteDataReads
+use Rattle.limits.proofs.in_range as CommandInRange
+use Rattle.limits.proofs.in_range.Reads as CommandInRangeReads
 use Rattle.command.proofs.read_command as ReadCommand
 use Rattle.command.proofs.read_command.Reads as ReadCommandReads
-use Rattle.command.proofs.opens_picture as OpensPicture
-use Rattle.command.proofs.opens_picture.Reads as OpensPictureReads
-use Rattle.command.proofs.read_picture as ReadPicture
-use Rattle.command.proofs.read_picture.Reads as ReadPictureReads
+use Rattle.drawing.proofs.opens_picture as OpensPicture
+use Rattle.drawing.proofs.opens_picture.Reads as OpensPictureReads
+use Rattle.drawing.proofs.read_picture as ReadPicture
+use Rattle.drawing.proofs.read_picture.Reads as ReadPictureReads
+use Rattle.settings.proofs.to_mode as ToMode
+use Rattle.settings.proofs.to_mode.Reads as ToModeReads
+use Rattle.settings.proofs.at_level as AtLevel
+use Rattle.settings.proofs.at_level.Reads as AtLevelReads
 use Rattle.effect.proofs.obey as Obey
 use Rattle.effect.proofs.obey.Reads as ObeyReads
 use Rattle.reader.proofs.feed as Feed
 use Rattle.reader.proofs.feed.Reads as FeedReads
+use Rattle.keying.proofs.all_listed as AllListed
+use Rattle.keying.proofs.all_listed.Reads as AllListedReads
+use Rattle.keying.proofs.take_entry as TakeEntry
+use Rattle.keying.proofs.take_entry.Reads as TakeEntryReads
 use Rattle.keys.proofs.take_log as TakeLog
 use Rattle.keys.proofs.take_log.Reads as TakeLogReads
 use Rattle.light.proofs.second as Second
 use Rattle.light.proofs.second.Reads as SecondReads
 use Rattle.light.proofs.second_in_place as SecondInPlace
+use Rattle.panels.proofs.sms_panel as SmsPanelOf
+use Rattle.panels.proofs.sms_panel.Reads as SmsPanelOfReads
+use Rattle.panels.proofs.volume_panel as VolumePanelOf
+use Rattle.panels.proofs.volume_panel.Reads as VolumePanelOfReads
 use Rattle.seen.proofs.row_seen as RowSeen
 use Rattle.seen.proofs.row_seen.Reads as RowSeenReads
 use Rattle.seen.proofs.sms_seen as SmsSeen
 use Rattle.seen.proofs.sms_seen.Reads as SmsSeenReads
 use Rattle.seen.proofs.volume_seen as VolumeSeen
 use Rattle.seen.proofs.volume_seen.Reads as VolumeSeenReads
+use Rattle.fitting.proofs.label_in_range as LabelInRange
+use Rattle.fitting.proofs.label_in_range.Reads as LabelInRangeReads
+use Rattle.fitting.proofs.row_in_range as RowInRange
+use Rattle.fitting.proofs.row_in_range.Reads as RowInRangeReads
 use Rattle.writer.proofs.write_command as WriteCommand
 use Rattle.writer.proofs.write_command.Reads as WriteCommandReads
 use Rattle.writer.proofs.write_label as WriteLabel
@@ -150,11 +171,11 @@ digits-of-says κs a q e w = refl
 pub read-data-says : Says ReadData.ended ReadDataReads.ensures (λ κs a q e. q ≡ columnsRead (now (a .0)))
 read-data-says κs a q e w = refl
 
--- picture::write_data
+-- encoding::write_data
 pub write-data-says : Says WriteData.ended WriteDataReads.ensures (λ κs a q e. q ≡ dataWritten (now (a .0)))
 write-data-says κs a q e w = refl
 
--- command::in_range
+-- limits::in_range
 pub command-in-range-says : Says CommandInRange.ended CommandInRangeReads.ensures (λ κs a q e. q ≡ commandInRange (a .1 .0) (a .0))
 command-in-range-says κs a q e w = refl
 
@@ -162,13 +183,21 @@ command-in-range-says κs a q e w = refl
 pub read-command-says : Says ReadCommand.ended ReadCommandReads.ensures (λ κs a q e. q ≡ readOf (now (a .0)))
 read-command-says κs a q e w = refl
 
--- command::opens_picture
+-- drawing::opens_picture
 pub opens-picture-says : Says OpensPicture.ended OpensPictureReads.ensures (λ κs a q e. q ≡ opensPicture (now (a .0)))
 opens-picture-says κs a q e w = refl
 
--- command::read_picture
+-- drawing::read_picture
 pub read-picture-says : Says ReadPicture.ended ReadPictureReads.ensures (λ κs a q e. q ≡ pictureOf (now (a .0)))
 read-picture-says κs a q e w = refl
+
+-- settings::to_mode
+pub to-mode-says : Says ToMode.ended ToModeReads.ensures (λ κs a q e. q ≡ toMode (a .0) (a .1 .0))
+to-mode-says κs a q e w = refl
+
+-- settings::at_level
+pub at-level-says : Says AtLevel.ended AtLevelReads.ensures (λ κs a q e. q ≡ atLevel (a .0) (a .1 .0) (a .1 .1 .0))
+at-level-says κs a q e w = refl
 
 -- effect::obey
 pub obey-says : Says Obey.ended ObeyReads.ensures (λ κs a q e. Obeys (now (a .1 .1 .1 .0)) (core (a .0) (now (a .1 .0)) (now (a .1 .1 .0))) q (core (q .panel) (now (e .1 .0)) (now (e .1 .1 .0))))
@@ -179,6 +208,14 @@ pub feed-says : SaysBoth Feed.ended FeedReads.ensures
     (λ κs a q e. q ≡ fedOf (a .0) (now (a .1 .0)) (length (now (a .1 .1 .0))))
     (λ κs a q e. now (e .1 .1 .0) ≡ answersAfter (a .0) (now (a .1 .0)) (now (a .1 .1 .0)))
 feed-says κs a q e w = refl
+
+-- keying::all_listed
+pub all-listed-says : Says AllListed.ended AllListedReads.ensures (λ κs a q e. q ≡ every listed (now (a .0)))
+all-listed-says κs a q e w = refl
+
+-- keying::take_entry
+pub take-entry-says : Says TakeEntry.ended TakeEntryReads.ensures (λ κs a q e. q ≡ keyed (a .0) (a .1 .0) (a .1 .1 .0) (a .1 .1 .1 .0) (a .1 .1 .1 .1 .0))
+take-entry-says κs a q e w = refl
 
 -- keys::take_log
 pub take-log-says : SaysBoth TakeLog.ended TakeLogReads.ensures
@@ -196,6 +233,14 @@ pub second-in-place-says : Says SecondInPlace.ended
     (λ κs a q e. (q ≡ lightPassed (now (a .0)) .answer) × (now (e .0) ≡ lightPassed (now (a .0)) .backlight))
 second-in-place-says κs a q e w = refl
 
+-- panels::sms_panel
+pub sms-panel-says : Says SmsPanelOf.ended SmsPanelOfReads.ensures (λ κs a q e. q ≡ smsPanel (a .0))
+sms-panel-says κs a q e w = refl
+
+-- panels::volume_panel
+pub volume-panel-says : Says VolumePanelOf.ended VolumePanelOfReads.ensures (λ κs a q e. q ≡ volumePanel (a .0))
+volume-panel-says κs a q e w = refl
+
 -- seen::row_seen
 pub row-seen-says : Says RowSeen.ended RowSeenReads.ensures (λ κs a q e. q ≡ rowSeen (a .0) (a .1 .0))
 row-seen-says κs a q e w = refl
@@ -207,6 +252,14 @@ sms-seen-says κs a q e w = refl
 -- seen::volume_seen
 pub volume-seen-says : Says VolumeSeen.ended VolumeSeenReads.ensures (λ κs a q e. q ≡ volumeSeen (a .0))
 volume-seen-says κs a q e w = refl
+
+-- fitting::label_in_range
+pub label-in-range-says : Says LabelInRange.ended LabelInRangeReads.ensures (λ κs a q e. q ≡ isLabel (now (a .0)))
+label-in-range-says κs a q e w = refl
+
+-- fitting::row_in_range
+pub row-in-range-says : Says RowInRange.ended RowInRangeReads.ensures (λ κs a q e. q ≡ isRow (a .0) (now (a .1 .0)))
+row-in-range-says κs a q e w = refl
 
 -- writer::write_command
 pub write-command-says : SaysBoth WriteCommand.ended WriteCommandReads.ensures

@@ -33,31 +33,47 @@ use Rattle.numeral.proofs.digits_of as DigitsOf
 use Rattle.numeral.proofs.digits_of.Reads as DigitsOfReads
 use Rattle.picture.proofs.read_data as ReadData
 use Rattle.picture.proofs.read_data.Reads as ReadDataReads
-use Rattle.picture.proofs.write_data as WriteData
-use Rattle.picture.proofs.write_data.Reads as WriteDataReads
-use Rattle.command.proofs.in_range as CommandInRange
-use Rattle.command.proofs.in_range.Reads as CommandInRangeReads
+use Rattle.encoding.proofs.write_data as WriteData
+use Rattle.encoding.proofs.write_data.Reads as WriteDataReads
+use Rattle.limits.proofs.in_range as CommandInRange
+use Rattle.limits.proofs.in_range.Reads as CommandInRangeReads
 use Rattle.command.proofs.read_command as ReadCommand
 use Rattle.command.proofs.read_command.Reads as ReadCommandReads
-use Rattle.command.proofs.opens_picture as OpensPicture
-use Rattle.command.proofs.opens_picture.Reads as OpensPictureReads
-use Rattle.command.proofs.read_picture as ReadPicture
-use Rattle.command.proofs.read_picture.Reads as ReadPictureReads
+use Rattle.drawing.proofs.opens_picture as OpensPicture
+use Rattle.drawing.proofs.opens_picture.Reads as OpensPictureReads
+use Rattle.drawing.proofs.read_picture as ReadPicture
+use Rattle.drawing.proofs.read_picture.Reads as ReadPictureReads
+use Rattle.settings.proofs.to_mode as ToMode
+use Rattle.settings.proofs.to_mode.Reads as ToModeReads
+use Rattle.settings.proofs.at_level as AtLevel
+use Rattle.settings.proofs.at_level.Reads as AtLevelReads
 use Rattle.effect.proofs.obey as Obey
 use Rattle.effect.proofs.obey.Reads as ObeyReads
 use Rattle.reader.proofs.feed as Feed
 use Rattle.reader.proofs.feed.Reads as FeedReads
+use Rattle.keying.proofs.all_listed as AllListed
+use Rattle.keying.proofs.all_listed.Reads as AllListedReads
+use Rattle.keying.proofs.take_entry as TakeEntry
+use Rattle.keying.proofs.take_entry.Reads as TakeEntryReads
 use Rattle.keys.proofs.take_log as TakeLog
 use Rattle.keys.proofs.take_log.Reads as TakeLogReads
 use Rattle.light.proofs.second as Second
 use Rattle.light.proofs.second.Reads as SecondReads
 use Rattle.light.proofs.second_in_place as SecondInPlace
+use Rattle.panels.proofs.sms_panel as SmsPanelOf
+use Rattle.panels.proofs.sms_panel.Reads as SmsPanelOfReads
+use Rattle.panels.proofs.volume_panel as VolumePanelOf
+use Rattle.panels.proofs.volume_panel.Reads as VolumePanelOfReads
 use Rattle.seen.proofs.row_seen as RowSeen
 use Rattle.seen.proofs.row_seen.Reads as RowSeenReads
 use Rattle.seen.proofs.sms_seen as SmsSeen
 use Rattle.seen.proofs.sms_seen.Reads as SmsSeenReads
 use Rattle.seen.proofs.volume_seen as VolumeSeen
 use Rattle.seen.proofs.volume_seen.Reads as VolumeSeenReads
+use Rattle.fitting.proofs.label_in_range as LabelInRange
+use Rattle.fitting.proofs.label_in_range.Reads as LabelInRangeReads
+use Rattle.fitting.proofs.row_in_range as RowInRange
+use Rattle.fitting.proofs.row_in_range.Reads as RowInRangeReads
 use Rattle.writer.proofs.write_command as WriteCommand
 use Rattle.writer.proofs.write_command.Reads as WriteCommandReads
 use Rattle.writer.proofs.write_label as WriteLabel
@@ -133,11 +149,11 @@ digits-of-one κs a q q′ e e′ p p′ = two-equal p p′
 pub read-data-one : OneResult ReadData.ended ReadDataReads.Learnt
 read-data-one κs a q q′ e e′ p p′ = two-equal p p′
 
--- picture::write_data
+-- encoding::write_data
 pub write-data-one : OneResult WriteData.ended WriteDataReads.Learnt
 write-data-one κs a q q′ e e′ p p′ = two-equal p p′
 
--- command::in_range
+-- limits::in_range
 pub command-in-range-one : OneResult CommandInRange.ended CommandInRangeReads.Learnt
 command-in-range-one κs a q q′ e e′ p p′ = two-equal p p′
 
@@ -145,17 +161,25 @@ command-in-range-one κs a q q′ e e′ p p′ = two-equal p p′
 pub read-command-one : OneResult ReadCommand.ended ReadCommandReads.Learnt
 read-command-one κs a q q′ e e′ p p′ = two-equal p p′
 
--- command::opens_picture
+-- drawing::opens_picture
 pub opens-picture-one : OneResult OpensPicture.ended OpensPictureReads.Learnt
 opens-picture-one κs a q q′ e e′ p p′ = two-equal p p′
 
--- command::read_picture
+-- drawing::read_picture
 pub read-picture-one : OneResult ReadPicture.ended ReadPictureReads.Learnt
 read-picture-one κs a q q′ e e′ p p′ = two-equal p p′
 
 -- reader::feed
 pub feed-one : OneEnd Feed.ended (List ℕ) FeedReads.Learnt (λ κs e. now (e .1 .1 .0))
 feed-one κs a q q′ e e′ p p′ = (two-equal (p .0) (p′ .0), two-equal (p .1) (p′ .1))
+
+-- keying::all_listed
+pub all-listed-one : OneResult AllListed.ended AllListedReads.Learnt
+all-listed-one κs a q q′ e e′ p p′ = two-equal p p′
+
+-- keying::take_entry
+pub take-entry-one : OneResult TakeEntry.ended TakeEntryReads.Learnt
+take-entry-one κs a q q′ e e′ p p′ = two-equal p p′
 
 -- keys::take_log
 pub take-log-one : OneEnd TakeLog.ended (List ℕ) TakeLogReads.Learnt (λ κs e. now (e .1 .1 .1 .0))
@@ -171,6 +195,14 @@ pub second-in-place-one : OneEnd SecondInPlace.ended Backlight
     (λ κs e. now (e .0))
 second-in-place-one κs a q q′ e e′ p p′ = (two-equal (p .0) (p′ .0), two-equal (p .1) (p′ .1))
 
+-- panels::sms_panel
+pub sms-panel-one : OneResult SmsPanelOf.ended SmsPanelOfReads.Learnt
+sms-panel-one κs a q q′ e e′ p p′ = two-equal p p′
+
+-- panels::volume_panel
+pub volume-panel-one : OneResult VolumePanelOf.ended VolumePanelOfReads.Learnt
+volume-panel-one κs a q q′ e e′ p p′ = two-equal p p′
+
 -- seen::row_seen
 pub row-seen-one : OneResult RowSeen.ended RowSeenReads.Learnt
 row-seen-one κs a q q′ e e′ p p′ = two-equal p p′
@@ -183,6 +215,14 @@ sms-seen-one κs a q q′ e e′ p p′ = two-equal p p′
 pub volume-seen-one : OneResult VolumeSeen.ended VolumeSeenReads.Learnt
 volume-seen-one κs a q q′ e e′ p p′ = two-equal p p′
 
+-- fitting::label_in_range
+pub label-in-range-one : OneResult LabelInRange.ended LabelInRangeReads.Learnt
+label-in-range-one κs a q q′ e e′ p p′ = two-equal p p′
+
+-- fitting::row_in_range
+pub row-in-range-one : OneResult RowInRange.ended RowInRangeReads.Learnt
+row-in-range-one κs a q q′ e e′ p p′ = two-equal p p′
+
 -- writer::write_command
 pub write-command-one : OneEnd WriteCommand.ended (List ℕ) WriteCommandReads.Learnt (λ κs e. now (e .1 .0))
 write-command-one κs a q q′ e e′ p p′ = (two-equal (p .0) (p′ .0), two-equal (p .1) (p′ .1))
@@ -194,6 +234,14 @@ write-label-one κs a q q′ e e′ p p′ = (two-equal (p .0) (p′ .0), two-eq
 -- writer::write_picture_row
 pub write-picture-row-one : OneEnd WritePictureRow.ended (List ℕ) WritePictureRowReads.Learnt (λ κs e. now (e .1 .1 .0))
 write-picture-row-one κs a q q′ e e′ p p′ = (two-equal (p .0) (p′ .0), two-equal (p .1) (p′ .1))
+
+-- settings::to_mode
+pub to-mode-one : OneResult ToMode.ended ToModeReads.Learnt
+to-mode-one κs a q q′ e e′ p p′ = two-equal p p′
+
+-- settings::at_level
+pub at-level-one : OneResult AtLevel.ended AtLevelReads.Learnt
+at-level-one κs a q q′ e e′ p p′ = two-equal p p′
 
 -- effect::obey: whether the frame is good, and the panel, text and picture as they are afterwards
 pub obey-one : (κs : Lfts (Obey.ended .signature .lifetimes)) (a : ArgsD (Obey.ended .signature) κs) (q q′ : ResD (Obey.ended .signature) κs) (e e′ : AtExit Obey.ended κs)

@@ -4,7 +4,7 @@ use native.Mathlib.Omega.{arith}
 use mathlib.Core.Bool.{Bool, true, false, true≢false, cond, _&&_, _||_}
 use mathlib.Core.Path.{_≡_, refl, sym, subst, _∙_}
 use lib.Dec.{leb, ltb, eqb}
-use borrow.Author.Tests.{leb-true, leb-false, ltb-true, eqb-true, eqb-false, ne-eqb}
+use borrow.Author.Tests.{leb-true, leb-false, ltb-true, eqb-true, ne-eqb}
 use Rattle.lists.specs.Both.{both}
 use Rattle.record.specs.Range.{rowsOf, modeInRange, iconUInRange, time1InRange, time2InRange}
 use Rattle.command.specs.InRange.{isOverlay, isColumn, commandInRange}
@@ -53,19 +53,3 @@ pub small-times : {k : Command} {time1 time2 : ℕ} (rows : ℕ) → k ≡ KeyTi
 small-times {k} {time1} {time2} rows e h =
     let b = both {a = time1InRange time1} {b = time2InRange time2} (subst (λ (x : Command). commandInRange rows x ≡ true) e h) in
     (at-most 50 time1 (omega arith) (both {a = leb 4 time1} (b .0) .1), small-from 4 50 time2 (omega arith) (b .1))
-
--- 11, 12 and 13 are the overlays, and no other number is
-pub overlays : (n : ℕ) → 11 ≤ n → n ≤ 13 → true ≡ isOverlay n
-overlays n low high = cases (eqb n 11) (eqb n 12) refl refl
-  where
-    cases : (b d : Bool) → eqb n 11 ≡ b → eqb n 12 ≡ d → true ≡ isOverlay n
-    cases true d e f = rw (eqb-true n 11 e)
-    cases false true e f = rw (eqb-true n 12 f)
-    cases false false e f = let q : n ≡ 13 = omega (arith, eqb-false n 11 e, eqb-false n 12 f) in rw q
-
-pub no-overlay : (n : ℕ) → (11 ≤ n → n ≤ 13 → ⊥) → isOverlay n ≡ false
-no-overlay n out = cases (eqb n 0) refl
-  where
-    cases : (b : Bool) → eqb n 0 ≡ b → isOverlay n ≡ false
-    cases true e = rw (eqb-true n 0 e)
-    cases false e = simp (e, ne-eqb n 11 (λ q. out (omega arith) (omega arith)), ne-eqb n 12 (λ q. out (omega arith) (omega arith)), ne-eqb n 13 (λ q. out (omega arith) (omega arith)))

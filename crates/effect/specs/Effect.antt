@@ -9,27 +9,19 @@ use lib.ListN.{length, set, replicate}
 use lib.Seq.{sets}
 use Rattle.lists.specs.Codes.{blank}
 use Rattle.lists.specs.Padded.{padded}
-use Rattle.record.specs.declared.Screen.{Screen}
 use Rattle.record.specs.declared.Label.{Label}
 use Rattle.record.specs.declared.Volume.{Volume}
 use Rattle.record.specs.declared.Backlight.{Backlight}
 use Rattle.record.specs.Range.{lastColumnOf, off, on, auto}
-use Rattle.record.specs.With.{withShown, withLeft, withRight, withTimes, withBuzzer, withDisplay, withMode, withOverlay, withRow, withColumn, withIconS, withIconU, withIconF, withIconR, withIconP, withIconW, withWhich, withLevel, withMute, withHidden, withLight, withDuration, withSecondsLeft, withKeypad}
+use Rattle.record.specs.With.{withShown, withLeft, withRight, withTimes, withBuzzer, withDisplay, withColumn, withIconS, withIconU, withIconF, withIconR, withIconP, withIconW, withMute, withHidden, withLight, withDuration, withSecondsLeft, withKeypad}
 use Rattle.command.specs.Order.{Order, plain, label, draw}
-use Rattle.command.specs.InRange.{isOverlay, inRangeInMode}
+use Rattle.command.specs.InRange.{inRangeInMode}
 use Rattle.command.specs.declared.Command.the-variants.{DisplayOff, DisplayOn, Mode, CursorShown, CursorHidden, Clear, Position, LabelsEmpty, IconS, IconU, IconF, IconR, IconP, IconW, Private, Handsfree, HandsfreeOfNote, Mute, KeyTimes, Buzzer, Light, LightOn, LightAutoStart, LightAuto, DefaultDuration, KeypadSet, KeypadCleared}
 use Rattle.command.specs.declared.Side.the-variants.{Left, Right}
+use Rattle.settings.specs.Settings.{at, toMode, atLevel}
 use Rattle.effect.specs.Core.{Core, onPanel, onText, onPicture, onScreen, onIcons, onVolume, onBacklight}
 
 -- Parts of a line -------------------------------------------------------------------------------------------------
-
--- cursor position row, column
-abbrev pub at : Screen → ℕ → ℕ → Screen
-at s row column = withColumn (withRow s row) column
-
--- text mode n, overlay none, cursor position 0,0
-abbrev pub inMode : Screen → ℕ → Screen
-inMode s n = at (withOverlay (withMode s n) 0) 0 0
 
 -- all text to 0x20: the five rows
 unfoldable pub blanks : List ℕ
@@ -38,10 +30,6 @@ blanks = replicate (5 * 16) blank
 -- the label t: its codes, and zero in the unused places
 abbrev pub labelOf : List ℕ → Label
 labelOf t = record { len = length t; codes = padded 7 t }
-
--- above 0: private or handsfree at n, hidden no. 0: none, hidden yes. Mute stays.
-abbrev pub atLevel : Volume → ℕ → ℕ → Volume
-atLevel v which n = cond (eqb n 0) (withHidden (withLevel (withWhich v 0) 0) true) (withHidden (withLevel (withWhich v which) n) false)
 
 -- mute; 1 also sets hidden no
 abbrev pub muted : Volume → ℕ → Volume
@@ -67,7 +55,7 @@ drawn picture row columns = sets picture (row * 96) (map (keptIn row) columns)
 abbrev pub effect : Order → Core → Core
 effect (plain DisplayOff) c = onScreen c (withDisplay (c .panel .screen) false)
 effect (plain DisplayOn) c = onScreen c (withDisplay (c .panel .screen) true)
-effect (plain (Mode n)) c = onScreen c (cond (isOverlay n) (withOverlay (c .panel .screen) n) (inMode (c .panel .screen) n))
+effect (plain (Mode n)) c = onScreen c (toMode (c .panel .screen) n)
 effect (plain CursorShown) c = onPanel c (withShown (c .panel) true)
 effect (plain CursorHidden) c = onPanel c (withShown (c .panel) false)
 effect (plain Clear) c = onText (onScreen c (at (c .panel .screen) 0 0)) blanks

@@ -34,7 +34,8 @@ use Rattle.command.specs.Facts.{LabelText, PictureRow, read-label, read-row}
 use Rattle.command.specs.declared.Command.the-variants.{DisplayOff, DisplayOn, Mode, CursorShown, CursorHidden, Clear, Position, LabelsEmpty, IconS, IconU, IconF, IconR, IconP, IconW, Private, Handsfree, HandsfreeOfNote, Mute, KeyTimes, Buzzer, Light, LightOn, LightAutoStart, LightAuto, DefaultDuration, KeypadSet, KeypadCleared}
 use Rattle.command.specs.declared.Side.the-variants.{Left, Right}
 use Rattle.effect.specs.Core.{Core, coreOf, onPanel, onText, onPicture, onScreen, onIcons, onVolume, onBacklight}
-use Rattle.effect.specs.Effect.{at, inMode, blanks, labelOf, atLevel, muted, lightAt, keptIn, drawn, effect, carryOut, storeText}
+use Rattle.settings.specs.Settings.{at, inMode, atLevel}
+use Rattle.effect.specs.Effect.{blanks, labelOf, muted, lightAt, keptIn, drawn, effect, carryOut, storeText}
 use Rattle.effect.specs.Obey.{obeyOrder}
 use Rattle.effect.specs.Sets.{every-set, every-replicate, sets-keep}
 

@@ -7,11 +7,12 @@ ghost use Prim.Native.Nat.{ℕ, _≤_};
 ghost use lib.ListN.{length, take, drop};
 ghost use Rattle.lists.specs.Padded.{padded};
 ghost use Rattle.record.specs.Range.{rowsOf};
-ghost use Rattle.record.specs.With.{withShown, withLeft, withRight, withTimes, withBuzzer, withScreen, withIcons, withVolume, withBacklight, withDisplay, withOverlay, withIconS, withIconU, withIconF, withIconR, withIconP, withIconW, withLight, withDuration, withSecondsLeft, withKeypad};
+ghost use Rattle.record.specs.With.{withShown, withLeft, withRight, withTimes, withBuzzer, withScreen, withIcons, withVolume, withBacklight, withDisplay, withIconS, withIconU, withIconF, withIconR, withIconP, withIconW, withLight, withDuration, withSecondsLeft, withKeypad};
 ghost use Rattle.command.specs.Order.{plain, label};
-ghost use Rattle.command.specs.InRange.{isOverlay, isPictureRow, commandInRange};
+ghost use Rattle.command.specs.InRange.{isPictureRow, commandInRange};
 ghost use Rattle.record.specs.Range.{auto};
-ghost use Rattle.effect.specs.Effect.{at, inMode, blanks, labelOf, atLevel, muted, noSeconds, lightAt, keptIn, drawn, effect, carryOut};
+ghost use Rattle.settings.specs.Settings.{at};
+ghost use Rattle.effect.specs.Effect.{blanks, labelOf, muted, noSeconds, lightAt, keptIn, drawn, effect, carryOut};
 ghost use Rattle.effect.specs.Obey.{core, Obeys};
 use command::Command;
 use command::Reading;
@@ -145,28 +146,6 @@ fn at_position(s: Screen, row: u8, column: u8) -> Screen
     }
 }
 
-fn in_mode(s: Screen, n: u8) -> Screen
-    ensures same { λ r. ⌜ r ≡ inMode s n ⌝ }
-{
-    Screen {
-        display: s.display,
-        mode: n,
-        overlay: 0,
-        row: 0,
-        column: 0,
-    }
-}
-
-// IDn: an overlay leaves the cursor where it is, a text mode homes it.
-fn to_mode(s: Screen, n: u8) -> Screen
-    ensures same { λ r. ⌜ r ≡ cond (isOverlay n) (withOverlay s n) (inMode s n) ⌝ }
-{
-    match n {
-        11..=13 => Screen { overlay: n, ..s },
-        _ => in_mode(s, n),
-    }
-}
-
 // The icons.
 
 fn with_icon_s(i: Icons, n: u8) -> Icons
@@ -205,25 +184,7 @@ fn with_icon_w(i: Icons, n: u8) -> Icons
     Icons { w: n, ..i }
 }
 
-// The volume. Level 0 hides and keeps mute, so that mute comes back with the next volume icon.
-fn at_level(v: Volume, which: u8, n: u8) -> Volume
-    ensures same { λ r. ⌜ r ≡ atLevel v which n ⌝ }
-{
-    match n {
-        0 => Volume {
-            which: 0,
-            level: 0,
-            hidden: true,
-            ..v
-        },
-        1..=255 => Volume {
-            which: which,
-            level: n,
-            hidden: false,
-            ..v
-        },
-    }
-}
+// The volume.
 
 fn with_mute(v: Volume, n: u8) -> Volume
     ensures same { λ r. ⌜ r ≡ muted v n ⌝ }
@@ -388,7 +349,7 @@ fn changed(p: Panel, text: &mut [u8; 80], c: Command) -> Panel
     match c {
         Command::DisplayOff => with_screen(p, with_display(p.screen, false)),
         Command::DisplayOn => with_screen(p, with_display(p.screen, true)),
-        Command::Mode(n) => with_screen(p, to_mode(p.screen, byte(n))),
+        Command::Mode(n) => with_screen(p, settings::to_mode(p.screen, byte(n))),
         Command::CursorShown => with_shown(p, true),
         Command::CursorHidden => with_shown(p, false),
         Command::Clear => {
@@ -406,9 +367,12 @@ fn changed(p: Panel, text: &mut [u8; 80], c: Command) -> Panel
         Command::IconR(n) => with_icons(p, with_icon_r(p.icons, byte(n))),
         Command::IconP(n) => with_icons(p, with_icon_p(p.icons, byte(n))),
         Command::IconW(n) => with_icons(p, with_icon_w(p.icons, byte(n))),
-        Command::Private(n) => with_volume(p, at_level(p.volume, PRIVATE, byte(n))),
-        Command::Handsfree(n) => with_volume(p, at_level(p.volume, HANDSFREE, byte(n))),
-        Command::HandsfreeOfNote(n) => with_volume(p, at_level(p.volume, HANDSFREE, byte(n))),
+        Command::Private(n) => with_volume(p, settings::at_level(p.volume, PRIVATE, byte(n))),
+        Command::Handsfree(n) => with_volume(p, settings::at_level(p.volume, HANDSFREE, byte(n))),
+        Command::HandsfreeOfNote(n) => with_volume(
+            p,
+            settings::at_level(p.volume, HANDSFREE, byte(n)),
+        ),
         Command::Mute(n) => with_volume(p, with_mute(p.volume, byte(n))),
         Command::KeyTimes(time1, time2) => with_times(p, byte(time1), byte(time2)),
         Command::Buzzer(n) => with_buzzer(p, byte(n)),
@@ -427,7 +391,7 @@ fn obey_command(p: Panel, text: &mut [u8; 80], c: Command) -> Panel
     ensures same { λ r. ⌜ ((picture : List ℕ) → core r (now (text .exit)) picture ≡ carryOut (plain c) (core p (now (text .entry)) picture)) ⌝ }
 {
     let rows = record::rows(p.screen.mode);
-    if command::in_range(c, rows) {
+    if limits::in_range(c, rows) {
         return changed(p, text, c);
     }
     p
@@ -448,16 +412,16 @@ fn obey_label(p: Panel, side: Side, f: &[u8]) -> Panel
 pub fn obey(panel: Panel, text: &mut [u8; 80], picture: &mut [u8; 672], frame: &[u8]) -> Obeyed
     ensures obeys { λ o. ⌜ Obeys (now (frame .entry)) (core panel (now (text .entry)) (now (picture .entry))) o (core (o .panel) (now (text .exit)) (now (picture .exit))) ⌝ }
 {
-    if command::opens_picture(frame) {
-        let drawing = command::read_picture(frame);
-        let columns = drawing.columns;
+    if drawing::opens_picture(frame) {
+        let drawn = drawing::read_picture(frame);
+        let columns = drawn.columns;
         if columns.len == 0 {
             return Obeyed {
                 panel: panel,
                 good: false,
             };
         }
-        draw(picture, drawing.row, columns);
+        draw(picture, drawn.row, columns);
         return Obeyed {
             panel: panel,
             good: true,

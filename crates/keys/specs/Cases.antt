@@ -12,9 +12,9 @@ use Rattle.record.specs.Answer.{numberOf}
 use Rattle.record.specs.Range.{auto, textInRange, labelInRange, pictureInRange, frameInRange, inRange}
 use Rattle.record.specs.PowerOn.{startingWith}
 use Rattle.turns.specs.Room.{run}
-use Rattle.keys.specs.declared.Stage.the-variants.{Short, Long, Repeat}
-use Rattle.keys.specs.Codes.{none, codeOf}
-use Rattle.keys.specs.Rules.{Entry, entry, releases, polls, elapsed, noneHeld, heldSince, longSince, keyed, withKeys, step}
+use Rattle.keying.specs.declared.Stage.the-variants.{Short, Long, Repeat}
+use Rattle.keying.specs.Codes.{none, codeOf}
+use Rattle.keying.specs.Rules.{Entry, entry, releases, polls, elapsed, noneHeld, heldSince, longSince, keyed, withKeys, step}
 use Rattle.keys.specs.Log.{outcome}
 use Rattle.keys.specs.Cuts.{ticksOf, edgesOf}
 

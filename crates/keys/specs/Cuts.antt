@@ -12,7 +12,7 @@ use Rattle.record.specs.Range.{inRange}
 use Rattle.turns.specs.Taking.{reading}
 use Rattle.turns.specs.Room.{Ran, run, run-keeps}
 use Rattle.turns.specs.Calls.{Call, offered, offered-append, Session, session, takenIn, sessions-alike, calls-end-as-one}
-use Rattle.keys.specs.Rules.{Entry, listed, step}
+use Rattle.keying.specs.Rules.{Entry, listed, step}
 use Rattle.keys.specs.Log.{entries, Outcome, outcome}
 use Rattle.keys.specs.Laws.{answers-0}
 use Rattle.keys.specs.Ranges.{step-in-range}

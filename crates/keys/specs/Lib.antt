@@ -1,5 +1,3 @@
-pub mod Codes
-pub mod Rules
 pub mod Log
 pub mod Laws
 pub mod Turns

@@ -15,7 +15,7 @@ use Rattle.record.specs.Range.{inRange}
 use Rattle.turns.specs.Room.{Ran, run, stopped}
 use Rattle.turns.specs.Loop.{holding}
 use Rattle.keys.specs.declared.Logged.{Logged}
-use Rattle.keys.specs.Rules.{Entry, entry, listed, withKeys, step}
+use Rattle.keying.specs.Rules.{Entry, entry, listed, withKeys, step}
 
 -- each tick reading with its edge byte
 abbrev pub entries : List ℕ → List ℕ → List Entry

@@ -15,10 +15,10 @@ use Rattle.record.specs.declared.Backlight.{Backlight}
 use Rattle.record.specs.Range.{auto, keyInRange, heldInRange, durationInRange, backlightInRange, inRange}
 use Rattle.record.specs.Laws.{Ranges, ranges, in-range}
 use Rattle.turns.specs.Room.{run-keeps}
-use Rattle.keys.specs.declared.Keyed.{Keyed}
-use Rattle.keys.specs.Rules.{Entry, listed, lit, longSince, keyed, step}
+use Rattle.keying.specs.declared.Keyed.{Keyed}
+use Rattle.keying.specs.Rules.{Entry, listed, lit, longSince, keyed, step}
 use Rattle.keys.specs.Log.{Outcome, entries, outcome}
-use Rattle.keys.specs.Laws.{one-of-four}
+use Rattle.keying.specs.Laws.{one-of-four}
 
 -- the held key and the backlight are within their ranges
 abbrev Fine : Keyed → Type 0

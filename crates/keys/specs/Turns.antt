@@ -13,10 +13,10 @@ use Rattle.turns.specs.Taking.{silently}
 use Rattle.turns.specs.Room.{run}
 use Rattle.turns.specs.Loop.{Account, Going, still, go-quiet, go-one, go-stop, go-end}
 use Rattle.turns.specs.Begins.{as-many, both-begin-with}
-use Rattle.keys.specs.declared.Keyed.{Keyed}
+use Rattle.keying.specs.declared.Keyed.{Keyed}
 use Rattle.keys.specs.declared.Logged.{Logged}
-use Rattle.keys.specs.Codes.{none}
-use Rattle.keys.specs.Rules.{Entry, entry, keyed, withKeys, taken, step}
+use Rattle.keying.specs.Codes.{none}
+use Rattle.keying.specs.Rules.{Entry, entry, keyed, withKeys, taken, step}
 use Rattle.keys.specs.Log.{entries, doneWith, Takes}
 
 -- A code that is none sends nothing, and any other sends itself.

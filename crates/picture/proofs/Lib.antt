@@ -1,4 +1,3 @@
 pub mod Stores
 pub mod Beginning
 pub mod Drawing
-pub mod Encoding

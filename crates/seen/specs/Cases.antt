@@ -15,9 +15,9 @@ use Rattle.record.specs.declared.Record.{Record}
 use Rattle.record.specs.declared.Volume.{Volume}
 use Rattle.seen.specs.declared.Owner.{Owner}
 use Rattle.seen.specs.declared.Owner.the-variants.{Nothing, IconBar, TextRow, PictureRow, SoftKeys}
-use Rattle.seen.specs.declared.SmsPanel.the-variants as Sms
-use Rattle.seen.specs.declared.VolumePanel.the-variants as Sound
-use Rattle.seen.specs.Panels.{smsPanel, volumePanel}
+use Rattle.panels.specs.declared.SmsPanel.the-variants as Sms
+use Rattle.panels.specs.declared.VolumePanel.the-variants as Sound
+use Rattle.panels.specs.Panels.{smsPanel, volumePanel}
 use Rattle.seen.specs.Places.{covered, underBar, underLabels, underText, ownerOn}
 use Rattle.seen.specs.Rows.{contents, rowSeen}
 

@@ -1,5 +1,4 @@
 pub mod Tests
-pub mod Panels
 pub mod Places
 pub mod Rows
 pub mod Table

@@ -11,12 +11,12 @@ use Rattle.record.specs.declared.Panel.{Panel}
 use Rattle.record.specs.declared.Label.{Label}
 use Rattle.record.specs.declared.Answer.{Answer}
 use Rattle.record.specs.declared.Answer.the-variants.{Done, FieldOutOfRange, NotListed}
-use Rattle.seen.specs.Panels.{smsPanel, volumePanel}
+use Rattle.panels.specs.Panels.{smsPanel, volumePanel}
 use Rattle.seen.specs.Places.{rowOwner}
 use Rattle.seen.specs.declared.Owner.{Owner}
 use Rattle.seen.specs.declared.Owner.the-variants.{Nothing, IconBar, TextRow, PictureRow, SoftKeys}
-use Rattle.seen.specs.declared.SmsPanel.the-variants as Sms
-use Rattle.seen.specs.declared.VolumePanel.the-variants as Sound
+use Rattle.panels.specs.declared.SmsPanel.the-variants as Sms
+use Rattle.panels.specs.declared.VolumePanel.the-variants as Sound
 use Rattle.seen.specs.declared.Bar.{Bar}
 use Rattle.seen.specs.declared.Labels.{Labels}
 use Rattle.seen.specs.declared.Row.{Row}

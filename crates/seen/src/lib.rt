@@ -1,35 +1,22 @@
 // What a person sees: the owner and the contents of each display row, and the two panels of the icon bar.
-// The definitions are document 01's "What is seen", in specs/. The cursor is no part of any answer.
+// The definitions are document 01's "What is seen", in specs/ and, for the panels, in the crate panels. The cursor is no part of any answer.
 ghost use mathlib.Core.Path.{_≡_};
 ghost use mathlib.Core.Bool.{true};
 ghost use Prim.Native.Nat.{_+_, _≤_, _<_};
 ghost use lib.ListN.{length};
 ghost use lib.Seq.{slice};
-ghost use Rattle.seen.specs.Panels.{smsPanel, volumePanel};
 ghost use Rattle.seen.specs.Places.{covered, underBar, underLabels, underText, firstTextRow, ownerOn, placed};
 ghost use Rattle.seen.specs.Rows.{rowOf, barOf, labelsOf, noColumns, nothingSeen, contents, rowSeen, smsSeen, volumeSeen};
+pub use panels::SmsPanel;
+pub use panels::VolumePanel;
+use panels::sms_panel;
+use panels::volume_panel;
 use ranges::in_range;
 use record::Answer;
-use record::Icons;
 use record::Label;
 use record::Panel;
 use record::Record;
 use record::Screen;
-use record::Volume;
-
-pub enum SmsPanel {
-    Nothing,
-    Read,
-    Unread,
-}
-
-// The number is the level.
-pub enum VolumePanel {
-    Nothing,
-    Mute,
-    Private(u8),
-    Handsfree(u8),
-}
 
 // Who owns a display row. The number is the text row or the picture row.
 pub enum Owner {
@@ -75,36 +62,6 @@ pub struct SmsSeen {
 pub struct VolumeSeen {
     pub answer: Answer,
     pub panel: VolumePanel,
-}
-
-fn sms_panel(i: Icons) -> SmsPanel
-    ensures { λ p. ⌜ p ≡ smsPanel i ⌝ }
-{
-    if i.u != 0 {
-        return SmsPanel::Unread;
-    }
-    if i.s == 1 {
-        return SmsPanel::Read;
-    }
-    SmsPanel::Nothing
-}
-
-fn volume_panel(v: Volume) -> VolumePanel
-    ensures { λ p. ⌜ p ≡ volumePanel v ⌝ }
-{
-    if v.hidden {
-        return VolumePanel::Nothing;
-    }
-    if v.mute {
-        return VolumePanel::Mute;
-    }
-    if v.which == 1 {
-        return VolumePanel::Private(v.level);
-    }
-    if v.which == 2 {
-        return VolumePanel::Handsfree(v.level);
-    }
-    VolumePanel::Nothing
 }
 
 pub fn sms_seen(r: Record) -> SmsSeen

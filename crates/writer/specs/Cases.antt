@@ -12,7 +12,8 @@ use Rattle.command.specs.declared.Command.{Command}
 use Rattle.command.specs.declared.Command.the-variants.{DisplayOn, Mode, Position, LabelsEmpty, IconU, IconP, HandsfreeOfNote, KeyTimes, Light, LightOn, KeypadSet}
 use Rattle.command.specs.declared.Side.{Side}
 use Rattle.command.specs.declared.Side.the-variants.{Left, Right}
-use Rattle.writer.specs.Writing.{bodyOf, labelBody, rowBody, frameOf, isLabel, isRow, writtenOf, roomAfter}
+use Rattle.fitting.specs.Fitting.{isLabel, isRow}
+use Rattle.writer.specs.Writing.{bodyOf, labelBody, rowBody, frameOf, writtenOf, roomAfter}
 
 -- the number handed back, the count, and then all that stands in the room
 abbrev seen : Bool → List ℕ → List ℕ → List ℕ

@@ -12,7 +12,8 @@ use Rattle.lists.specs.Both.{both}
 use Rattle.lists.specs.Every.{every}
 use Rattle.record.specs.Range.{isCode}
 use Rattle.record.specs.declared.Answer.the-variants.{Done, CommandOutOfRange, NoRoom}
-use Rattle.writer.specs.Writing.{isLabel, isRow, reply, writtenOf, roomAfter}
+use Rattle.fitting.specs.Fitting.{isLabel, isRow}
+use Rattle.writer.specs.Writing.{reply, writtenOf, roomAfter}
 
 pub label-told : (codes : List ℕ) → isLabel codes ≡ true → (length codes ≤ 7) × (every isCode codes ≡ true)
 unfolding isLabel

@@ -1,18 +1,14 @@
 -- How the writers' code makes a frame: a plan of few shapes, and a line that grows. Assumes nothing.
 use Prim.Native.Nat.{ℕ, _+_, _≤_}
 use Prim.Native.Char.{code}
-use mathlib.Core.Bool.{Bool}
 use mathlib.Core.List.{List, [], _∷_, _++_}
 use mathlib.Core.Path.{_≡_}
 use lib.ListN.{length, take}
 use Rattle.lists.specs.Codes.{ascii}
-use Rattle.record.specs.Range.{isCode, isLowColumn}
 use Rattle.numeral.specs.Numeral.{decimal}
 use Rattle.writer.specs.declared.Line.{Line}
 use Rattle.writer.specs.declared.Plan.{Plan}
 use Rattle.writer.specs.declared.Plan.the-variants.{TwoSigns, ThreeSigns, Number, TwoTimes, Place}
-use Rattle.writer.specs.declared.Kind.{Kind}
-use Rattle.writer.specs.declared.Kind.the-variants.{LabelCode, LowColumn}
 
 -- the codes that a line holds
 abbrev pub held : Line → List ℕ
@@ -31,8 +27,3 @@ planBody (ThreeSigns a b c) = a ∷ b ∷ c ∷ []
 planBody (Number letter n) = code "I" ∷ letter ∷ decimal n
 planBody (TwoTimes time1 time2) = ascii "IT" ++ (decimal time1 ++ (ascii ";" ++ decimal time2))
 planBody (Place row column) = ascii "[" ++ (decimal row ++ (ascii ";" ++ (decimal column ++ ascii "H")))
-
--- the test that a code or a column has to pass
-abbrev pub testOf : Kind → ℕ → Bool
-testOf LabelCode b = isCode b
-testOf LowColumn b = isLowColumn b

@@ -1,19 +1,16 @@
 -- What the three writers write and hand back: document 01, "The good frames" and "Numbers handed back". Numbers stand without leading
 -- zeros, and the frame ends with CR LF. Assumes nothing.
 use Prim.Native.Nat.{ℕ}
-use mathlib.Core.Bool.{Bool, not, cond, _&&_, _||_}
+use mathlib.Core.Bool.{Bool, cond}
 use mathlib.Core.List.{List, [], _∷_, _++_}
-use lib.Dec.{leb, eqb}
+use lib.Dec.{leb}
 use lib.ListN.{length, drop}
 use Rattle.lists.specs.Codes.{ascii, escape, carriageReturn, lineFeed}
-use Rattle.lists.specs.Every.{every}
-use Rattle.record.specs.Range.{isCode, isLowColumn}
 use Rattle.record.specs.declared.Answer.{Answer}
 use Rattle.record.specs.declared.Answer.the-variants.{Done, CommandOutOfRange, NoRoom}
 use Rattle.numeral.specs.Spelt.{digitCode}
 use Rattle.numeral.specs.Numeral.{decimal}
 use Rattle.picture.specs.Writing.{encode}
-use Rattle.command.specs.InRange.{isPictureRow}
 use Rattle.command.specs.declared.Command.{Command}
 use Rattle.command.specs.declared.Command.the-variants.{DisplayOff, DisplayOn, Mode, CursorShown, CursorHidden, Clear, Position, LabelsEmpty, IconS, IconU, IconF, IconR, IconP, IconW, Private, Handsfree, HandsfreeOfNote, Mute, KeyTimes, Buzzer, Light, LightOn, LightAutoStart, LightAuto, DefaultDuration, KeypadSet, KeypadCleared}
 use Rattle.command.specs.declared.Side.{Side}
@@ -62,17 +59,8 @@ rowBody row columns = ascii "Gr" ++ (digitCode row ∷ (ascii "," ++ (encode col
 unfoldable pub frameOf : List ℕ → List ℕ
 frameOf body = escape ∷ (body ++ carriageReturn ∷ lineFeed ∷ [])
 
--- What is in range; a command is judged by commandInRange mostRows ------------------------------------------------
-
--- at most 7 codes, none below 0x20
-unfoldable pub isLabel : List ℕ → Bool
-isLabel codes = leb (length codes) 7 && every isCode codes
-
--- 1 to 96 columns, a row 0 to 6, and in row 6 no column above 31
-unfoldable pub isRow : ℕ → List ℕ → Bool
-isRow row columns = leb 1 (length columns) && leb (length columns) 96 && isPictureRow row && (not (eqb row 6) || every isLowColumn columns)
-
 -- What is handed back, and what then stands in the room: first 2, then 3; nothing is written then ------------------
+-- what is in range: a command by commandInRange mostRows, a label by isLabel, a picture row by isRow
 
 abbrev pub reply : Answer → ℕ → Written
 reply answer count = record { answer = answer; count = count }

@@ -7,17 +7,19 @@ ghost use mathlib.Core.List.{[], _∷_, _++_};
 ghost use Prim.Native.Nat.{_+_, _≤_};
 ghost use lib.ListN.{length, drop};
 ghost use Rattle.lists.specs.Codes.{escape, carriageReturn, lineFeed};
-ghost use Rattle.lists.specs.Every.{every};
 ghost use Rattle.numeral.specs.Numeral.{decimal};
 ghost use Rattle.picture.specs.Writing.{encode};
 ghost use Rattle.command.specs.InRange.{commandInRange, mostRows};
-ghost use Rattle.writer.specs.Writing.{bodyOf, labelBody, rowBody, frameOf, isLabel, isRow, writtenOf, roomAfter};
-ghost use Rattle.writer.specs.Lines.{held, Added, planBody, testOf};
+ghost use Rattle.fitting.specs.Fitting.{isLabel, isRow};
+ghost use Rattle.writer.specs.Writing.{bodyOf, labelBody, rowBody, frameOf, writtenOf, roomAfter};
+ghost use Rattle.writer.specs.Lines.{held, Added, planBody};
 use command::Command;
 use command::Side;
-use command::in_range;
+use encoding::write_data;
+use fitting::label_in_range;
+use fitting::row_in_range;
+use limits::in_range;
 use numeral::digits_of;
-use picture::write_data;
 use record::Answer;
 
 const ESCAPE: u8 = 0x1B;
@@ -28,17 +30,6 @@ const LINE_FEED: u8 = 0x0A;
 
 // A writer knows no text mode: it takes the cursor rows of the mode that has most.
 const MOST_ROWS: u8 = 5;
-
-const LOWEST_CODE: u8 = 0x20;
-
-const LONGEST_LABEL: usize = 7;
-
-const MOST_COLUMNS: usize = 96;
-
-const LAST_ROW: u8 = 6;
-
-// The last picture row has five dots in a column, so its columns stay below this.
-const LOW_COLUMN_END: u8 = 32;
 
 // How a writer ended, and how many bytes of the room it wrote.
 pub struct Written {
@@ -59,12 +50,6 @@ enum Plan {
     Number(u8, u16),
     TwoTimes(u16, u16),
     Place(u16, u16),
-}
-
-// What a lent slice is made of.
-enum Kind {
-    LabelCode,
-    LowColumn,
 }
 
 // A line that holds ESC.
@@ -229,56 +214,6 @@ fn deliver(line: Line, room: &mut [u8]) -> Written
         answer: Answer::Done,
         count: n,
     }
-}
-
-fn passes(kind: Kind, b: u8) -> bool
-    ensures { λ r. ⌜ r ≡ testOf kind b ⌝ }
-{
-    match kind {
-        Kind::LabelCode => LOWEST_CODE <= b,
-        Kind::LowColumn => b < LOW_COLUMN_END,
-    }
-}
-
-fn all_pass(s: &[u8], kind: Kind) -> bool
-    ensures { λ r. ⌜ r ≡ every (testOf kind) (now (s .entry)) ⌝ }
-{
-    let mut ok = true;
-    let mut i = 0;
-    while i < s.len() {
-        ok = ok & passes(kind, s[i]);
-        i += 1;
-    }
-    ok
-}
-
-fn label_in_range(codes: &[u8]) -> bool
-    ensures { λ r. ⌜ r ≡ isLabel (now (codes .entry)) ⌝ }
-{
-    if LONGEST_LABEL < codes.len() {
-        return false;
-    }
-    all_pass(codes, Kind::LabelCode)
-}
-
-// The columns are looked at only in row 6, and only if they are at most 96.
-fn row_in_range(row: u8, columns: &[u8]) -> bool
-    ensures { λ r. ⌜ r ≡ isRow row (now (columns .entry)) ⌝ }
-{
-    let n = columns.len();
-    if n < 1 {
-        return false;
-    }
-    if MOST_COLUMNS < n {
-        return false;
-    }
-    if LAST_ROW < row {
-        return false;
-    }
-    if row < LAST_ROW {
-        return true;
-    }
-    all_pass(columns, Kind::LowColumn)
 }
 
 // The frame of a command.

@@ -3,7 +3,7 @@ use Prim.Native.Nat.{_-_}
 use native.Mathlib.Omega.{arith}
 use lib.ListN.{length}
 use Rattle.turns.specs.Loop.{Going, go-start}
-use Rattle.keys.specs.Rules.{withKeys, step}
+use Rattle.keying.specs.Rules.{withKeys, step}
 use Rattle.keys.specs.Log.{entries}
 use Rattle.keys.specs.Turns.{turns-end, turn-quiet, turn-sends, turns-stop, takes}
 use borrow.Author.Needs.{needs}
