@@ -67,34 +67,27 @@
 // same as the note spells it, 17 mute A, 18 key times A and B, 19 buzzer A, 20 backlight IEn with A, then without numbers 21 IEE,
 // 22 IEA, 23 IES, 24 IER, 25 IEe, 26 IEr.
 ghost use mathlib.Core.Path.{_≡_};
-ghost use Prim.Native.Nat.{_<_, _≤_};
+ghost use Prim.Native.Nat.{_*_, _≤_};
 ghost use lib.ListN.{length};
 ghost use Rattle.light.specs.Seconds.{lightPassed};
 use command::Command;
 use command::Side;
 use fields::Field;
 use libc::STDIN_FILENO;
-use libc::STDOUT_FILENO;
 use light::LightPassed;
-use record::Answer;
+use lines::say;
+use lines::say_answer;
+use lines::say_cells;
+use lines::say_counts;
+use lines::say_light;
+use lines::say_line;
+use lines::say_number;
+use lines::say_record;
+use lines::say_row;
+use lines::say_sms;
+use lines::say_volume_seen;
 use record::Backlight;
-use record::Frame;
-use record::Held;
-use record::Icons;
-use record::Label;
-use record::Panel;
 use record::Record;
-use record::Screen;
-use record::Times;
-use record::Volume;
-use seen::Bar;
-use seen::Labels;
-use seen::Owner;
-use seen::Row;
-use seen::SmsPanel;
-use seen::SmsSeen;
-use seen::VolumePanel;
-use seen::VolumeSeen;
 use writer::Written;
 
 const BLANK: u8 = b' ';
@@ -125,185 +118,13 @@ const MOST_BYTES: usize = 4096;
 
 const MOST_ENTRIES: usize = 1024;
 
+// Bytes of the most ticks.
+const MOST_TICK_BYTES: usize = 2048;
+
 // Columns and codes that a writer is lent.
 const MOST_LENT: usize = 300;
 
 const LAST_COMMAND: u32 = 26;
-
-// Printing. Answers are gathered in `out` and written when it is full; `at` is how much of it is taken, and each function
-// answers how much is then.
-
-fn put_byte(out: &mut [u8], at: usize, b: u8) -> usize {
-    if at < out.len() {
-        out[at] = b;
-        return at + 1;
-    }
-    io::write_all(STDOUT_FILENO, out);
-    if 0 < out.len() {
-        out[0] = b;
-        return 1;
-    }
-    0
-}
-
-fn put(out: &mut [u8], at: usize, words: &[u8]) -> usize {
-    let mut end = at;
-    for i in 0..words.len() {
-        end = put_byte(out, end, words[i]);
-    }
-    end
-}
-
-fn write_out(out: &[u8], at: usize) {
-    if at <= out.len() {
-        io::write_all(STDOUT_FILENO, &out[..at]);
-    }
-}
-
-// A blank and a number.
-fn put_number(out: &mut [u8], at: usize, n: u64) -> usize {
-    let blank = put_byte(out, at, BLANK);
-    let mut digits = [0u8; 20];
-    let k = io::decimal(n, &mut digits);
-    put(out, blank, &digits[..k])
-}
-
-fn put_small(out: &mut [u8], at: usize, n: u8) -> usize {
-    put_number(out, at, n as u64)
-}
-
-fn flag(set: bool) -> u8 {
-    if set {
-        return 1;
-    }
-    0
-}
-
-// Numbers with a blank before each.
-fn put_numbers(out: &mut [u8], at: usize, numbers: &[u8]) -> usize {
-    let mut end = at;
-    for i in 0..numbers.len() {
-        end = put_small(out, end, numbers[i]);
-    }
-    end
-}
-
-// A line of a word and numbers.
-fn put_line(out: &mut [u8], at: usize, word: &[u8], numbers: &[u8]) -> usize {
-    let mut end = put(out, at, word);
-    end = put_numbers(out, end, numbers);
-    put(out, end, b"\n")
-}
-
-fn hex_digit(n: u8) -> u8 {
-    match n {
-        0..=9 => b'0' + n,
-        10..=15 => b'A' + (n - 10),
-        _ => b'?',
-    }
-}
-
-// A blank and bytes in hexadecimal digits; none is a single sign.
-fn put_hex(out: &mut [u8], at: usize, bytes: &[u8]) -> usize {
-    let mut end = put_byte(out, at, BLANK);
-    if bytes.len() == 0 {
-        return put_byte(out, end, b'-');
-    }
-    for i in 0..bytes.len() {
-        let b = bytes[i];
-        end = put_byte(out, end, hex_digit(b / 16));
-        end = put_byte(out, end, hex_digit(b % 16));
-    }
-    end
-}
-
-fn put_what(out: &mut [u8], at: usize) -> usize {
-    put(out, at, b"what\n")
-}
-
-fn put_screen(out: &mut [u8], at: usize, s: Screen, cursor: bool) -> usize {
-    let display = flag(s.display);
-    let shown = flag(cursor);
-    let numbers = [display, s.mode, s.overlay, shown, s.row, s.column];
-    put_line(out, at, b"screen", &numbers)
-}
-
-fn put_label(out: &mut [u8], at: usize, l: Label) -> usize {
-    let end = put_small(out, at, l.len);
-    put_hex(out, end, &l.codes)
-}
-
-fn put_labels(out: &mut [u8], at: usize, left: Label, right: Label) -> usize {
-    let mut end = put(out, at, b"labels");
-    end = put_label(out, end, left);
-    end = put_label(out, end, right);
-    put(out, end, b"\n")
-}
-
-fn put_icons(out: &mut [u8], at: usize, i: Icons) -> usize {
-    let numbers = [i.s, i.u, i.f, i.r, i.p, i.w];
-    put_line(out, at, b"icons", &numbers)
-}
-
-fn put_volume(out: &mut [u8], at: usize, v: Volume) -> usize {
-    let mute = flag(v.mute);
-    let hidden = flag(v.hidden);
-    let numbers = [v.which, v.level, mute, hidden];
-    put_line(out, at, b"volume", &numbers)
-}
-
-fn put_times(out: &mut [u8], at: usize, t: Times) -> usize {
-    let numbers = [t.time1.0, t.time2.0];
-    put_line(out, at, b"times", &numbers)
-}
-
-fn put_light(out: &mut [u8], at: usize, word: &[u8], b: Backlight) -> usize {
-    let keypad = flag(b.keypad);
-    let numbers = [b.mode, b.duration.0, b.left.0, keypad];
-    put_line(out, at, word, &numbers)
-}
-
-fn put_held(out: &mut [u8], at: usize, h: Held) -> usize {
-    let down = flag(h.down);
-    let stage = flag(h.long);
-    let mut end = put(out, at, b"held");
-    end = put_numbers(out, end, &[down, h.key]);
-    end = put_number(out, end, h.tick.0 as u64);
-    put_line(out, end, b"", &[stage])
-}
-
-fn put_frame(out: &mut [u8], at: usize, f: Frame) -> usize {
-    let mut end = put(out, at, b"frame");
-    end = put_small(out, end, f.state);
-    end = put_small(out, end, f.len);
-    end = put_hex(out, end, &f.bytes);
-    put(out, end, b"\n")
-}
-
-fn put_panel(out: &mut [u8], at: usize, p: Panel) -> usize {
-    let mut end = put_screen(out, at, p.screen, p.shown);
-    end = put_labels(out, end, p.left, p.right);
-    end = put_icons(out, end, p.icons);
-    end = put_volume(out, end, p.volume);
-    end = put_times(out, end, p.times);
-    end = put_line(out, end, b"buzzer", &[p.buzzer.0]);
-    put_light(out, end, b"backlight", p.backlight)
-}
-
-// A line of cells.
-fn put_cells(out: &mut [u8], at: usize, words: &[u8], cells: &[u8]) -> usize {
-    let mut end = put(out, at, words);
-    end = put_hex(out, end, cells);
-    put(out, end, b"\n")
-}
-
-fn put_record(out: &mut [u8], at: usize, r: Record) -> usize {
-    let mut end = put_panel(out, at, r.panel);
-    end = put_held(out, end, r.held);
-    end = put_frame(out, end, r.frame);
-    end = put_cells(out, end, b"text", &r.text);
-    put_cells(out, end, b"picture", &r.picture)
-}
 
 // Reading a line's words.
 
@@ -382,12 +203,13 @@ fn number_at(words: &[u8], at: usize) -> Word
     }
 }
 
-fn hex_value(digit: u8) -> u16 {
+// The value of a hexadecimal digit of either case; 16 of any other code.
+fn hex_value(digit: u8) -> u8 {
     match digit {
-        b'0'..=b'9' => (digit - b'0') as u16,
-        b'A'..=b'F' => (digit - b'A') as u16 + 10,
-        b'a'..=b'f' => (digit - b'a') as u16 + 10,
-        _ => NO_PAIR,
+        b'0'..=b'9' => digit - b'0',
+        b'A'..=b'F' => digit - b'A' + 10,
+        b'a'..=b'f' => digit - b'a' + 10,
+        _ => 16,
     }
 }
 
@@ -400,66 +222,79 @@ fn hex_pair(high: u8, low: u8) -> u16 {
     if 15 < l {
         return NO_PAIR;
     }
-    h * 16 + l
+    (h * 16 + l) as u16
 }
 
-// The bytes of a word into `to`: how many they are, at most as many as it has places.
-fn hex_bytes(word: &[u8], to: &mut [u8]) -> usize {
-    if word.len() == 0 {
-        return NO_BYTES;
+// Whether the word is the sign for no bytes.
+fn is_none(word: &[u8]) -> bool {
+    if word.len() == 1 {
+        return word[0] == b'-';
     }
-    if (word.len() == 1) & (word[0] == b'-') {
-        return 0;
-    }
-    let mut i = 0;
-    let mut n = 0;
-    while i < word.len() {
-        if word.len() - i < 2 {
-            return NO_BYTES;
-        }
-        let pair = hex_pair(word[i], word[i + 1]);
+    false
+}
+
+// The bytes of so many pairs into `to`, if they are good.
+fn pairs_into(word: &[u8], n: usize, to: &mut [u8]) -> usize
+    requires { ⌜ 2 * n ≤ length (now word) ⌝ }
+    requires { ⌜ n ≤ length (now to) ⌝ }
+{
+    for i in 0..n {
+        let pair = hex_pair(word[2 * i], word[2 * i + 1]);
         if LARGEST_PAIR < pair {
             return NO_BYTES;
         }
-        if to.len() <= n {
-            return NO_BYTES;
-        }
-        to[n] = pair as u8;
-        n += 1;
-        i += 2;
+        to[i] = pair as u8;
     }
     n
 }
 
-// The same of tick readings, four digits each.
-fn hex_ticks(word: &[u8], to: &mut [u16]) -> usize {
-    if word.len() == 0 {
-        return NO_BYTES;
-    }
-    if (word.len() == 1) & (word[0] == b'-') {
+// The bytes of a word into `to`: how many they are, at most as many as it has places.
+fn hex_bytes(word: &[u8], to: &mut [u8]) -> usize {
+    if is_none(word) {
         return 0;
     }
-    let mut i = 0;
-    let mut n = 0;
-    while i < word.len() {
-        if word.len() - i < 4 {
-            return NO_BYTES;
-        }
-        let high = hex_pair(word[i], word[i + 1]);
-        let low = hex_pair(word[i + 2], word[i + 3]);
-        if LARGEST_PAIR < high {
-            return NO_BYTES;
-        }
-        if LARGEST_PAIR < low {
-            return NO_BYTES;
-        }
-        if to.len() <= n {
-            return NO_BYTES;
-        }
-        to[n] = high * 256 + low;
-        n += 1;
-        i += 4;
+    let n = word.len() / 2;
+    if n == 0 {
+        return NO_BYTES;
     }
+    if word.len() % 2 != 0 {
+        return NO_BYTES;
+    }
+    if to.len() < n {
+        return NO_BYTES;
+    }
+    pairs_into(word, n, to)
+}
+
+fn tick_of(high: u8, low: u8) -> u16 {
+    high as u16 * 256 + low as u16
+}
+
+// The ticks of so many bytes into `to`.
+fn ticks_into(bytes: &[u8], n: usize, to: &mut [u16])
+    requires { ⌜ 2 * n ≤ length (now bytes) ⌝ }
+    requires { ⌜ n ≤ length (now to) ⌝ }
+{
+    for i in 0..n {
+        to[i] = tick_of(bytes[2 * i], bytes[2 * i + 1]);
+    }
+}
+
+// The same of tick readings, four digits each.
+fn hex_ticks(word: &[u8], to: &mut [u16]) -> usize {
+    let mut bytes = [0u8; MOST_TICK_BYTES];
+    let count = hex_bytes(word, &mut bytes);
+    if MOST_TICK_BYTES < count {
+        return NO_BYTES;
+    }
+    if count % 2 != 0 {
+        return NO_BYTES;
+    }
+    let n = count / 2;
+    if to.len() < n {
+        return NO_BYTES;
+    }
+    ticks_into(&bytes, n, to);
     n
 }
 
@@ -476,37 +311,38 @@ fn lent() -> [u8; 300]
     buffer
 }
 
-// Calls. A call answers the record and how much of `out` is then taken.
+// Calls. A call prints its answer; one that may change the record answers the record.
 
-struct Told {
-    record: Record,
-    at: usize,
+fn say_what() {
+    say(b"what\n");
 }
 
-fn kept(r: Record, at: usize) -> Told {
-    Told { record: r, at: at }
+fn what(r: Record) -> Record {
+    say_what();
+    r
 }
 
-// The record's lines follow, and it is kept.
-fn shown(r: Record, out: &mut [u8], at: usize) -> Told {
-    let end = put_record(out, at, r);
-    kept(r, end)
+// The record's lines follow.
+fn shown(r: Record) -> Record {
+    say_record(r);
+    r
 }
 
-fn what(r: Record, out: &mut [u8], at: usize) -> Told {
-    let end = put_what(out, at);
-    kept(r, end)
+fn flag(set: bool) -> u8 {
+    if set {
+        return 1;
+    }
+    0
 }
 
-fn power_on_call(out: &mut [u8], at: usize) -> Told {
-    let end = put(out, at, b"P\n");
-    shown(Record::power_on(), out, end)
+fn power_on_call() -> Record {
+    say(b"P\n");
+    shown(Record::power_on())
 }
 
-fn in_range_call(r: Record, out: &mut [u8], at: usize) -> Told {
+fn in_range_call(r: Record) {
     let good = flag(ranges::in_range(r));
-    let end = put_line(out, at, b"R", &[good]);
-    kept(r, end)
+    say_line(b"R", &[good]);
 }
 
 // How many places a field has; none if there is no such field.
@@ -563,129 +399,154 @@ fn field_of(field: u32) -> Field {
     }
 }
 
-fn set_call(r: Record, words: &[u8], out: &mut [u8], at: usize) -> Told {
+// What a line of S asks for, if it is good.
+struct Setting {
+    good: bool,
+    field: u32,
+    place: usize,
+    value: u16,
+}
+
+fn bad_setting() -> Setting {
+    Setting {
+        good: false,
+        field: 0,
+        place: 0,
+        value: 0,
+    }
+}
+
+fn checked(f: u32, p: u32, v: u32) -> Setting {
+    if places_of(f) <= p {
+        return bad_setting();
+    }
+    if LARGEST < v {
+        return bad_setting();
+    }
+    Setting {
+        good: true,
+        field: f,
+        place: p as usize,
+        value: v as u16,
+    }
+}
+
+fn setting_of(words: &[u8]) -> Setting {
     let field = number_at(words, 0);
     let place = number_at(words, field.next);
     let value = number_at(words, place.next);
-    let f = field.value;
-    let p = place.value;
-    let v = value.value;
     if value.more {
-        return what(r, out, at);
+        return bad_setting();
     }
-    if places_of(f) <= p {
-        return what(r, out, at);
-    }
-    if LARGEST < v {
-        return what(r, out, at);
-    }
-    let s = fields::with_field(r, field_of(f), p as usize, v as u16);
-    let end = put(out, at, b"S\n");
-    shown(s, out, end)
+    checked(field.value, place.value, value.value)
 }
 
-fn put_answer(out: &mut [u8], at: usize, answer: Answer) -> usize {
-    put_small(out, at, record::number(answer))
+fn set_call(r: Record, words: &[u8]) -> Record {
+    let s = setting_of(words);
+    if !s.good {
+        return what(r);
+    }
+    say(b"S\n");
+    shown(fields::with_field(r, field_of(s.field), s.place, s.value))
 }
 
-// A call's letter, its number, two counts and the buffer.
-fn put_counts(
-    out: &mut [u8],
-    at: usize,
-    letter: &[u8],
-    answer: Answer,
-    used: usize,
-    written: usize,
-    buffer: &[u8],
-) -> usize {
-    let mut end = put(out, at, letter);
-    end = put_answer(out, end, answer);
-    end = put_number(out, end, used as u64);
-    end = put_number(out, end, written as u64);
-    end = put_hex(out, end, buffer);
-    put(out, end, b"\n")
-}
-
-fn feed_into(r: Record, bytes: &[u8], buffer: &mut [u8], out: &mut [u8], at: usize) -> Told {
+fn feed_into(r: Record, bytes: &[u8], buffer: &mut [u8]) -> Record {
     let fed = reader::feed(r, bytes, buffer);
-    let after = fed.record;
     let answer = fed.answer;
-    let used = fed.used;
-    let written = fed.written;
-    let end = put_counts(out, at, b"F", answer, used, written, buffer);
-    shown(after, out, end)
+    say_counts(b"F", answer, fed.used, fed.written, buffer);
+    shown(fed.record)
 }
 
-fn stream_call(r: Record, words: &[u8], out: &mut [u8], at: usize) -> Told {
+fn feed_lent(r: Record, room: usize, bytes: &[u8]) -> Record
+    requires { ⌜ room ≤ 300 ⌝ }
+{
+    let mut buffer = lent();
+    feed_into(r, bytes, &mut buffer[..room])
+}
+
+fn stream_of(r: Record, room: usize, word: &[u8]) -> Record
+    requires { ⌜ room ≤ 300 ⌝ }
+{
+    let mut bytes = io::buffer();
+    let n = hex_bytes(word, &mut bytes);
+    if MOST_BYTES < n {
+        return what(r);
+    }
+    feed_lent(r, room, &bytes[..n])
+}
+
+fn stream_call(r: Record, words: &[u8]) -> Record {
     let room = number_at(words, 0);
     let start = room.next;
     let most = room.value;
-    let mut bytes = io::buffer();
-    let n = hex_bytes(&words[start..], &mut bytes);
-    if MOST_BYTES < n {
-        return what(r, out, at);
-    }
     if MOST_ROOM < most {
-        return what(r, out, at);
+        return what(r);
     }
-    let places = most as usize;
-    let mut buffer = lent();
-    feed_into(r, &bytes[..n], &mut buffer[..places], out, at)
+    stream_of(r, most as usize, &words[start..])
 }
 
-fn log_into(
-    r: Record,
-    ticks: &[u16],
-    edges: &[u8],
-    buffer: &mut [u8],
-    out: &mut [u8],
-    at: usize,
-) -> Told {
+fn log_into(r: Record, ticks: &[u16], edges: &[u8], buffer: &mut [u8]) -> Record {
     let logged = keys::take_log(r, ticks, edges, buffer);
-    let after = logged.record;
     let answer = logged.answer;
-    let used = logged.used;
-    let written = logged.written;
-    let end = put_counts(out, at, b"K", answer, used, written, buffer);
-    shown(after, out, end)
+    say_counts(b"K", answer, logged.used, logged.written, buffer);
+    shown(logged.record)
 }
 
-fn log_of(r: Record, room: u32, ticks: &[u16], word: &[u8], out: &mut [u8], at: usize) -> Told {
+fn log_lent(r: Record, room: usize, ticks: &[u16], edges: &[u8]) -> Record
+    requires { ⌜ room ≤ 300 ⌝ }
+{
+    let mut buffer = lent();
+    log_into(r, ticks, edges, &mut buffer[..room])
+}
+
+fn log_edges(r: Record, room: usize, ticks: &[u16], word: &[u8]) -> Record
+    requires { ⌜ room ≤ 300 ⌝ }
+{
     let mut edges = [0u8; MOST_ENTRIES];
     let n = hex_bytes(word, &mut edges);
     if MOST_ENTRIES < n {
-        return what(r, out, at);
+        return what(r);
     }
-    if MOST_ROOM < room {
-        return what(r, out, at);
-    }
-    let places = room as usize;
-    let mut buffer = lent();
-    log_into(r, ticks, &edges[..n], &mut buffer[..places], out, at)
+    log_lent(r, room, ticks, &edges[..n])
 }
 
-fn log_call(r: Record, words: &[u8], out: &mut [u8], at: usize) -> Told {
+fn log_ticks(r: Record, room: usize, first: &[u8], second: &[u8]) -> Record
+    requires { ⌜ room ≤ 300 ⌝ }
+{
+    let mut ticks = [0u16; MOST_ENTRIES];
+    let n = hex_ticks(first, &mut ticks);
+    if MOST_ENTRIES < n {
+        return what(r);
+    }
+    log_edges(r, room, &ticks[..n], second)
+}
+
+fn log_of(r: Record, room: usize, words: &[u8]) -> Record
+    requires { ⌜ room ≤ 300 ⌝ }
+{
+    let end = next_sign(words, 0, BLANK);
+    if words.len() <= end {
+        return what(r);
+    }
+    log_ticks(r, room, &words[..end], &words[end + 1..])
+}
+
+fn log_call(r: Record, words: &[u8]) -> Record {
     let room = number_at(words, 0);
     let start = room.next;
-    let end = next_sign(words, start, BLANK);
-    let mut ticks = [0u16; MOST_ENTRIES];
-    let n = hex_ticks(&words[start..end], &mut ticks);
-    if MOST_ENTRIES < n {
-        return what(r, out, at);
+    let most = room.value;
+    if MOST_ROOM < most {
+        return what(r);
     }
-    if words.len() <= end {
-        return what(r, out, at);
-    }
-    log_of(r, room.value, &ticks[..n], &words[end + 1..], out, at)
+    log_of(r, most as usize, &words[start..])
 }
 
-fn second_call(r: Record, out: &mut [u8], at: usize) -> Told {
+fn second_call(r: Record) -> Record {
     let passed = light::second(r);
-    let after = passed.after;
     let answer = passed.answer;
-    let n = record::number(answer);
-    let end = put_line(out, at, b"C", &[n]);
-    shown(after, out, end)
+    say_answer(b"C", answer);
+    say(b"\n");
+    shown(passed.after)
 }
 
 // The entry in place, on a copy.
@@ -700,136 +561,33 @@ fn second_of(b: Backlight) -> LightPassed
     }
 }
 
-fn put_light_passed(out: &mut [u8], at: usize, passed: LightPassed) -> usize {
+fn light_call(b: Backlight) {
+    let passed = second_of(b);
     let answer = passed.answer;
-    let n = record::number(answer);
-    let mut end = put(out, at, b"B");
-    end = put_small(out, end, n);
-    put_light(out, end, b"", passed.backlight)
+    say_answer(b"B", answer);
+    say_light(b"", passed.backlight);
 }
 
-fn light_call(r: Record, out: &mut [u8], at: usize) -> Told {
-    let end = put_light_passed(out, at, second_of(r.panel.backlight));
-    kept(r, end)
-}
-
-fn sms_number(panel: SmsPanel) -> u8 {
-    match panel {
-        SmsPanel::Nothing => 0,
-        SmsPanel::Read => 1,
-        SmsPanel::Unread => 2,
-    }
-}
-
-fn volume_number(panel: VolumePanel) -> u8 {
-    match panel {
-        VolumePanel::Nothing => 0,
-        VolumePanel::Mute => 1,
-        VolumePanel::Private(_) => 2,
-        VolumePanel::Handsfree(_) => 3,
-    }
-}
-
-fn volume_level(panel: VolumePanel) -> u8 {
-    match panel {
-        VolumePanel::Nothing => 0,
-        VolumePanel::Mute => 0,
-        VolumePanel::Private(level) => level,
-        VolumePanel::Handsfree(level) => level,
-    }
-}
-
-fn put_sms(out: &mut [u8], at: usize, seen: SmsSeen) -> usize {
-    let answer = seen.answer;
-    let panel = seen.panel;
-    let n = record::number(answer);
-    let sms = sms_number(panel);
-    put_line(out, at, b"M", &[n, sms])
-}
-
-fn sms_call(r: Record, out: &mut [u8], at: usize) -> Told {
-    let end = put_sms(out, at, seen::sms_seen(r));
-    kept(r, end)
-}
-
-fn put_volume_seen(out: &mut [u8], at: usize, seen: VolumeSeen) -> usize {
-    let answer = seen.answer;
-    let panel = seen.panel;
-    let n = record::number(answer);
-    let volume = volume_number(panel);
-    let level = volume_level(panel);
-    put_line(out, at, b"V", &[n, volume, level])
-}
-
-fn volume_call(r: Record, out: &mut [u8], at: usize) -> Told {
-    let end = put_volume_seen(out, at, seen::volume_seen(r));
-    kept(r, end)
-}
-
-fn put_bar(out: &mut [u8], at: usize, bar: Bar) -> usize {
-    let sms_panel = bar.sms;
-    let volume_panel = bar.volume;
-    let sms = sms_number(sms_panel);
-    let volume = volume_number(volume_panel);
-    let level = volume_level(volume_panel);
-    let numbers = [1, bar.f, bar.p, bar.r, sms, volume, level];
-    put_numbers(out, at, &numbers)
-}
-
-fn put_soft_keys(out: &mut [u8], at: usize, labels: Labels) -> usize {
-    let mut end = put(out, at, b" 4");
-    end = put_label(out, end, labels.left);
-    end = put_label(out, end, labels.right);
-    put_small(out, end, labels.w)
-}
-
-fn put_row_of(out: &mut [u8], at: usize, owner: &[u8], row: u8, cells: &[u8]) -> usize {
-    let mut end = put(out, at, owner);
-    end = put_small(out, end, row);
-    put_hex(out, end, cells)
-}
-
-fn put_owner(out: &mut [u8], at: usize, row: Row) -> usize {
-    let owner = row.owner;
-    match owner {
-        Owner::Nothing => put(out, at, b" 0"),
-        Owner::IconBar => put_bar(out, at, row.bar),
-        Owner::TextRow(n) => put_row_of(out, at, b" 2", n, &row.codes),
-        Owner::PictureRow(n) => put_row_of(out, at, b" 3", n, &row.columns),
-        Owner::SoftKeys => put_soft_keys(out, at, row.labels),
-    }
-}
-
-fn put_row(out: &mut [u8], at: usize, row: Row) -> usize {
-    let answer = row.answer;
-    let mut end = put(out, at, b"Q");
-    end = put_answer(out, end, answer);
-    end = put_owner(out, end, row);
-    put(out, end, b"\n")
-}
-
-fn row_call(r: Record, words: &[u8], out: &mut [u8], at: usize) -> Told {
+fn row_call(r: Record, words: &[u8]) {
     let word = number_at(words, 0);
     let n = word.value;
     if word.more {
-        return what(r, out, at);
+        say_what();
+        return;
     }
     if LARGEST_BYTE < n {
-        return what(r, out, at);
+        say_what();
+        return;
     }
-    let end = put_row(out, at, seen::row_seen(r, n as u8));
-    kept(r, end)
+    say_row(seen::row_seen(r, n as u8));
 }
 
 // A writer's letter, its number, its count and the buffer.
-fn put_written(out: &mut [u8], at: usize, letter: &[u8], w: Written, buffer: &[u8]) -> usize {
+fn say_written(letter: &[u8], w: Written, buffer: &[u8]) {
     let answer = w.answer;
-    let count = w.count;
-    let mut end = put(out, at, letter);
-    end = put_answer(out, end, answer);
-    end = put_number(out, end, count as u64);
-    end = put_hex(out, end, buffer);
-    put(out, end, b"\n")
+    say_answer(letter, answer);
+    say_number(w.count as u64);
+    say_cells(b"", buffer);
 }
 
 fn command_of(n: u32, a: u16, b: u16) -> Command {
@@ -864,137 +622,182 @@ fn command_of(n: u32, a: u16, b: u16) -> Command {
     }
 }
 
-fn command_into(c: Command, buffer: &mut [u8], out: &mut [u8], at: usize) -> usize {
+fn command_into(c: Command, buffer: &mut [u8]) {
     let w = writer::write_command(c, buffer);
-    put_written(out, at, b"W", w, buffer)
+    say_written(b"W", w, buffer);
+}
+
+fn command_lent(c: Command, room: usize)
+    requires { ⌜ room ≤ 300 ⌝ }
+{
+    let mut buffer = lent();
+    command_into(c, &mut buffer[..room]);
 }
 
 // The command writer, by the numbers of its line.
-fn write_numbered(room: u32, n: u32, a: u32, b: u32, out: &mut [u8], at: usize) -> usize {
+fn write_numbered(room: u32, n: u32, a: u32, b: u32) {
     if MOST_ROOM < room {
-        return put_what(out, at);
+        say_what();
+        return;
     }
     if LAST_COMMAND < n {
-        return put_what(out, at);
+        say_what();
+        return;
     }
     if LARGEST < a {
-        return put_what(out, at);
+        say_what();
+        return;
     }
     if LARGEST < b {
-        return put_what(out, at);
+        say_what();
+        return;
     }
-    let c = command_of(n, a as u16, b as u16);
-    let places = room as usize;
-    let mut buffer = lent();
-    command_into(c, &mut buffer[..places], out, at)
+    command_lent(command_of(n, a as u16, b as u16), room as usize);
 }
 
-fn command_call(words: &[u8], out: &mut [u8], at: usize) -> usize {
+fn command_call(words: &[u8]) {
     let room = number_at(words, 0);
     let n = number_at(words, room.next);
     let a = number_at(words, n.next);
     let b = number_at(words, a.next);
     if b.more {
-        return put_what(out, at);
+        say_what();
+        return;
     }
-    write_numbered(room.value, n.value, a.value, b.value, out, at)
+    write_numbered(room.value, n.value, a.value, b.value);
 }
 
-fn label_into(side: u32, codes: &[u8], buffer: &mut [u8], out: &mut [u8], at: usize) -> usize {
-    match side {
-        0 => {
-            let w = writer::write_label(Side::Left, codes, buffer);
-            put_written(out, at, b"T", w, buffer)
-        }
-        1 => {
-            let w = writer::write_label(Side::Right, codes, buffer);
-            put_written(out, at, b"T", w, buffer)
-        }
-        _ => put_what(out, at),
+fn side_of(n: u32) -> Side {
+    if n == 0 {
+        return Side::Left;
     }
+    Side::Right
 }
 
-fn picture_into(row: u32, columns: &[u8], buffer: &mut [u8], out: &mut [u8], at: usize) -> usize {
+fn label_into(side: u32, codes: &[u8], buffer: &mut [u8]) {
+    if 1 < side {
+        say_what();
+        return;
+    }
+    let w = writer::write_label(side_of(side), codes, buffer);
+    say_written(b"T", w, buffer);
+}
+
+fn picture_into(row: u32, columns: &[u8], buffer: &mut [u8]) {
     if LARGEST_BYTE < row {
-        return put_what(out, at);
+        say_what();
+        return;
     }
     let w = writer::write_picture_row(row as u8, columns, buffer);
-    put_written(out, at, b"G", w, buffer)
+    say_written(b"G", w, buffer);
+}
+
+fn write_into(letter: u8, n: u32, bytes: &[u8], buffer: &mut [u8]) {
+    if letter == b'T' {
+        label_into(n, bytes, buffer);
+        return;
+    }
+    picture_into(n, bytes, buffer);
+}
+
+fn write_lent(letter: u8, room: usize, n: u32, bytes: &[u8])
+    requires { ⌜ room ≤ 300 ⌝ }
+{
+    let mut buffer = lent();
+    write_into(letter, n, bytes, &mut buffer[..room]);
+}
+
+fn write_of(letter: u8, room: usize, n: u32, word: &[u8])
+    requires { ⌜ room ≤ 300 ⌝ }
+{
+    let mut bytes = [0u8; MOST_LENT];
+    let count = hex_bytes(word, &mut bytes);
+    if MOST_LENT < count {
+        say_what();
+        return;
+    }
+    write_lent(letter, room, n, &bytes[..count]);
 }
 
 // The label writer and the picture row writer, whose lines have the same words.
-fn writer_call(letter: u8, words: &[u8], out: &mut [u8], at: usize) -> usize {
+fn writer_call(letter: u8, words: &[u8]) {
     let room = number_at(words, 0);
     let second = number_at(words, room.next);
     let start = second.next;
     let most = room.value;
-    let n = second.value;
-    let mut bytes = [0u8; MOST_LENT];
-    let count = hex_bytes(&words[start..], &mut bytes);
-    if MOST_LENT < count {
-        return put_what(out, at);
-    }
     if MOST_ROOM < most {
-        return put_what(out, at);
+        say_what();
+        return;
     }
-    let places = most as usize;
-    let mut buffer = lent();
-    if letter == b'T' {
-        return label_into(n, &bytes[..count], &mut buffer[..places], out, at);
+    write_of(letter, most as usize, second.value, &words[start..]);
+}
+
+// Calls that leave the record as it is.
+
+fn plain_question(r: Record, letter: u8) {
+    match letter {
+        b'R' => in_range_call(r),
+        b'B' => light_call(r.panel.backlight),
+        b'M' => say_sms(seen::sms_seen(r)),
+        b'V' => say_volume_seen(seen::volume_seen(r)),
+        _ => say_what(),
     }
-    picture_into(n, &bytes[..count], &mut buffer[..places], out, at)
+}
+
+fn worded_question(r: Record, letter: u8, words: &[u8]) {
+    match letter {
+        b'Q' => row_call(r, words),
+        b'W' => command_call(words),
+        b'T' => writer_call(letter, words),
+        b'G' => writer_call(letter, words),
+        _ => say_what(),
+    }
 }
 
 // A line of one sign.
-fn plain_call(r: Record, letter: u8, out: &mut [u8], at: usize) -> Told {
-    match letter {
-        b'P' => power_on_call(out, at),
-        b'R' => in_range_call(r, out, at),
-        b'C' => second_call(r, out, at),
-        b'B' => light_call(r, out, at),
-        b'M' => sms_call(r, out, at),
-        b'V' => volume_call(r, out, at),
-        _ => what(r, out, at),
+fn plain_call(r: Record, letter: u8) -> Record {
+    if letter == b'P' {
+        return power_on_call();
     }
+    if letter == b'C' {
+        return second_call(r);
+    }
+    plain_question(r, letter);
+    r
 }
 
 // A line of a letter, a blank and words.
-fn worded_call(r: Record, letter: u8, words: &[u8], out: &mut [u8], at: usize) -> Told {
+fn worded_call(r: Record, letter: u8, words: &[u8]) -> Record {
     match letter {
-        b'S' => set_call(r, words, out, at),
-        b'F' => stream_call(r, words, out, at),
-        b'K' => log_call(r, words, out, at),
-        b'Q' => row_call(r, words, out, at),
-        b'W' => kept(r, command_call(words, out, at)),
-        b'T' => kept(r, writer_call(letter, words, out, at)),
-        b'G' => kept(r, writer_call(letter, words, out, at)),
-        _ => what(r, out, at),
+        b'S' => return set_call(r, words),
+        b'F' => return stream_call(r, words),
+        b'K' => return log_call(r, words),
+        _ => worded_question(r, letter, words),
     }
+    r
 }
 
-fn call(r: Record, line: &[u8], out: &mut [u8], at: usize) -> Told {
+fn call(r: Record, line: &[u8]) -> Record {
     let n = line.len();
     if n == 0 {
-        return kept(r, at);
+        return r;
     }
     let letter = line[0];
     if n == 1 {
-        return plain_call(r, letter, out, at);
+        return plain_call(r, letter);
     }
     if line[1] == BLANK {
-        return worded_call(r, letter, &line[2..], out, at);
+        return worded_call(r, letter, &line[2..]);
     }
-    what(r, out, at)
+    what(r)
 }
 
 // Lines. Standard input comes in pieces; what has come of a line is held in `line`.
 
-// The record, how much of a line is held (TOO_LONG when it did not fit), how much of `out` is taken, and whether the input ended.
+// The record, and how much of a line is held (TOO_LONG when it did not fit).
 struct State {
     record: Record,
     held: usize,
-    at: usize,
-    ended: bool,
 }
 
 fn hold_byte(line: &mut [u8], held: usize, b: u8) -> usize {
@@ -1014,68 +817,59 @@ fn hold(line: &mut [u8], held: usize, part: &[u8]) -> usize {
 }
 
 // The line that is held has come to its end.
-fn finish(r: Record, held: usize, at: usize, line: &[u8], out: &mut [u8]) -> State {
+fn finish(r: Record, held: usize, line: &[u8]) -> Record {
     if held <= line.len() {
-        let next = call(r, &line[..held], out, at);
-        let after = next.record;
-        let end = next.at;
-        return State {
-            record: after,
-            held: 0,
-            at: end,
-            ended: false,
-        };
+        return call(r, &line[..held]);
     }
-    let end = put_what(out, at);
-    State {
-        record: r,
-        held: 0,
-        at: end,
-        ended: false,
-    }
+    what(r)
 }
 
-fn take_piece(state: State, piece: &[u8], line: &mut [u8], out: &mut [u8]) -> State {
-    let mut now = state;
+fn take_piece(state: State, piece: &[u8], line: &mut [u8]) -> State {
+    let mut r = state.record;
+    let mut held = state.held;
     let mut from = 0;
     while from < piece.len() {
         let end = next_sign(piece, from, LINE_FEED);
-        let held = hold(line, now.held, &piece[from..end]);
-        if piece.len() <= end {
-            return State { held: held, ..now };
+        held = hold(line, held, &piece[from..end]);
+        from = end;
+        if end < piece.len() {
+            from = end + 1;
+            r = finish(r, held, line);
+            held = 0;
         }
-        let next = end + 1;
-        now = finish(now.record, held, now.at, line, out);
-        from = next;
     }
-    now
+    State {
+        record: r,
+        held: held,
+    }
 }
 
-// One read of standard input.
-fn take_some(state: State, line: &mut [u8], out: &mut [u8]) -> State {
+// The state after one read of standard input, and whether the input ended.
+struct Turn {
+    state: State,
+    ended: bool,
+}
+
+fn take_some(state: State, line: &mut [u8]) -> Turn {
     let mut piece = io::buffer();
     let got = libc::read(STDIN_FILENO, &mut piece);
     let n = io::count(got, &piece);
-    if n == 0 {
-        return State {
-            ended: true,
-            ..state
-        };
+    Turn {
+        state: take_piece(state, &piece[..n], line),
+        ended: n == 0,
     }
-    take_piece(state, &piece[..n], line, out)
 }
 
-fn take_all(line: &mut [u8], out: &mut [u8]) -> State {
+fn take_all(line: &mut [u8]) -> State {
     let mut state = State {
         record: Record::power_on(),
         held: 0,
-        at: 0,
-        ended: false,
     };
     let mut turns: u64 = 0xFFFF_FFFF_FFFF_FFFF;
     while 0 < turns {
-        state = take_some(state, line, out);
-        if state.ended {
+        let turn = take_some(state, line);
+        state = turn.state;
+        if turn.ended {
             return state;
         }
         turns -= 1;
@@ -1085,8 +879,6 @@ fn take_all(line: &mut [u8], out: &mut [u8]) -> State {
 
 fn main() {
     let mut line = io::large_buffer();
-    let mut out = io::large_buffer();
-    let state = take_all(&mut line, &mut out);
-    let last = finish(state.record, state.held, state.at, &line, &mut out);
-    write_out(&out, last.at);
+    let state = take_all(&mut line);
+    finish(state.record, state.held, &line);
 }

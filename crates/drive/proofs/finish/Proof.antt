@@ -12,29 +12,15 @@ slice-aggregate-call c = sym (length-take-le _ _ (omega arith))
 call-requires : tie.Need-call-requires
 call-requires c κs = search needs
 
-same-length : tie.Need-same-length
-same-length c = search needs
-
 returns : tie.Need-returns
 returns c = search needs
 
-put-what-requires : tie.Need-put-what-requires
-put-what-requires c κs = search needs
-
-same-length-2 : tie.Need-same-length-2
-same-length-2 c = search needs
+what-requires : tie.Need-what-requires
+what-requires c κs = search needs
 
 returns-2 : tie.Need-returns-2
 returns-2 c = search needs
 
 pub finish-spec : {M : Type 1} → statement M
 finish-spec =
-    tie.close
-    (tie.spec
-    slice-aggregate-call
-    call-requires
-    same-length
-    returns
-    put-what-requires
-    same-length-2
-    returns-2)
+    tie.close (tie.spec slice-aggregate-call call-requires returns what-requires returns-2)

@@ -6,10 +6,10 @@ use Rattle.drive.proofs.take_all.Statement.{statement}
 use Rattle.drive.proofs.take_all.Tie as tie
 
 abbrev Inv-loop : tie.InvT-loop
-Inv-loop line₀ out₀ state₀ turns₀ line out state turns = (length line ≡ length line₀) × (length out ≡ length out₀)
+Inv-loop line₀ state₀ turns₀ line state turns = length line ≡ length line₀
 
 abbrev μ-loop : tie.MeasureT-loop
-μ-loop line₀ out₀ state₀ turns₀ line out state turns = turns
+μ-loop line₀ state₀ turns₀ line state turns = turns
 
 power-on-requires : tie.Need-power-on-requires Inv-loop μ-loop
 power-on-requires c κs = search needs
@@ -23,9 +23,6 @@ take-some-requires c κs = search needs
 same-length : tie.Need-same-length Inv-loop μ-loop
 same-length c = search needs
 
-same-length-2 : tie.Need-same-length-2 Inv-loop μ-loop
-same-length-2 c = search needs
-
 returns : tie.Need-returns Inv-loop μ-loop
 returns c = search needs
 
@@ -38,11 +35,8 @@ loop-less c = search needs
 loop-again : tie.Need-loop-again Inv-loop μ-loop
 loop-again c = search needs
 
-same-length-3 : tie.Need-same-length-3 Inv-loop μ-loop
-same-length-3 c = search needs
-
-same-length-4 : tie.Need-same-length-4 Inv-loop μ-loop
-same-length-4 c = search needs
+same-length-2 : tie.Need-same-length-2 Inv-loop μ-loop
+same-length-2 c = search needs
 
 returns-2 : tie.Need-returns-2 Inv-loop μ-loop
 returns-2 c = search needs
@@ -57,11 +51,9 @@ take-all-spec =
     loop-holds
     take-some-requires
     same-length
-    same-length-2
     returns
     sub-turns
     loop-less
     loop-again
-    same-length-3
-    same-length-4
+    same-length-2
     returns-2)

@@ -7,10 +7,10 @@ use Rattle.drive.proofs.take_piece.Statement.{statement}
 use Rattle.drive.proofs.take_piece.Tie as tie
 
 abbrev Inv-loop : tie.InvT-loop
-Inv-loop piece line₀ out₀ now₀ from₀ line out now from = (from ≤ length piece) × (length line ≡ length line₀) × (length out ≡ length out₀)
+Inv-loop piece line₀ r₀ held₀ from₀ line r held from = (from ≤ length piece) × (length line ≡ length line₀)
 
 abbrev μ-loop : tie.MeasureT-loop
-μ-loop piece line₀ out₀ now₀ from₀ line out now from = length piece - from
+μ-loop piece line₀ r₀ held₀ from₀ line r held from = length piece - from
 
 loop-holds : tie.Need-loop-holds Inv-loop μ-loop
 loop-holds c = search needs
@@ -30,20 +30,11 @@ part-hold-end c = search needs
 hold-requires : tie.Need-hold-requires Inv-loop μ-loop
 hold-requires c κs = search needs
 
-same-length : tie.Need-same-length Inv-loop μ-loop
-same-length c = search needs
-
-same-length-2 : tie.Need-same-length-2 Inv-loop μ-loop
-same-length-2 c = search needs
-
-returns : tie.Need-returns Inv-loop μ-loop
-returns c = search needs
+add-from : tie.Need-add-from Inv-loop μ-loop
+add-from c = search needs
 
 finish-requires : tie.Need-finish-requires Inv-loop μ-loop
 finish-requires c κs = search needs
-
-add-next : tie.Need-add-next Inv-loop μ-loop
-add-next c = search needs
 
 loop-less : tie.Need-loop-less Inv-loop μ-loop
 loop-less c = search needs
@@ -51,14 +42,17 @@ loop-less c = search needs
 loop-again : tie.Need-loop-again Inv-loop μ-loop
 loop-again c = search needs
 
-same-length-3 : tie.Need-same-length-3 Inv-loop μ-loop
-same-length-3 c = search needs
+loop-less-2 : tie.Need-loop-less-2 Inv-loop μ-loop
+loop-less-2 c = search needs
 
-same-length-4 : tie.Need-same-length-4 Inv-loop μ-loop
-same-length-4 c = search needs
+loop-again-2 : tie.Need-loop-again-2 Inv-loop μ-loop
+loop-again-2 c = search needs
 
-returns-2 : tie.Need-returns-2 Inv-loop μ-loop
-returns-2 c = search needs
+same-length : tie.Need-same-length Inv-loop μ-loop
+same-length c = search needs
+
+returns : tie.Need-returns Inv-loop μ-loop
+returns c = search needs
 
 pub take-piece-spec : {M : Type 1} → statement M
 take-piece-spec =
@@ -72,13 +66,11 @@ take-piece-spec =
     part-hold-start
     part-hold-end
     hold-requires
-    same-length
-    same-length-2
-    returns
-    add-next
+    add-from
     finish-requires
     loop-less
     loop-again
-    same-length-3
-    same-length-4
-    returns-2)
+    loop-less-2
+    loop-again-2
+    same-length
+    returns)

@@ -1,10 +1,10 @@
--- `drive::put_numbers` keeps its promise. Assumes nothing.
+-- `lines::put_numbers` keeps its promise. Assumes nothing.
 use Prim.Native.Nat.{_-_}
 use mathlib.Core.Path.{_≡_}
 use lib.ListN.{length}
 use borrow.Author.Needs.{needs}
-use Rattle.drive.proofs.put_numbers.Statement.{statement}
-use Rattle.drive.proofs.put_numbers.Tie as tie
+use Rattle.lines.proofs.put_numbers.Statement.{statement}
+use Rattle.lines.proofs.put_numbers.Tie as tie
 
 abbrev Inv-loop : tie.InvT-loop
 Inv-loop out₀ at numbers end₀ i₀ i-end out end i = length out ≡ length out₀
