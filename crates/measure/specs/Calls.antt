@@ -8,7 +8,8 @@ use Rattle.record.specs.Range.{inRange}
 use Rattle.record.specs.With.{withText}
 use Rattle.record.specs.PowerOn.{powerOn}
 use Rattle.reader.specs.declared.Fed.{Fed}
-use Rattle.reader.specs.Stream.{fedOf, answersAfter}
+use Rattle.reader.specs.declared.FedLent.{FedLent}
+use Rattle.reader.specs.Stream.{together, fedOf, answersAfter}
 
 -- between two calls: the record, the buffer for answers, and the bytes that are still to come
 pub record Between : Type 0 where
@@ -21,6 +22,10 @@ abbrev pub call : Between → Between
 call b =
     let bytes = take 64 (b .coming) in
     record { after = fedOf (b .after) bytes (length (b .buffer)) .record; buffer = answersAfter (b .after) bytes (b .buffer); coming = drop 64 (b .coming) }
+
+-- what a call on lent arrays leaves, as a call by value hands it back
+abbrev pub fedFrom : FedLent → List ℕ → List ℕ → List ℕ → Fed
+fedFrom f text picture bytes = record { answer = f .answer; «record» = together (f .small) text picture bytes; used = f .used; written = f .written }
 
 -- so many calls
 unfoldable pub inOrder : ℕ → Between → Between

@@ -10,9 +10,10 @@ use lib.Seq.{drop-cons, drop-length, drop-drop}
 use Rattle.record.specs.declared.Record.{Record}
 use Rattle.record.specs.Range.{inRange}
 use Rattle.reader.specs.declared.Fed.{Fed}
-use Rattle.reader.specs.Stream.{fedOf, answersAfter}
+use Rattle.reader.specs.declared.FedLent.{FedLent}
+use Rattle.reader.specs.Stream.{lentOf, lent-back, fedOf, answersAfter}
 use Rattle.measure.specs.Mark.{mixed, marked}
-use Rattle.measure.specs.Calls.{Between, inOrder, withFirst, goodOnes}
+use Rattle.measure.specs.Calls.{Between, fedFrom, inOrder, withFirst, goodOnes}
 
 next : (s : List ℕ) (i : ℕ) → i < length s → drop i s ≡ getD s i 0 ∷ drop (i + 1) s
 next s i h = drop-cons s i 0 h ∙ ap (λ (n : ℕ). getD s i 0 ∷ drop n s) (sym (add-one i))
@@ -38,15 +39,19 @@ good-end r s i h l =
     let there : i ≡ length s = omega arith in
     ap (goodOnes r) (ap (λ (n : ℕ). drop n s) there ∙ drop-length s)
 
-pub call-on : (left at : ℕ) (r : Record) (answers s piece later : List ℕ) (f : Fed) → 0 < left → piece ≡ take 64 (drop at s) → f ≡ fedOf r piece (length answers) → later ≡ answersAfter r piece answers
-    → inOrder (left - 1) (record { after = f .record; buffer = later; coming = drop (at + 64) s }) ≡ inOrder left (record { after = r; buffer = answers; coming = drop at s })
+-- what comes back of a call on lent arrays is what the call by value hands back
+pub fed-from : {f : FedLent} {fed : Fed} {text picture bytes : List ℕ} → f ≡ lentOf fed → text ≡ fed .record .text → picture ≡ fed .record .picture → bytes ≡ fed .record .frame .bytes → fedFrom f text picture bytes ≡ fed
+fed-from e t g b = λ j. record { answer = e j .answer; «record» = lent-back e t g b j; used = e j .used; written = e j .written }
+
+pub call-on : (left at : ℕ) (r : Record) (answers s piece later : List ℕ) (after : Record) → 0 < left → piece ≡ take 64 (drop at s) → after ≡ fedOf r piece (length answers) .record → later ≡ answersAfter r piece answers
+    → inOrder (left - 1) (record { after = after; buffer = later; coming = drop (at + 64) s }) ≡ inOrder left (record { after = r; buffer = answers; coming = drop at s })
 unfolding inOrder
-call-on zero at r answers s piece later f h a b c = absurd (omega (arith, h))
-call-on (suc n) at r answers s piece later f h a b c =
-    let fed : f ≡ fedOf r (take 64 (drop at s)) (length answers) = b ∙ ap (λ (x : List ℕ). fedOf r x (length answers)) a in
+call-on zero at r answers s piece later after h a b c = absurd (omega (arith, h))
+call-on (suc n) at r answers s piece later after h a b c =
+    let fed : after ≡ fedOf r (take 64 (drop at s)) (length answers) .record = b ∙ ap (λ (x : List ℕ). fedOf r x (length answers) .record) a in
     let written : later ≡ answersAfter r (take 64 (drop at s)) answers = c ∙ ap (λ (x : List ℕ). answersAfter r x answers) a in
-    ap (λ (k : ℕ). inOrder k (record { after = f .record; buffer = later; coming = drop (at + 64) s })) {x = suc n - 1} {y = n} (omega arith)
-    ∙ ap (inOrder n) (λ j. record { after = fed j .record; buffer = written j; coming = sym (drop-drop 64 at s) j })
+    ap (λ (k : ℕ). inOrder k (record { after = after; buffer = later; coming = drop (at + 64) s })) {x = suc n - 1} {y = n} (omega arith)
+    ∙ ap (inOrder n) (λ j. record { after = fed j; buffer = written j; coming = sym (drop-drop 64 at s) j })
 
 pub call-end : (left : ℕ) (b : Between) → left ≤ 0 → inOrder left b ≡ b
 unfolding inOrder

@@ -7,8 +7,11 @@ ghost use lib.ListN.{length};
 ghost use Rattle.record.specs.PowerOn.{powerOn};
 ghost use Rattle.reader.specs.Stream.{fedOf, answersAfter};
 ghost use Rattle.measure.specs.Mark.{prime, mixed, marked, small, markOf};
-ghost use Rattle.measure.specs.Calls.{inOrder, fedInCalls, answersInCalls, goodOnes};
+ghost use Rattle.measure.specs.Calls.{inOrder, fedFrom, fedInCalls, answersInCalls, goodOnes};
 use reader::Fed;
+use reader::FedLent;
+use reader::Small;
+use record::Frame;
 use record::Panel;
 use record::Record;
 
@@ -87,22 +90,75 @@ pub extern "C" fn measure_one_call(s: &[u8], answers: &mut [u8]) -> u64
     mark(reader::feed(Record::power_on(), s, answers))
 }
 
-// A stream in calls of 64 bytes, and what is left over in a last one. Each call is lent the whole buffer.
+// What a call on lent arrays left, as one by value hands it back.
+fn fed(f: FedLent, text: [u8; 80], picture: [u8; 672], bytes: [u8; 250]) -> Fed
+    ensures { λ r. ⌜ r ≡ fedFrom f text picture bytes ⌝ }
+{
+    let answer = f.answer;
+    let small = f.small;
+    let panel = small.panel;
+    let held = small.held;
+    Fed {
+        answer: answer,
+        record: Record {
+            panel: panel,
+            text: text,
+            picture: picture,
+            held: held,
+            frame: Frame {
+                state: small.state,
+                len: small.len,
+                bytes: bytes,
+            },
+        },
+        used: f.used,
+        written: f.written,
+    }
+}
+
+// A stream in calls of 64 bytes on lent arrays, and what is left over in a last one. Each call is lent the whole buffer.
 fn feed_in_calls(s: &[u8], answers: &mut [u8]) -> Fed
     ensures same { λ f. ⌜ f ≡ fedInCalls (now (s .entry)) (now (answers .entry)) ⌝ }
     ensures buffer { λ _. ⌜ now (answers .exit) ≡ answersInCalls (now (s .entry)) (now (answers .entry)) ⌝ }
 {
-    let mut r = Record::power_on();
+    let start = Record::power_on();
+    let panel = start.panel;
+    let mut text = start.text;
+    let mut picture = start.picture;
+    let held = start.held;
+    let kept = start.frame;
+    let mut frame = kept.bytes;
+    let mut small = Small {
+        panel: panel,
+        held: held,
+        state: kept.state,
+        len: kept.len,
+    };
     let mut left = s.len() / CALL;
     let mut at = 0;
     while 0 < left {
-        let f = reader::feed(r, &s[at..at + CALL], answers);
-        let after = f.record;
-        r = after;
+        let f = reader::feed_lent(
+            small,
+            &mut text,
+            &mut picture,
+            &mut frame,
+            &s[at..at + CALL],
+            answers,
+        );
+        let after = f.small;
+        small = after;
         at += CALL;
         left -= 1;
     }
-    reader::feed(r, &s[at..], answers)
+    let last = reader::feed_lent(
+        small,
+        &mut text,
+        &mut picture,
+        &mut frame,
+        &s[at..],
+        answers,
+    );
+    fed(last, text, picture, frame)
 }
 
 #[no_mangle]

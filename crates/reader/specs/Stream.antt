@@ -82,6 +82,11 @@ smallOf r = record { panel = r .panel; held = r .held; state = r .frame .state; 
 abbrev pub lentOf : Fed → FedLent
 lentOf f = record { answer = f .answer; small = smallOf (f .record); used = f .used; written = f .written }
 
+-- so what comes back, put together with the arrays, is that call's record
+pub lent-back : {f : FedLent} {fed : Fed} {text picture bytes : List ℕ} → f ≡ lentOf fed → text ≡ fed .record .text → picture ≡ fed .record .picture → bytes ≡ fed .record .frame .bytes
+    → together (f .small) text picture bytes ≡ fed .record
+lent-back e t g b = λ j. together (e j .small) (t j) (g j) (b j)
+
 -- What the inner functions do -------------------------------------------------------------------------------------
 
 abbrev pub columnAfter : ℕ → ℕ

@@ -152,21 +152,18 @@ fn close(
 
 // Reads bytes until they end or an answer has no room.
 fn read(
-    given: Panel,
+    mut panel: Panel,
     text: &mut [u8; 80],
     picture: &mut [u8; 672],
     frame: &mut [u8],
-    kept_state: u8,
-    kept_len: usize,
+    mut state: u8,
+    mut len: usize,
     bytes: &[u8],
     answers: &mut [u8],
 ) -> Done
-    requires { ⌜ Ready given (now text) (now picture) «kept_state» «kept_len» (now frame) ⌝ }
-    ensures { λ d. ⌜ Reads (standing given (now (text .entry)) (now (picture .entry)) «kept_state» «kept_len» (now (frame .entry))) (now (bytes .entry)) (now (answers .entry)) d (now (text .exit)) (now (picture .exit)) (now (frame .exit)) (now (answers .exit)) ⌝ }
+    requires { ⌜ Ready panel (now text) (now picture) state len (now frame) ⌝ }
+    ensures { λ d. ⌜ Reads (standing panel (now (text .entry)) (now (picture .entry)) state len (now (frame .entry))) (now (bytes .entry)) (now (answers .entry)) d (now (text .exit)) (now (picture .exit)) (now (frame .exit)) (now (answers .exit)) ⌝ }
 {
-    let mut panel = given;
-    let mut state = kept_state;
-    let mut len = kept_len;
     let mut i = 0;
     let mut w = 0;
     while i < bytes.len() {

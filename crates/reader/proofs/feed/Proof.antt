@@ -1,5 +1,6 @@
 -- `reader::feed` keeps its promise. Assumes nothing.
 use mathlib.Core.Path.{_∙_}
+use Rattle.reader.specs.Stream.{lent-back}
 use borrow.Author.Needs.{needs}
 use Rattle.reader.proofs.feed.Statement.{statement}
 use Rattle.reader.proofs.feed.Tie as tie
@@ -16,7 +17,7 @@ same-length c = search needs
 returns : tie.Need-returns
 returns c = let k = c .before .before .before .before .feed-lent .ensures in
     let w = c .whole .ensures in
-    (λ j. record { answer = k .0 j .answer; «record» = (w ∙ (λ n. record { panel = k .0 n .small .panel; text = k .1 .0 n; picture = k .1 .1 .0 n; held = k .0 n .small .held; frame = record { state = k .0 n .small .state; len = k .0 n .small .len; bytes = k .1 .1 .1 .0 n } })) j; used = k .0 j .used; written = k .0 j .written }, k .1 .1 .1 .1)
+    (λ j. record { answer = k .0 j .answer; «record» = (w ∙ lent-back (k .0) (k .1 .0) (k .1 .1 .0) (k .1 .1 .1 .0)) j; used = k .0 j .used; written = k .0 j .written }, k .1 .1 .1 .1)
 
 pub feed-spec : {M : Type 1} → statement M
 feed-spec = tie.close (tie.spec feed-lent-requires whole-requires same-length returns)

@@ -13,10 +13,10 @@ use Rattle.reader.proofs.read.Statement.{statement}
 use Rattle.reader.proofs.read.Tie as tie
 
 abbrev Inv-loop : tie.InvT-loop
-Inv-loop text₀ picture₀ frame₀ kept-state kept-len bytes answers₀ panel₀ state₀ len₀ i₀ w₀ text picture frame answers panel state len i w = Going bytes answers₀ (standing panel₀ text₀ picture₀ state₀ len₀ frame₀) answers panel text picture state len frame i w
+Inv-loop panel₀ text₀ picture₀ frame₀ state₀ len₀ bytes answers₀ i₀ w₀ panel text picture frame state len answers i w = Going bytes answers₀ (standing panel₀ text₀ picture₀ state₀ len₀ frame₀) answers panel text picture state len frame i w
 
 abbrev μ-loop : tie.MeasureT-loop
-μ-loop text₀ picture₀ frame₀ kept-state kept-len bytes answers₀ panel₀ state₀ len₀ i₀ w₀ text picture frame answers panel state len i w = length bytes - i
+μ-loop panel₀ text₀ picture₀ frame₀ state₀ len₀ bytes answers₀ i₀ w₀ panel text picture frame state len answers i w = length bytes - i
 
 loop-holds : tie.Need-loop-holds Inv-loop μ-loop
 loop-holds c = record { account = go-start (step handset) _ _ _; range = c .before .before .before .pre .range; fits = c .before .before .before .pre .fits }
