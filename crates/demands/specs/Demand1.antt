@@ -45,7 +45,7 @@ pub record Refused (number : ℕ) (answered : ℕ) (given back : Record) (used w
   pub untouched : after ≡ before
 
 pub record Demand1 : Type 0 where
-  -- The stream call: 1, else 0.
+  -- The stream call: 1, else 0. The call on lent arrays is the same call (Tie, feed-lent-says).
   pub feed-refuses : (r : Record) (bytes before : List ℕ) → inRange r ≡ false
       → (let f = fedOf r bytes (length before) in Refused 1 (numberOf (f .answer)) r (f .record) (f .used) (f .written) before (answersAfter r bytes before))
   pub feed-done : (r : Record) (bytes : List ℕ) (room : ℕ) → inRange r ≡ true → numberOf (fedOf r bytes room .answer) ≡ 0

@@ -22,7 +22,9 @@ use Rattle.command.specs.InRange.{commandInRange, mostRows}
 use Rattle.command.specs.Reading.{readOf, opensPicture, pictureOf}
 use Rattle.settings.specs.Settings.{toMode, atLevel}
 use Rattle.effect.specs.Obey.{Obeys, core}
-use Rattle.reader.specs.Stream.{fedOf, answersAfter}
+use Rattle.record.specs.declared.Record.{Record}
+use Rattle.reader.specs.declared.Fed.{Fed}
+use Rattle.reader.specs.Stream.{together, lentOf, fedOf, answersAfter}
 use Rattle.lists.specs.Every.{every}
 use Rattle.keying.specs.Rules.{listed, keyed}
 use Rattle.keys.specs.Log.{outcome, handedBack, bufferAfter}
@@ -73,6 +75,16 @@ use Rattle.effect.proofs.obey as Obey
 use Rattle.effect.proofs.obey.Reads as ObeyReads
 use Rattle.reader.proofs.feed as Feed
 use Rattle.reader.proofs.feed.Reads as FeedReads
+use Rattle.reader.proofs.feed_lent as FeedLent
+use Rattle.reader.proofs.feed_lent.Reads as FeedLentReads
+use Rattle.measure.specs.Mark.{markOf}
+use Rattle.measure.specs.Calls.{fedInCalls, answersInCalls, goodOnes}
+use Rattle.measure.proofs.measure_one_call as OneCall
+use Rattle.measure.proofs.measure_one_call.Reads as OneCallReads
+use Rattle.measure.proofs.measure_short_calls as ShortCalls
+use Rattle.measure.proofs.measure_short_calls.Reads as ShortCallsReads
+use Rattle.measure.proofs.measure_range_checks as RangeChecks
+use Rattle.measure.proofs.measure_range_checks.Reads as RangeChecksReads
 use Rattle.keying.proofs.all_listed as AllListed
 use Rattle.keying.proofs.all_listed.Reads as AllListedReads
 use Rattle.keying.proofs.take_entry as TakeEntry
@@ -121,6 +133,13 @@ abbrev SaysBoth : (t : Ended) → Clause t → Claim t → Claim t → Type 2
 SaysBoth t ensures first second =
     (κs : Lfts (t .signature .lifetimes)) (a : ArgsD (t .signature) κs) (q : ResD (t .signature) κs) (e : AtExit t κs) (w : World)
     → ensures κs a tt q e w ≡ sep (w .𝓤) (fact (w .𝓤) (first κs a q e)) (fact (w .𝓤) (second κs a q e))
+
+abbrev SaysFive : (t : Ended) → Clause t → Claim t → Claim t → Claim t → Claim t → Claim t → Type 2
+SaysFive t ensures first second third fourth fifth =
+    (κs : Lfts (t .signature .lifetimes)) (a : ArgsD (t .signature) κs) (q : ResD (t .signature) κs) (e : AtExit t κs) (w : World)
+    → ensures κs a tt q e w
+    ≡ sep (w .𝓤) (fact (w .𝓤) (first κs a q e))
+    (sep (w .𝓤) (fact (w .𝓤) (second κs a q e)) (sep (w .𝓤) (fact (w .𝓤) (third κs a q e)) (sep (w .𝓤) (fact (w .𝓤) (fourth κs a q e)) (fact (w .𝓤) (fifth κs a q e)))))
 
 -- record::number
 pub number-says : Says Number.ended NumberReads.ensures (λ κs a q e. q ≡ numberOf (a .0))
@@ -209,6 +228,21 @@ pub feed-says : SaysBoth Feed.ended FeedReads.ensures
     (λ κs a q e. now (e .1 .1 .0) ≡ answersAfter (a .0) (now (a .1 .0)) (now (a .1 .1 .0)))
 feed-says κs a q e w = refl
 
+-- reader::feed_lent: the same call, of the record that the small fields and the lent arrays make
+abbrev given : (κs : Lfts (FeedLent.ended .signature .lifetimes)) → ArgsD (FeedLent.ended .signature) κs → Record
+given κs a = together (a .0) (now (a .1 .0)) (now (a .1 .1 .0)) (now (a .1 .1 .1 .0))
+
+abbrev called : (κs : Lfts (FeedLent.ended .signature .lifetimes)) → ArgsD (FeedLent.ended .signature) κs → Fed
+called κs a = fedOf (given κs a) (now (a .1 .1 .1 .1 .0)) (length (now (a .1 .1 .1 .1 .1 .0)))
+
+pub feed-lent-says : SaysFive FeedLent.ended FeedLentReads.ensures
+    (λ κs a q e. q ≡ lentOf (called κs a))
+    (λ κs a q e. now (e .1 .0) ≡ called κs a .record .text)
+    (λ κs a q e. now (e .1 .1 .0) ≡ called κs a .record .picture)
+    (λ κs a q e. now (e .1 .1 .1 .0) ≡ called κs a .record .frame .bytes)
+    (λ κs a q e. now (e .1 .1 .1 .1 .1 .0) ≡ answersAfter (given κs a) (now (a .1 .1 .1 .1 .0)) (now (a .1 .1 .1 .1 .1 .0)))
+feed-lent-says κs a q e w = refl
+
 -- keying::all_listed
 pub all-listed-says : Says AllListed.ended AllListedReads.ensures (λ κs a q e. q ≡ every listed (now (a .0)))
 all-listed-says κs a q e w = refl
@@ -278,3 +312,19 @@ pub write-picture-row-says : SaysBoth WritePictureRow.ended WritePictureRowReads
     (λ κs a q e. q ≡ writtenOf (isRow (a .0) (now (a .1 .0))) (frameOf (rowBody (a .0) (now (a .1 .0)))) (now (a .1 .1 .0)))
     (λ κs a q e. now (e .1 .1 .0) ≡ roomAfter (isRow (a .0) (now (a .1 .0))) (frameOf (rowBody (a .0) (now (a .1 .0)))) (now (a .1 .1 .0)))
 write-picture-row-says κs a q e w = refl
+
+-- measure::measure_one_call
+pub one-call-says : SaysBoth OneCall.ended OneCallReads.ensures
+    (λ κs a q e. q ≡ markOf (fedOf powerOn (now (a .0)) (length (now (a .1 .0)))))
+    (λ κs a q e. now (e .1 .0) ≡ answersAfter powerOn (now (a .0)) (now (a .1 .0)))
+one-call-says κs a q e w = refl
+
+-- measure::measure_short_calls
+pub short-calls-says : SaysBoth ShortCalls.ended ShortCallsReads.ensures
+    (λ κs a q e. q ≡ markOf (fedInCalls (now (a .0)) (now (a .1 .0))))
+    (λ κs a q e. now (e .1 .0) ≡ answersInCalls (now (a .0)) (now (a .1 .0)))
+short-calls-says κs a q e w = refl
+
+-- measure::measure_range_checks
+pub range-checks-says : Says RangeChecks.ended RangeChecksReads.ensures (λ κs a q e. q ≡ goodOnes powerOn (now (a .0)))
+range-checks-says κs a q e w = refl

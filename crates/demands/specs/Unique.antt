@@ -51,6 +51,14 @@ use Rattle.effect.proofs.obey as Obey
 use Rattle.effect.proofs.obey.Reads as ObeyReads
 use Rattle.reader.proofs.feed as Feed
 use Rattle.reader.proofs.feed.Reads as FeedReads
+use Rattle.reader.proofs.feed_lent as FeedLent
+use Rattle.reader.proofs.feed_lent.Reads as FeedLentReads
+use Rattle.measure.proofs.measure_one_call as OneCall
+use Rattle.measure.proofs.measure_one_call.Reads as OneCallReads
+use Rattle.measure.proofs.measure_short_calls as ShortCalls
+use Rattle.measure.proofs.measure_short_calls.Reads as ShortCallsReads
+use Rattle.measure.proofs.measure_range_checks as RangeChecks
+use Rattle.measure.proofs.measure_range_checks.Reads as RangeChecksReads
 use Rattle.keying.proofs.all_listed as AllListed
 use Rattle.keying.proofs.all_listed.Reads as AllListedReads
 use Rattle.keying.proofs.take_entry as TakeEntry
@@ -173,6 +181,13 @@ read-picture-one κs a q q′ e e′ p p′ = two-equal p p′
 pub feed-one : OneEnd Feed.ended (List ℕ) FeedReads.Learnt (λ κs e. now (e .1 .1 .0))
 feed-one κs a q q′ e e′ p p′ = (two-equal (p .0) (p′ .0), two-equal (p .1) (p′ .1))
 
+-- reader::feed_lent: text, picture, the frame's bytes and the answers
+pub feed-lent-one : OneEnd FeedLent.ended (List ℕ × List ℕ × List ℕ × List ℕ) FeedLentReads.Learnt (λ κs e. (now (e .1 .0), now (e .1 .1 .0), now (e .1 .1 .1 .0), now (e .1 .1 .1 .1 .1 .0)))
+feed-lent-one κs a q q′ e e′ p p′ = (
+  two-equal (p .0) (p′ .0),
+  λ j. (two-equal (p .1 .0) (p′ .1 .0) j, two-equal (p .1 .1 .0) (p′ .1 .1 .0) j, two-equal (p .1 .1 .1 .0) (p′ .1 .1 .1 .0) j, two-equal (p .1 .1 .1 .1) (p′ .1 .1 .1 .1) j),
+)
+
 -- keying::all_listed
 pub all-listed-one : OneResult AllListed.ended AllListedReads.Learnt
 all-listed-one κs a q q′ e e′ p p′ = two-equal p p′
@@ -251,3 +266,15 @@ obey-one κs a q q′ e e′ p p′ =
     let same = two-equal (p .same) (p′ .same) in
     let good = two-equal (p .good) (p′ .good) in
     (λ j. record { good = good j; panel = same j .panel }, λ j. same j .text, λ j. same j .picture)
+
+-- measure::measure_one_call
+pub one-call-one : OneEnd OneCall.ended (List ℕ) OneCallReads.Learnt (λ κs e. now (e .1 .0))
+one-call-one κs a q q′ e e′ p p′ = (two-equal (p .0) (p′ .0), two-equal (p .1) (p′ .1))
+
+-- measure::measure_short_calls
+pub short-calls-one : OneEnd ShortCalls.ended (List ℕ) ShortCallsReads.Learnt (λ κs e. now (e .1 .0))
+short-calls-one κs a q q′ e e′ p p′ = (two-equal (p .0) (p′ .0), two-equal (p .1) (p′ .1))
+
+-- measure::measure_range_checks
+pub range-checks-one : OneResult RangeChecks.ended RangeChecksReads.Learnt
+range-checks-one κs a q q′ e e′ p p′ = two-equal p p′
