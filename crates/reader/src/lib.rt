@@ -170,9 +170,7 @@ fn read(
         let b = bytes[i];
         if state == NO_FRAME {
             if BLANK <= b {
-                let row = panel.screen.row;
-                let column = panel.screen.column;
-                let run = store_all(text, row, column, bytes, i);
+                let run = store_all(text, panel.screen.row, panel.screen.column, bytes, i);
                 panel.screen.column = run.column;
                 i = run.at;
                 continue;
