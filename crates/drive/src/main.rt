@@ -457,7 +457,7 @@ fn feed_into(r: Record, bytes: &[u8], buffer: &mut [u8]) -> Record {
     shown(fed.record)
 }
 
-fn feed_lent(r: Record, room: usize, bytes: &[u8]) -> Record
+fn stream_lent(r: Record, room: usize, bytes: &[u8]) -> Record
     requires { ⌜ room ≤ 300 ⌝ }
 {
     let mut buffer = lent();
@@ -472,7 +472,7 @@ fn stream_of(r: Record, room: usize, word: &[u8]) -> Record
     if MOST_BYTES < n {
         return what(r);
     }
-    feed_lent(r, room, &bytes[..n])
+    stream_lent(r, room, &bytes[..n])
 }
 
 fn stream_call(r: Record, words: &[u8]) -> Record {

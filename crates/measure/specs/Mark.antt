@@ -1,4 +1,4 @@
--- One number taken from all that a stream call left, so that two readers can be compared by it. Assumes nothing.
+-- One number taken from most of what a stream call left, so that two readers can be compared by it. Assumes nothing.
 use Prim.Native.Nat.{ℕ, _+_, _*_, _%_}
 use mathlib.Core.List.{List, [], _∷_}
 use Rattle.record.specs.declared.Panel.{Panel}

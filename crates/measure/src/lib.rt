@@ -1,5 +1,5 @@
 // What ./bench times: the stream call in one call and in calls of 64 bytes, and the range check. Each hands back one number that
-// is taken from all that was done, so that the timed work can't be left out, and so that two readers can be compared by it.
+// is taken from most of what was done, so that the timed work can't be left out, and so that two readers can be compared by it.
 ghost use mathlib.Core.Path.{_≡_};
 ghost use mathlib.Core.Bool.{cond};
 ghost use Prim.Native.Nat.{_≤_, _<_};

@@ -24,11 +24,11 @@ returns c = search needs
 array-share-prefix-bytes : tie.Need-array-share-prefix-bytes
 array-share-prefix-bytes c = search needs
 
-slice-aggregate-feed-lent : tie.Need-slice-aggregate-feed-lent
-slice-aggregate-feed-lent c = sym (length-take-le _ _ (omega arith))
+slice-aggregate-stream-lent : tie.Need-slice-aggregate-stream-lent
+slice-aggregate-stream-lent c = sym (length-take-le _ _ (omega arith))
 
-feed-lent-requires : tie.Need-feed-lent-requires
-feed-lent-requires c κs = search needs
+stream-lent-requires : tie.Need-stream-lent-requires
+stream-lent-requires c κs = search needs
 
 returns-2 : tie.Need-returns-2
 returns-2 c = search needs
@@ -43,6 +43,6 @@ stream-of-spec =
     what-requires
     returns
     array-share-prefix-bytes
-    slice-aggregate-feed-lent
-    feed-lent-requires
+    slice-aggregate-stream-lent
+    stream-lent-requires
     returns-2)

@@ -1,10 +1,10 @@
--- `drive::feed_lent` keeps its promise. Assumes nothing.
+-- `drive::stream_lent` keeps its promise. Assumes nothing.
 use mathlib.Core.Path.{sym}
 use native.Mathlib.Omega.{arith}
 use lib.Seq.{length-take-le}
 use borrow.Author.Needs.{needs}
-use Rattle.drive.proofs.feed_lent.Statement.{statement}
-use Rattle.drive.proofs.feed_lent.Tie as tie
+use Rattle.drive.proofs.stream_lent.Statement.{statement}
+use Rattle.drive.proofs.stream_lent.Tie as tie
 
 lent-requires : tie.Need-lent-requires
 lent-requires c κs = search needs
@@ -21,8 +21,8 @@ feed-into-requires c κs = search needs
 returns : tie.Need-returns
 returns c = search needs
 
-pub feed-lent-spec : {M : Type 1} → statement M
-feed-lent-spec =
+pub stream-lent-spec : {M : Type 1} → statement M
+stream-lent-spec =
     tie.close
     (tie.spec
     lent-requires
