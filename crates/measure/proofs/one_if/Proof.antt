@@ -1,0 +1,14 @@
+-- `measure::one_if` keeps its promise. Assumes nothing.
+use native.Mathlib.Omega.{arith}
+use mathlib.Core.Path.{refl}
+use Rattle.measure.proofs.one_if.Statement.{statement}
+use Rattle.measure.proofs.one_if.Tie as tie
+
+returns : tie.Need-returns
+returns c = (rw (c .if1 .taken) refl, omega arith)
+
+returns-2 : tie.Need-returns-2
+returns-2 c = (rw (c .if1 .left) refl, omega arith)
+
+pub one-if-spec : {M : Type 1} → statement M
+one-if-spec = tie.close (tie.spec returns returns-2)
