@@ -1,10 +1,10 @@
--- `lines::write_out` keeps its promise. Assumes nothing.
+-- `drive::write_out` keeps its promise. Assumes nothing.
 use mathlib.Core.Path.{sym}
 use native.Mathlib.Omega.{arith}
 use lib.Seq.{length-take-le}
 use borrow.Author.Needs.{needs}
-use Rattle.lines.proofs.write_out.Statement.{statement}
-use Rattle.lines.proofs.write_out.Tie as tie
+use Rattle.drive.proofs.write_out.Statement.{statement}
+use Rattle.drive.proofs.write_out.Tie as tie
 
 slice-aggregate-write-all : tie.Need-slice-aggregate-write-all
 slice-aggregate-write-all c = sym (length-take-le _ _ (omega arith))

@@ -1,10 +1,10 @@
--- `lines::put_pairs` keeps its promise. Assumes nothing.
+-- `drive::put_pairs` keeps its promise. Assumes nothing.
 use Prim.Native.Nat.{_-_}
 use mathlib.Core.Path.{_≡_}
 use lib.ListN.{length}
 use borrow.Author.Needs.{needs}
-use Rattle.lines.proofs.put_pairs.Statement.{statement}
-use Rattle.lines.proofs.put_pairs.Tie as tie
+use Rattle.drive.proofs.put_pairs.Statement.{statement}
+use Rattle.drive.proofs.put_pairs.Tie as tie
 
 abbrev Inv-loop : tie.InvT-loop
 Inv-loop out₀ at bytes end₀ i₀ i-end out end i = length out ≡ length out₀
