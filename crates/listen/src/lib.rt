@@ -1,6 +1,9 @@
 // Reads a stream from standard input to its end and feeds it to a handset, in pieces, as a cord would bring it.
-// What an input brings can't be promised; all that matters is done by the proved stream call.
+// What an input brings can't be promised; but whatever it brings, a record in range stays in range.
+ghost use mathlib.Core.Path.{_≡_};
+ghost use mathlib.Core.Bool.{true};
 ghost use Prim.Native.Nat.{_<_, _≤_};
+ghost use Rattle.record.specs.Range.{inRange};
 use libc::STDIN_FILENO;
 use reader::Fed;
 use record::Record;
@@ -15,13 +18,17 @@ pub struct Heard {
 }
 
 // A call with a buffer of its own for the answers.
-fn one_call(r: Record, bytes: &[u8]) -> Fed {
+fn one_call(r: Record, bytes: &[u8]) -> Fed
+    ensures { λ f. ⌜ (inRange r ≡ true → inRange (f .record) ≡ true) ⌝ }
+{
     let mut answers = [0u8; ROOM];
     reader::feed(r, bytes, &mut answers)
 }
 
 // The count stops at its type's end rather than run over.
-fn more(heard: Heard, after: Record, written: usize) -> Heard {
+fn more(heard: Heard, after: Record, written: usize) -> Heard
+    ensures { λ h. ⌜ h .record ≡ after ⌝ }
+{
     let n = written as u64;
     let replies = heard.replies;
     if 0xFFFF_FFFF_FFFF_FFFF - replies < n {
@@ -51,7 +58,9 @@ fn next_place(at: usize, used: usize, len: usize) -> usize
 }
 
 // One piece of the stream, in as many calls as its answers need.
-fn hear_piece(heard: Heard, piece: &[u8]) -> Heard {
+fn hear_piece(heard: Heard, piece: &[u8]) -> Heard
+    ensures { λ h. ⌜ (inRange (heard .record) ≡ true → inRange (h .record) ≡ true) ⌝ }
+{
     let mut now = heard;
     let mut at = 0;
     while at < piece.len() {
@@ -69,7 +78,9 @@ struct Turn {
     ended: bool,
 }
 
-fn hear_once(heard: Heard) -> Turn {
+fn hear_once(heard: Heard) -> Turn
+    ensures { λ t. ⌜ (inRange (heard .record) ≡ true → inRange (t .heard .record) ≡ true) ⌝ }
+{
     let mut buffer = io::buffer();
     let got = libc::read(STDIN_FILENO, &mut buffer);
     let n = io::count(got, &buffer);
@@ -80,7 +91,9 @@ fn hear_once(heard: Heard) -> Turn {
 }
 
 // Reads standard input to its end, from this record.
-pub fn hear(r: Record) -> Heard {
+pub fn hear(r: Record) -> Heard
+    ensures kept { λ h. ⌜ (inRange r ≡ true → inRange (h .record) ≡ true) ⌝ }
+{
     let mut heard = Heard {
         record: r,
         replies: 0,

@@ -1,22 +1,25 @@
 -- `listen::hear` keeps its promise. Assumes nothing.
+use mathlib.Core.Path.{_≡_}
+use mathlib.Core.Bool.{true}
+use Rattle.record.specs.Range.{inRange}
 use borrow.Author.Needs.{needs}
 use Rattle.listen.proofs.hear.Statement.{statement}
 use Rattle.listen.proofs.hear.Tie as tie
 
 abbrev Inv-loop : tie.InvT-loop
-Inv-loop heard₀ turns₀ heard turns = Unit {0}
+Inv-loop heard₀ turns₀ heard turns = inRange (heard₀ .record) ≡ true → inRange (heard .record) ≡ true
 
 abbrev μ-loop : tie.MeasureT-loop
 μ-loop heard₀ turns₀ heard turns = turns
 
 loop-holds : tie.Need-loop-holds Inv-loop μ-loop
-loop-holds c = search needs
+loop-holds c = λ h. h
 
 hear-once-requires : tie.Need-hear-once-requires Inv-loop μ-loop
 hear-once-requires c κs = search needs
 
 returns : tie.Need-returns Inv-loop μ-loop
-returns c = search needs
+returns c = λ h. c .before .before .hear-once .ensures (c .before .before .before .before .loop .inv h)
 
 sub-turns : tie.Need-sub-turns Inv-loop μ-loop
 sub-turns c = search needs
@@ -25,10 +28,10 @@ loop-less : tie.Need-loop-less Inv-loop μ-loop
 loop-less c = search needs
 
 loop-again : tie.Need-loop-again Inv-loop μ-loop
-loop-again c = search needs
+loop-again c = λ h. c .before .before .hear-once .ensures (c .before .before .before .before .loop .inv h)
 
 returns-2 : tie.Need-returns-2 Inv-loop μ-loop
-returns-2 c = search needs
+returns-2 c = c .before .loop .inv
 
 pub hear-spec : {M : Type 1} → statement M
 hear-spec =

@@ -1,18 +1,22 @@
 -- `listen::hear_piece` keeps its promise. Assumes nothing.
 use Prim.Native.Nat.{_-_, _≤_}
+use native.Mathlib.Omega.{arith}
+use mathlib.Core.Path.{_≡_}
+use mathlib.Core.Bool.{true}
+use Rattle.record.specs.Range.{inRange}
 use lib.ListN.{length}
 use borrow.Author.Needs.{needs}
 use Rattle.listen.proofs.hear_piece.Statement.{statement}
 use Rattle.listen.proofs.hear_piece.Tie as tie
 
 abbrev Inv-loop : tie.InvT-loop
-Inv-loop piece now₀ at₀ now at = at ≤ length piece
+Inv-loop piece now₀ at₀ now at = (at ≤ length piece) × (inRange (now₀ .record) ≡ true → inRange (now .record) ≡ true)
 
 abbrev μ-loop : tie.MeasureT-loop
 μ-loop piece now₀ at₀ now at = length piece - at
 
 loop-holds : tie.Need-loop-holds Inv-loop μ-loop
-loop-holds c = search needs
+loop-holds c = (omega arith, λ h. h)
 
 sub-one-call : tie.Need-sub-one-call Inv-loop μ-loop
 sub-one-call c = search needs
@@ -36,10 +40,10 @@ loop-less : tie.Need-loop-less Inv-loop μ-loop
 loop-less c = search needs
 
 loop-again : tie.Need-loop-again Inv-loop μ-loop
-loop-again c = search needs
+loop-again c = (c .next-place .ensures .1, λ h. rw (c .before .more .ensures) (c .before .before .before .one-call .ensures (c .before .before .before .before .before .before .loop .inv .1 h)))
 
 returns : tie.Need-returns Inv-loop μ-loop
-returns c = search needs
+returns c = c .before .loop .inv .1
 
 pub hear-piece-spec : {M : Type 1} → statement M
 hear-piece-spec =
