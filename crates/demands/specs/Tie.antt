@@ -23,6 +23,7 @@ use Rattle.command.specs.Reading.{readOf, opensPicture, pictureOf}
 use Rattle.settings.specs.Settings.{toMode, atLevel}
 use Rattle.effect.specs.Obey.{Obeys, core}
 use Rattle.record.specs.declared.Record.{Record}
+use Rattle.places.specs.Places.{countAfter, asked, emptied}
 use Rattle.reader.specs.declared.Fed.{Fed}
 use Rattle.reader.specs.Stream.{together, lentOf, fedOf, answersAfter}
 use Rattle.lists.specs.Every.{every}
@@ -73,10 +74,14 @@ use Rattle.settings.proofs.at_level as AtLevel
 use Rattle.settings.proofs.at_level.Reads as AtLevelReads
 use Rattle.effect.proofs.obey as Obey
 use Rattle.effect.proofs.obey.Reads as ObeyReads
-use Rattle.reader.proofs.feed as Feed
-use Rattle.reader.proofs.feed.Reads as FeedReads
+use Rattle.places.proofs.ask as Ask
+use Rattle.places.proofs.ask.Reads as AskReads
+use Rattle.places.proofs.empty_from as EmptyFrom
+use Rattle.places.proofs.empty_from.Reads as EmptyFromReads
 use Rattle.reader.proofs.feed_lent as FeedLent
 use Rattle.reader.proofs.feed_lent.Reads as FeedLentReads
+use Rattle.stream.proofs.feed as Feed
+use Rattle.stream.proofs.feed.Reads as FeedReads
 use Rattle.measure.specs.Mark.{markOf}
 use Rattle.measure.specs.Calls.{fedInCalls, answersInCalls, goodOnes}
 use Rattle.measure.proofs.measure_one_call as OneCall
@@ -222,11 +227,13 @@ at-level-says κs a q e w = refl
 pub obey-says : Says Obey.ended ObeyReads.ensures (λ κs a q e. Obeys (now (a .1 .1 .1 .0)) (core (a .0) (now (a .1 .0)) (now (a .1 .1 .0))) q (core (q .panel) (now (e .1 .0)) (now (e .1 .1 .0))))
 obey-says κs a q e w = refl
 
--- reader::feed
-pub feed-says : SaysBoth Feed.ended FeedReads.ensures
-    (λ κs a q e. q ≡ fedOf (a .0) (now (a .1 .0)) (length (now (a .1 .1 .0))))
-    (λ κs a q e. now (e .1 .1 .0) ≡ answersAfter (a .0) (now (a .1 .0)) (now (a .1 .1 .0)))
-feed-says κs a q e w = refl
+-- places::ask
+pub ask-says : SaysBoth Ask.ended AskReads.ensures (λ κs a q e. q ≡ countAfter (length (now (a .0))) (a .1 .0)) (λ κs a q e. now (e .0) ≡ asked (now (a .0)) (a .1 .0))
+ask-says κs a q e w = refl
+
+-- places::empty_from
+pub empty-from-says : Says EmptyFrom.ended EmptyFromReads.ensures (λ κs a q e. now (e .0) ≡ emptied (now (a .0)) (a .1 .0))
+empty-from-says κs a q e w = refl
 
 -- reader::feed_lent: the same call, of the record that the small fields and the lent arrays make
 abbrev given : (κs : Lfts (FeedLent.ended .signature .lifetimes)) → ArgsD (FeedLent.ended .signature) κs → Record
@@ -242,6 +249,12 @@ pub feed-lent-says : SaysFive FeedLent.ended FeedLentReads.ensures
     (λ κs a q e. now (e .1 .1 .1 .0) ≡ called κs a .record .frame .bytes)
     (λ κs a q e. now (e .1 .1 .1 .1 .1 .0) ≡ answersAfter (given κs a) (now (a .1 .1 .1 .1 .0)) (now (a .1 .1 .1 .1 .1 .0)))
 feed-lent-says κs a q e w = refl
+
+-- stream::feed
+pub feed-says : SaysBoth Feed.ended FeedReads.ensures
+    (λ κs a q e. q ≡ fedOf (a .0) (now (a .1 .0)) (length (now (a .1 .1 .0))))
+    (λ κs a q e. now (e .1 .1 .0) ≡ answersAfter (a .0) (now (a .1 .0)) (now (a .1 .1 .0)))
+feed-says κs a q e w = refl
 
 -- keying::all_listed
 pub all-listed-says : Says AllListed.ended AllListedReads.ensures (λ κs a q e. q ≡ every listed (now (a .0)))

@@ -49,10 +49,14 @@ use Rattle.settings.proofs.at_level as AtLevel
 use Rattle.settings.proofs.at_level.Reads as AtLevelReads
 use Rattle.effect.proofs.obey as Obey
 use Rattle.effect.proofs.obey.Reads as ObeyReads
-use Rattle.reader.proofs.feed as Feed
-use Rattle.reader.proofs.feed.Reads as FeedReads
+use Rattle.places.proofs.ask as Ask
+use Rattle.places.proofs.ask.Reads as AskReads
+use Rattle.places.proofs.empty_from as EmptyFrom
+use Rattle.places.proofs.empty_from.Reads as EmptyFromReads
 use Rattle.reader.proofs.feed_lent as FeedLent
 use Rattle.reader.proofs.feed_lent.Reads as FeedLentReads
+use Rattle.stream.proofs.feed as Feed
+use Rattle.stream.proofs.feed.Reads as FeedReads
 use Rattle.measure.proofs.measure_one_call as OneCall
 use Rattle.measure.proofs.measure_one_call.Reads as OneCallReads
 use Rattle.measure.proofs.measure_short_calls as ShortCalls
@@ -177,9 +181,13 @@ opens-picture-one κs a q q′ e e′ p p′ = two-equal p p′
 pub read-picture-one : OneResult ReadPicture.ended ReadPictureReads.Learnt
 read-picture-one κs a q q′ e e′ p p′ = two-equal p p′
 
--- reader::feed
-pub feed-one : OneEnd Feed.ended (List ℕ) FeedReads.Learnt (λ κs e. now (e .1 .1 .0))
-feed-one κs a q q′ e e′ p p′ = (two-equal (p .0) (p′ .0), two-equal (p .1) (p′ .1))
+-- places::ask
+pub ask-one : OneEnd Ask.ended (List ℕ) AskReads.Learnt (λ κs e. now (e .0))
+ask-one κs a q q′ e e′ p p′ = (two-equal (p .0) (p′ .0), two-equal (p .1) (p′ .1))
+
+-- places::empty_from
+pub empty-from-one : OneEnd EmptyFrom.ended (List ℕ) EmptyFromReads.Learnt (λ κs e. now (e .0))
+empty-from-one κs a q q′ e e′ p p′ = (refl, two-equal p p′)
 
 -- reader::feed_lent: text, picture, the frame's bytes and the answers
 pub feed-lent-one : OneEnd FeedLent.ended (List ℕ × List ℕ × List ℕ × List ℕ) FeedLentReads.Learnt (λ κs e. (now (e .1 .0), now (e .1 .1 .0), now (e .1 .1 .1 .0), now (e .1 .1 .1 .1 .1 .0)))
@@ -187,6 +195,10 @@ feed-lent-one κs a q q′ e e′ p p′ = (
   two-equal (p .0) (p′ .0),
   λ j. (two-equal (p .1 .0) (p′ .1 .0) j, two-equal (p .1 .1 .0) (p′ .1 .1 .0) j, two-equal (p .1 .1 .1 .0) (p′ .1 .1 .1 .0) j, two-equal (p .1 .1 .1 .1) (p′ .1 .1 .1 .1) j),
 )
+
+-- stream::feed
+pub feed-one : OneEnd Feed.ended (List ℕ) FeedReads.Learnt (λ κs e. now (e .1 .1 .0))
+feed-one κs a q q′ e e′ p p′ = (two-equal (p .0) (p′ .0), two-equal (p .1) (p′ .1))
 
 -- keying::all_listed
 pub all-listed-one : OneResult AllListed.ended AllListedReads.Learnt

@@ -768,7 +768,7 @@ fn set_call(r: Record, words: &[u8]) -> Record {
 }
 
 fn feed_into(r: Record, bytes: &[u8], buffer: &mut [u8]) -> Record {
-    let fed = reader::feed(r, bytes, buffer);
+    let fed = stream::feed(r, bytes, buffer);
     let answer = fed.answer;
     say_counts(b"F", answer, fed.used, fed.written, buffer);
     shown(fed.record)

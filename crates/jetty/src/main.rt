@@ -39,7 +39,7 @@ struct Shown {
 // One call, with room for every answer that these frames can get.
 fn send(r: Record, bytes: &[u8]) -> Shown {
     let mut answers = [0u8; 8];
-    let fed = reader::feed(r, bytes, &mut answers);
+    let fed = stream::feed(r, bytes, &mut answers);
     let after = fed.record;
     Shown {
         record: after,

@@ -22,7 +22,7 @@ fn one_call(r: Record, bytes: &[u8]) -> Fed
     ensures { λ f. ⌜ (inRange r ≡ true → inRange (f .record) ≡ true) ⌝ }
 {
     let mut answers = [0u8; ROOM];
-    reader::feed(r, bytes, &mut answers)
+    stream::feed(r, bytes, &mut answers)
 }
 
 // The count stops at its type's end rather than run over.

@@ -87,7 +87,7 @@ pub extern "C" fn measure_one_call(s: &[u8], answers: &mut [u8]) -> u64
     ensures same { λ r. ⌜ r ≡ markOf (fedOf powerOn (now (s .entry)) (length (now (answers .entry)))) ⌝ }
     ensures buffer { λ _. ⌜ now (answers .exit) ≡ answersAfter powerOn (now (s .entry)) (now (answers .entry)) ⌝ }
 {
-    mark(reader::feed(Record::power_on(), s, answers))
+    mark(stream::feed(Record::power_on(), s, answers))
 }
 
 // What a call on lent arrays left, as one by value hands it back.

@@ -26,7 +26,8 @@ use Rattle.effect.specs.Core.{Core, coreOf}
 use Rattle.effect.specs.Keeps.{CoreInRange, core-of-record, record-of-core, obey-keeps, store-keeps}
 use Rattle.reader.specs.declared.Small.{Small}
 use Rattle.reader.specs.declared.Done.{Done as ReadDone}
-use Rattle.reader.specs.Stream.{handset, keptFrame, stateOf, recordOf, together, standing, emptied, fedBy, fedOf, answersAfter, Ready, Reads}
+use Rattle.places.specs.Places.{emptied}
+use Rattle.reader.specs.Stream.{handset, keptFrame, stateOf, recordOf, together, standing, fedBy, fedOf, answersAfter, Ready, Reads}
 use Rattle.reader.specs.Turns.{put-together}
 use Rattle.reader.specs.Frames.{places-of, frame-read, frame-back, frame-kept, frame-same}
 

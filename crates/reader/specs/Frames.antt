@@ -15,7 +15,8 @@ use Rattle.lists.specs.Padded.{padded, length-padded, held}
 use Rattle.record.specs.declared.Frame.{Frame as KeptFrame}
 use Rattle.record.specs.Range.{isFrameByte, isUnused, frameInRange}
 use Rattle.parting.specs.Rules.{Body, empty, collect, Frame, noFrame, openFrame, overlong, limit, FrameInRange}
-use Rattle.reader.specs.Stream.{keptFrame, frameIn, emptied, Fits}
+use Rattle.places.specs.Places.{emptied-of}
+use Rattle.reader.specs.Stream.{keptFrame, frameIn, Fits}
 use Rattle.reader.specs.Turns.{coded}
 
 -- A body of a frame is bytes that the record's frame may hold, and the other way round.
@@ -101,7 +102,6 @@ frame-kept overlong h = refl
 
 -- A record's frame in range, read and kept again, is itself.
 pub frame-same : (f : KeptFrame) → frameInRange f ≡ true → keptFrame (frameIn (f .state) (f .len) (f .bytes)) ≡ f
-unfolding emptied
 frame-same f h =
     let places = places-of f h in
     let rest : length (drop (f .len) (f .bytes)) ≡ limit - f .len = length-drop (f .len) (f .bytes) ∙ ap (λ (n : ℕ). n - f .len) (places .fits .full) in
@@ -109,4 +109,4 @@ frame-same f h =
     let whole : take (f .len) (f .bytes) ++ replicate (limit - f .len) 0 ≡ f .bytes =
     ap (λ (t : List ℕ). take (f .len) (f .bytes) ++ t) (sym zeros) ∙ take-append-drop (f .len) (f .bytes)
     in
-    sym (coded (f .state) (f .len) (f .bytes) (places .fits)) ∙ (λ j. record { state = f .state; len = f .len; bytes = whole j })
+    sym (coded (f .state) (f .len) (f .bytes) (places .fits)) ∙ (λ j. record { state = f .state; len = f .len; bytes = (emptied-of (f .bytes) (f .len) (places .fits .full) ∙ whole) j })

@@ -95,9 +95,6 @@ columnAfter column = cond (ltb column 16) (column + 1) column
 abbrev pub textAfter : List ℕ → ℕ → ℕ → ℕ → List ℕ
 textAfter text row column b = cond (ltb column 16) (set text (row * 16 + column) b) text
 
-unfoldable pub emptied : List ℕ → ℕ → List ℕ
-emptied bytes len = take len bytes ++ replicate (limit - len) 0
-
 -- the state that the loop's locals stand for
 abbrev pub standing : Panel → List ℕ → List ℕ → ℕ → ℕ → List ℕ → State Core
 standing panel text picture state len bytes = record { core = core panel text picture; frame = frameIn state len bytes }

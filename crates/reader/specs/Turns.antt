@@ -32,8 +32,9 @@ use Rattle.effect.specs.Effect.{storeText}
 use Rattle.command.specs.Reading.{orderOf}
 use Rattle.effect.specs.Obey.{obeyOrder, isGood, core, Obeys}
 use Rattle.effect.specs.Keeps.{CoreInRange, obey-keeps, store-keeps}
+use Rattle.places.specs.Places.{emptied, emptied-of}
 use Rattle.reader.specs.declared.Done.{Done}
-use Rattle.reader.specs.Stream.{handset, keptFrame, frameIn, columnAfter, textAfter, collecting, emptied, together, standing, recordOf, quietly, asking, Fits, Closes, Reads}
+use Rattle.reader.specs.Stream.{handset, keptFrame, frameIn, columnAfter, textAfter, collecting, together, standing, recordOf, quietly, asking, Fits, Closes, Reads}
 
 -- the frame that the locals show
 shows-noFrame : (state len : ℕ) (bs : List ℕ) → state ≡ 0 → frameIn state len bs ≡ noFrame
@@ -192,8 +193,8 @@ fits-open {state} {len} {bs} z k = record { known = omega arith; short = k .shor
 
 -- the record put together is the code of the state
 pub coded : (state len : ℕ) (bs : List ℕ) → Fits state len bs → record { state = state; len = len; bytes = emptied bs len } ≡ keptFrame (frameIn state len bs)
-unfolding emptied padded
-coded state len bs k = go (eqb state 0) (eqb state 1) refl refl
+unfolding padded
+coded state len bs k = ap (λ (x : List ℕ). record { state = state; len = len; bytes = x }) (emptied-of bs len (k .full)) ∙ go (eqb state 0) (eqb state 1) refl refl
   where
     empty : (n : ℕ) → state ≡ n → len ≡ 0 → _≡_ {A = KeptFrame} (record { state = state; len = len; bytes = take len bs ++ replicate (limit - len) 0 }) (record { state = n; len = 0; bytes = padded limit [] })
     empty n e z = λ j. record { state = e j; len = z j; bytes = take (z j) bs ++ replicate (limit - z j) 0 }
@@ -215,19 +216,6 @@ pub put-together : {start : State Core} {bytes before : List ℕ} {done : Done} 
     → together (record { panel = done .panel; held = held; state = done .state; len = done .len }) t g (emptied fr (done .len)) ≡ recordOf held (run handset start bytes (length before) .state)
 put-together {done = done} {t = t} {g = g} {fr = fr} held k =
     ap (λ (y : KeptFrame). record { panel = done .panel; text = t; picture = g; held = held; frame = y }) (coded (done .state) (done .len) fr (k .fits)) ∙ ap (recordOf held) (k .account .state)
-
--- blanking, a place at a time
-pub blank-more : (bs : List ℕ) (i : ℕ) → i < limit → length bs ≡ limit → emptied bs i ≡ emptied (set bs i 0) (i + 1)
-unfolding emptied
-blank-more bs i l f =
-    ap (λ (k : ℕ). take i bs ++ replicate k 0) {x = limit - i} {y = suc (limit - (i + 1))} (omega arith)
-    ∙ sym (append-assoc (take i bs) (0 ∷ []) (replicate (limit - (i + 1)) 0))
-    ∙ ap (λ (x : List ℕ). x ++ replicate (limit - (i + 1)) 0) (sym (ap (λ (k : ℕ). take k (set bs i 0)) (add-one i) ∙ take-suc-set bs i 0 (omega (arith, f, l))))
-
-pub blank-end : (bs : List ℕ) (i : ℕ) → limit ≤ i → i ≤ limit → length bs ≡ limit → emptied bs i ≡ bs
-unfolding emptied
-blank-end bs i l k f =
-    ap (λ (n : ℕ). take i bs ++ replicate n 0) {x = limit - i} {y = 0} (omega arith) ∙ append-nil (take i bs) ∙ take-all i bs (omega (arith, f, l))
 
 -- what holds at the head of the loop: the loop's account so far, and the locals in their ranges
 pub record Going (bytes before : List ℕ) (s : State Core) (answers : List ℕ) (p : Panel) (t g : List ℕ) (state len : ℕ) (fr : List ℕ) (i w : ℕ) : Type 0 where

@@ -1,12 +1,11 @@
 // The stream call: bytes in, the record and question marks out. It is the parting's run at the handset's meaning.
-// It is done on lent arrays, in place, so that a short call copies nothing large; the call on a record by value goes through it.
+// It is done on lent arrays, in place, so that a short call copies nothing large; `stream` has the same call on a record by value.
 ghost use mathlib.Core.Path.{_≡_};
 ghost use Prim.Native.Nat.{_≤_, _<_, _+_};
-ghost use lib.ListN.{length, getD, set};
-ghost use Rattle.lists.specs.Codes.{blank, questionMark};
-ghost use Rattle.parting.specs.Rules.{limit};
+ghost use lib.ListN.{length, getD};
+ghost use Rattle.lists.specs.Codes.{blank};
 ghost use Rattle.reader.specs.Turns.{Stores};
-ghost use Rattle.reader.specs.Stream.{columnAfter, textAfter, emptied, together, lentOf, standing, fedOf, answersAfter, Fits, Ready, Closes, Reads};
+ghost use Rattle.reader.specs.Stream.{columnAfter, textAfter, together, lentOf, standing, fedOf, answersAfter, Fits, Ready, Closes, Reads};
 use effect::Obeyed;
 use record::Answer;
 use record::Frame;
@@ -19,8 +18,6 @@ const ESCAPE: u8 = 0x1B;
 const CARRIAGE_RETURN: u8 = 0x0D;
 
 const BLANK: u8 = 0x20;
-
-const QUESTION_MARK: u8 = b'?';
 
 // The three states of the record's frame.
 const NO_FRAME: u8 = 0;
@@ -78,27 +75,6 @@ fn store(text: &mut [u8; 80], row: u8, column: u8, b: u8) -> u8
         return column + 1;
     }
     column
-}
-
-// Zero in every place from len on.
-fn empty_from(bytes: &mut [u8; 250], len: usize)
-    requires { ⌜ (len ≤ 250) × (length (now bytes) ≡ 250) ⌝ }
-    ensures { λ _. ⌜ now (bytes .exit) ≡ emptied (now (bytes .entry)) len ⌝ }
-{
-    let mut i = len;
-    while i < 250 {
-        bytes[i] = 0;
-        i += 1;
-    }
-}
-
-// One question mark in the next place: how many answers there are then.
-fn ask(answers: &mut [u8], w: usize) -> usize
-    requires { ⌜ w < length (now answers) ⌝ }
-    ensures { λ r. ⌜ (r ≡ w + 1) × (now (answers .exit) ≡ set (now (answers .entry)) w questionMark) ⌝ }
-{
-    answers[w] = QUESTION_MARK;
-    w + 1
 }
 
 // Where a run of text bytes ends, and the column after it.
@@ -185,7 +161,7 @@ fn read(
         }
         if b == ESCAPE {
             if w < answers.len() {
-                w = ask(answers, w);
+                w = places::ask(answers, w);
                 state = OPEN;
                 len = 0;
                 i += 1;
@@ -210,7 +186,7 @@ fn read(
                 continue;
             }
             if w < answers.len() {
-                w = ask(answers, w);
+                w = places::ask(answers, w);
                 state = NO_FRAME;
                 len = 0;
                 i += 1;
@@ -275,7 +251,7 @@ pub fn feed_lent(
             bytes,
             answers,
         );
-        empty_from(frame, d.len);
+        places::empty_from(frame, d.len);
         let after = d.panel;
         return FedLent {
             answer: Answer::Done,
@@ -294,52 +270,5 @@ pub fn feed_lent(
         small: small,
         used: 0,
         written: 0,
-    }
-}
-
-// The record put together again.
-fn whole(small: Small, text: [u8; 80], picture: [u8; 672], bytes: [u8; 250]) -> Record
-    ensures { λ r. ⌜ r ≡ together small text picture bytes ⌝ }
-{
-    let panel = small.panel;
-    let held = small.held;
-    Record {
-        panel: panel,
-        text: text,
-        picture: picture,
-        held: held,
-        frame: Frame {
-            state: small.state,
-            len: small.len,
-            bytes: bytes,
-        },
-    }
-}
-
-// The stream call, for any record at all.
-pub fn feed(r: Record, bytes: &[u8], answers: &mut [u8]) -> Fed
-    ensures same { λ f. ⌜ f ≡ fedOf r (now (bytes .entry)) (length (now (answers .entry))) ⌝ }
-    ensures buffer { λ f. ⌜ now (answers .exit) ≡ answersAfter r (now (bytes .entry)) (now (answers .entry)) ⌝ }
-{
-    let panel = r.panel;
-    let mut text = r.text;
-    let mut picture = r.picture;
-    let held = r.held;
-    let kept = r.frame;
-    let mut frame = kept.bytes;
-    let small = Small {
-        panel: panel,
-        held: held,
-        state: kept.state,
-        len: kept.len,
-    };
-    let f = feed_lent(small, &mut text, &mut picture, &mut frame, bytes, answers);
-    let answer = f.answer;
-    let after = f.small;
-    Fed {
-        answer: answer,
-        record: whole(after, text, picture, frame),
-        used: f.used,
-        written: f.written,
     }
 }

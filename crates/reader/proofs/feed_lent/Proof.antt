@@ -22,10 +22,10 @@ read-requires c κs = let a = c .before .before .before .before .before .before 
     rw (c .before .wide .ensures) (ready (together (a .small) (now (a .text)) (now (a .picture)) (now (a .frame))) (sym (c .before .before .before .before .before .before .in-range-lent .ensures) ∙ c .before .before .before .before .before .if1 .taken))
 
 empty-from-requires : tie.Need-empty-from-requires
-empty-from-requires c κs = let k = c .before .before .before .read .ensures .fits in (k .short, k .full)
+empty-from-requires c κs = search needs
 
-cast-t25 : tie.Need-cast-t25
-cast-t25 c = let k = c .before .before .before .before .before .before .read .ensures .fits .short in record { fits = omega arith }
+cast-t26 : tie.Need-cast-t26
+cast-t26 c = let k = c .before .before .before .before .before .before .read .ensures .fits .short in record { fits = omega arith }
 
 same-length : tie.Need-same-length
 same-length c = search needs
@@ -52,7 +52,7 @@ feed-lent-spec =
     wide-requires
     read-requires
     empty-from-requires
-    cast-t25
+    cast-t26
     same-length
     returns
     returns-2)

@@ -8,6 +8,7 @@ use Rattle.parting.specs.Reading.{step}
 use Rattle.turns.specs.Loop.{go-start, go-end}
 use Rattle.reader.specs.Stream.{handset, standing}
 use Rattle.reader.specs.Turns.{Going, go-quiet, go-loud, go-halt, same-core, fits-none, fits-more, fits-open, turn-open, turn-skip, loud-esc, turn-good, loud-bad, range-bad, turn-collect, turn-over, turn-lost, in-place}
+use Rattle.places.specs.Places.{asked-once}
 use borrow.Author.Needs.{needs}
 use Rattle.reader.proofs.read.Statement.{statement}
 use Rattle.reader.proofs.read.Tie as tie
@@ -55,7 +56,7 @@ loop-again-3 c = let v = c .before .before .before .before .before .loop in
     go-quiet (v .inv) (omega arith) (v .inv .range) (v .inv .fits) (turn-skip (v .panel) (v .text) (v .picture) (v .state) (v .len) (v .frame) _ (c .before .before .if1 .taken) (c .before .if2 .left) (c .if3 .left))
 
 ask-requires : tie.Need-ask-requires Inv-loop μ-loop
-ask-requires c κs = c .before .if5 .taken
+ask-requires c κs = search needs
 
 add-i-3 : tie.Need-add-i-3 Inv-loop μ-loop
 add-i-3 c = search needs
@@ -65,7 +66,7 @@ loop-less-4 c = search needs
 
 loop-again-4 : tie.Need-loop-again-4 Inv-loop μ-loop
 loop-again-4 c = let v = c .before .before .before .before .before .before .before .before .before .loop in
-    go-loud (v .inv) (let t = c .before .before .before .before .before .before .before .before .loop-test in omega arith) (v .inv .range) (fits-none 1 (v .frame) (omega arith) (v .inv .fits .full)) (loud-esc (v .panel) (v .text) (v .picture) (v .state) (v .len) (v .frame) _ (c .before .before .before .before .before .before .if1 .left) (c .before .before .before .before .before .if4 .taken)) (c .before .before .before .before .if5 .taken) (c .before .before .ask .ensures)
+    go-loud (v .inv) (let t = c .before .before .before .before .before .before .before .before .loop-test in omega arith) (v .inv .range) (fits-none 1 (v .frame) (omega arith) (v .inv .fits .full)) (loud-esc (v .panel) (v .text) (v .picture) (v .state) (v .len) (v .frame) _ (c .before .before .before .before .before .before .if1 .left) (c .before .before .before .before .before .if4 .taken)) (c .before .before .before .before .if5 .taken) (asked-once (v .answers) (v .w) (c .before .before .before .before .if5 .taken) (c .before .before .ask .ensures))
 
 same-length : tie.Need-same-length Inv-loop μ-loop
 same-length c = c .before .before .before .before .before .loop .inv .fits .full ∙ sym (c .before .before .before .before .before .before .before .before .before .pre .fits .full)
@@ -99,7 +100,7 @@ loop-again-5 c = let v = c .before .before .before .before .before .before .befo
     (turn-good (v .panel) (v .text) (v .picture) (v .state) (v .len) (v .frame) _ (c .before .before .before .before .before .before .before .before .if1 .left) (c .before .before .before .before .before .before .if6 .taken) k (c .before .if7 .taken))
 
 ask-requires-2 : tie.Need-ask-requires-2 Inv-loop μ-loop
-ask-requires-2 c κs = c .before .if8 .taken
+ask-requires-2 c κs = search needs
 
 add-i-5 : tie.Need-add-i-5 Inv-loop μ-loop
 add-i-5 c = let t = c .before .before .before .before .before .before .before .before .before .before .before .before .before .before .loop-test in let g = c .before .before .before .before .before .before .before .before .before .before .before .before .before .before .before .before .before .before .before .good .1 .1 .1 .1 .1 .1 .0 .0 in record { fits = omega arith }
@@ -111,7 +112,7 @@ loop-again-6 : tie.Need-loop-again-6 Inv-loop μ-loop
 loop-again-6 c = let v = c .before .before .before .before .before .before .before .before .before .before .before .before .before .before .before .loop in
     let k = c .before .before .before .before .before .before .close .ensures in
     go-loud (v .inv) (let t = c .before .before .before .before .before .before .before .before .before .before .before .before .before .before .loop-test in omega arith) (range-bad (v .panel) (v .text) (v .picture) (v .state) (v .len) (v .frame) _ (c .before .before .before .before .before .before .before .before .before .before .before .before .if1 .left) (c .before .before .before .before .before .before .before .before .before .before .if6 .taken) k (c .before .before .before .before .before .if7 .left) (v .inv .range)) (fits-none 0 (v .frame) (omega arith) (v .inv .fits .full))
-    (loud-bad (v .panel) (v .text) (v .picture) (v .state) (v .len) (v .frame) _ (c .before .before .before .before .before .before .before .before .before .before .before .before .if1 .left) (c .before .before .before .before .before .before .before .before .before .before .if6 .taken) k (c .before .before .before .before .before .if7 .left)) (c .before .before .before .before .if8 .taken) (c .before .before .ask2 .ensures)
+    (loud-bad (v .panel) (v .text) (v .picture) (v .state) (v .len) (v .frame) _ (c .before .before .before .before .before .before .before .before .before .before .before .before .if1 .left) (c .before .before .before .before .before .before .before .before .before .before .if6 .taken) k (c .before .before .before .before .before .if7 .left)) (c .before .before .before .before .if8 .taken) (asked-once (v .answers) (v .w) (c .before .before .before .before .if8 .taken) (c .before .before .ask2 .ensures))
 
 same-length-3 : tie.Need-same-length-3 Inv-loop μ-loop
 same-length-3 c = c .before .before .before .before .before .before .before .before .before .before .before .loop .inv .fits .full ∙ sym (c .before .before .before .before .before .before .before .before .before .before .before .before .before .before .before .pre .fits .full)

@@ -1,9 +1,9 @@
--- `reader::feed` keeps its promise. Assumes nothing.
+-- `stream::feed` keeps its promise. Assumes nothing.
 use mathlib.Core.Path.{_∙_}
 use Rattle.reader.specs.Stream.{lent-back}
 use borrow.Author.Needs.{needs}
-use Rattle.reader.proofs.feed.Statement.{statement}
-use Rattle.reader.proofs.feed.Tie as tie
+use Rattle.stream.proofs.feed.Statement.{statement}
+use Rattle.stream.proofs.feed.Tie as tie
 
 feed-lent-requires : tie.Need-feed-lent-requires
 feed-lent-requires c κs = search needs
