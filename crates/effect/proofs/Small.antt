@@ -12,44 +12,44 @@ use Rattle.command.specs.declared.Command.{Command}
 use Rattle.command.specs.declared.Command.the-variants.{Position, KeyTimes}
 
 -- a test that no number above 255 passes
-small-by : (test : ℕ → Bool) → ((n : ℕ) → 255 < n → test n ≡ false) → (n : ℕ) → test n ≡ true → n ≤ 255
+small-by : (test : ℕ → Bool) → ((n : ℕ) → 255 < n → test n ≡ false) → (n : ℕ) → test n ≡ true → n < 256
 small-by test high n h = cases (leb n 255) refl
   where
-    cases : (b : Bool) → leb n 255 ≡ b → n ≤ 255
-    cases true e = leb-true n 255 e
+    cases : (b : Bool) → leb n 255 ≡ b → n < 256
+    cases true e = omega (arith, leb-true n 255 e)
     cases false e = absurd (true≢false (sym h ∙ high n (leb-false n 255 e)))
 
-pub at-most : (most n : ℕ) → most ≤ 255 → leb n most ≡ true → n ≤ 255
+pub at-most : (most n : ℕ) → most ≤ 255 → leb n most ≡ true → n < 256
 at-most most n l h = omega (arith, leb-true n most h)
 
-pub small-mode : (n : ℕ) → (modeInRange n || isOverlay n) ≡ true → n ≤ 255
+pub small-mode : (n : ℕ) → (modeInRange n || isOverlay n) ≡ true → n < 256
 small-mode =
     small-by (λ n. modeInRange n || isOverlay n)
     (λ n h. simp (ne-eqb n 0 (λ e. omega arith), ne-eqb n 1 (λ e. omega arith), ne-eqb n 5 (λ e. omega arith), ne-eqb n 6 (λ e. omega arith), ne-eqb n 11 (λ e. omega arith), ne-eqb n 12 (λ e. omega arith), ne-eqb n 13 (λ e. omega arith)))
 
-pub small-icon-u : (n : ℕ) → iconUInRange n ≡ true → n ≤ 255
+pub small-icon-u : (n : ℕ) → iconUInRange n ≡ true → n < 256
 small-icon-u = small-by iconUInRange (λ n h. simp (ne-eqb n 0 (λ e. omega arith), ne-eqb n 1 (λ e. omega arith), ne-eqb n 255 (λ e. omega arith)))
 
 -- 0, or a number from the least to the most
-pub small-from : (least most n : ℕ) → most ≤ 255 → (eqb n 0 || (leb least n && leb n most)) ≡ true → n ≤ 255
+pub small-from : (least most n : ℕ) → most ≤ 255 → (eqb n 0 || (leb least n && leb n most)) ≡ true → n < 256
 small-from least most n l h = cases (eqb n 0) refl h
   where
-    cases : (b : Bool) → eqb n 0 ≡ b → (b || (leb least n && leb n most)) ≡ true → n ≤ 255
+    cases : (b : Bool) → eqb n 0 ≡ b → (b || (leb least n && leb n most)) ≡ true → n < 256
     cases true e k = omega (arith, eqb-true n 0 e)
     cases false e k = at-most most n l (both {a = leb least n} k .1)
 
 -- a row of a text mode and a column
-pub small-position : {k : Command} {row column : ℕ} (mode : ℕ) → k ≡ Position row column → commandInRange (rowsOf mode) k ≡ true → (row ≤ 255) × (column ≤ 255)
+pub small-position : {k : Command} {row column : ℕ} (mode : ℕ) → k ≡ Position row column → commandInRange (rowsOf mode) k ≡ true → (row < 256) × (column < 256)
 small-position {k} {row} {column} mode e h =
     let b = both {a = ltb row (rowsOf mode)} {b = isColumn column} (subst (λ (x : Command). commandInRange (rowsOf mode) x ≡ true) e h) in
     (cases (leb mode 1) (ltb-true row (rowsOf mode) (b .0)), at-most 15 column (omega arith) (b .1))
   where
-    cases : (b : Bool) → row < cond b 4 5 → row ≤ 255
+    cases : (b : Bool) → row < cond b 4 5 → row < 256
     cases true l = omega arith
     cases false l = omega arith
 
 -- Time1 and Time2
-pub small-times : {k : Command} {time1 time2 : ℕ} (rows : ℕ) → k ≡ KeyTimes time1 time2 → commandInRange rows k ≡ true → (time1 ≤ 255) × (time2 ≤ 255)
+pub small-times : {k : Command} {time1 time2 : ℕ} (rows : ℕ) → k ≡ KeyTimes time1 time2 → commandInRange rows k ≡ true → (time1 < 256) × (time2 < 256)
 small-times {k} {time1} {time2} rows e h =
     let b = both {a = time1InRange time1} {b = time2InRange time2} (subst (λ (x : Command). commandInRange rows x ≡ true) e h) in
     (at-most 50 time1 (omega arith) (both {a = leb 4 time1} (b .0) .1), small-from 4 50 time2 (omega arith) (b .1))

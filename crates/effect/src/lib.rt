@@ -7,26 +7,20 @@ ghost use Prim.Native.Nat.{ℕ, _≤_};
 ghost use lib.ListN.{length, take, drop};
 ghost use Rattle.lists.specs.Padded.{padded};
 ghost use Rattle.record.specs.Range.{rowsOf};
-ghost use Rattle.record.specs.With.{withShown, withLeft, withRight, withTimes, withBuzzer, withScreen, withIcons, withVolume, withBacklight, withDisplay, withIconS, withIconU, withIconF, withIconR, withIconP, withIconW, withLight, withDuration, withSecondsLeft, withKeypad};
 ghost use Rattle.command.specs.Order.{plain, label};
 ghost use Rattle.command.specs.InRange.{isPictureRow, commandInRange};
-ghost use Rattle.record.specs.Range.{auto};
-ghost use Rattle.settings.specs.Settings.{at};
-ghost use Rattle.effect.specs.Effect.{blanks, labelOf, muted, noSeconds, lightAt, keptIn, drawn, effect, carryOut};
+ghost use Rattle.effect.specs.Effect.{blanks, labelOf, muted, lightAt, keptIn, drawn, effect, carryOut};
 ghost use Rattle.effect.specs.Obey.{core, Obeys};
 use command::Command;
 use command::Reading;
 use command::Side;
 use picture::Columns;
 use record::Backlight;
-use record::Hundredths;
 use record::Icons;
 use record::Label;
 use record::Panel;
 use record::Screen;
 use record::Seconds;
-use record::Tenths;
-use record::Times;
 use record::Volume;
 
 // Which volume icon.
@@ -52,140 +46,7 @@ pub struct Obeyed {
     pub good: bool,
 }
 
-// The parts of the panel, each put back with nothing else changed.
-
-fn with_screen(p: Panel, screen: Screen) -> Panel
-    ensures same { λ r. ⌜ r ≡ withScreen p screen ⌝ }
-{
-    Panel {
-        screen: screen,
-        ..p
-    }
-}
-
-fn with_shown(p: Panel, shown: bool) -> Panel
-    ensures same { λ r. ⌜ r ≡ withShown p shown ⌝ }
-{
-    Panel { shown: shown, ..p }
-}
-
-fn with_left(p: Panel, label: Label) -> Panel
-    ensures same { λ r. ⌜ r ≡ withLeft p label ⌝ }
-{
-    Panel { left: label, ..p }
-}
-
-fn with_right(p: Panel, label: Label) -> Panel
-    ensures same { λ r. ⌜ r ≡ withRight p label ⌝ }
-{
-    Panel { right: label, ..p }
-}
-
-fn with_icons(p: Panel, icons: Icons) -> Panel
-    ensures same { λ r. ⌜ r ≡ withIcons p icons ⌝ }
-{
-    Panel { icons: icons, ..p }
-}
-
-fn with_volume(p: Panel, volume: Volume) -> Panel
-    ensures same { λ r. ⌜ r ≡ withVolume p volume ⌝ }
-{
-    Panel {
-        volume: volume,
-        ..p
-    }
-}
-
-fn with_backlight(p: Panel, backlight: Backlight) -> Panel
-    ensures same { λ r. ⌜ r ≡ withBacklight p backlight ⌝ }
-{
-    Panel {
-        backlight: backlight,
-        ..p
-    }
-}
-
-fn with_times(p: Panel, time1: u8, time2: u8) -> Panel
-    ensures same { λ r. ⌜ r ≡ withTimes p (record { time1 = record { 0 = time1 }; time2 = record { 0 = time2 } }) ⌝ }
-{
-    let times = Times {
-        time1: Tenths(time1),
-        time2: Tenths(time2),
-    };
-    Panel { times: times, ..p }
-}
-
-fn with_buzzer(p: Panel, value: u8) -> Panel
-    ensures same { λ r. ⌜ r ≡ withBuzzer p (record { 0 = value }) ⌝ }
-{
-    let buzzer = Hundredths(value);
-    Panel {
-        buzzer: buzzer,
-        ..p
-    }
-}
-
-// The screen.
-
-fn with_display(s: Screen, display: bool) -> Screen
-    ensures same { λ r. ⌜ r ≡ withDisplay s display ⌝ }
-{
-    Screen {
-        display: display,
-        ..s
-    }
-}
-
-fn at_position(s: Screen, row: u8, column: u8) -> Screen
-    ensures same { λ r. ⌜ r ≡ at s row column ⌝ }
-{
-    Screen {
-        row: row,
-        column: column,
-        ..s
-    }
-}
-
-// The icons.
-
-fn with_icon_s(i: Icons, n: u8) -> Icons
-    ensures same { λ r. ⌜ r ≡ withIconS i n ⌝ }
-{
-    Icons { s: n, ..i }
-}
-
-fn with_icon_u(i: Icons, n: u8) -> Icons
-    ensures same { λ r. ⌜ r ≡ withIconU i n ⌝ }
-{
-    Icons { u: n, ..i }
-}
-
-fn with_icon_f(i: Icons, n: u8) -> Icons
-    ensures same { λ r. ⌜ r ≡ withIconF i n ⌝ }
-{
-    Icons { f: n, ..i }
-}
-
-fn with_icon_r(i: Icons, n: u8) -> Icons
-    ensures same { λ r. ⌜ r ≡ withIconR i n ⌝ }
-{
-    Icons { r: n, ..i }
-}
-
-fn with_icon_p(i: Icons, n: u8) -> Icons
-    ensures same { λ r. ⌜ r ≡ withIconP i n ⌝ }
-{
-    Icons { p: n, ..i }
-}
-
-fn with_icon_w(i: Icons, n: u8) -> Icons
-    ensures same { λ r. ⌜ r ≡ withIconW i n ⌝ }
-{
-    Icons { w: n, ..i }
-}
-
-// The volume.
-
+// 1 mutes and shows, 0 takes mute away.
 fn with_mute(v: Volume, n: u8) -> Volume
     ensures same { λ r. ⌜ r ≡ muted v n ⌝ }
 {
@@ -199,62 +60,21 @@ fn with_mute(v: Volume, n: u8) -> Volume
     }
 }
 
-// The backlight.
-
-fn without_seconds(b: Backlight, mode: u8) -> Backlight
-    ensures same { λ r. ⌜ r ≡ noSeconds (withLight b mode) ⌝ }
-{
-    let left = Seconds(0);
-    Backlight {
-        mode: mode,
-        left: left,
-        ..b
-    }
-}
-
-fn with_duration(b: Backlight, n: u8) -> Backlight
-    ensures same { λ r. ⌜ r ≡ withDuration b (record { 0 = n }) ⌝ }
-{
-    let duration = Seconds(n);
-    Backlight {
-        duration: duration,
-        ..b
-    }
-}
-
+// 0 is off, another number is the duration.
 fn light_at(b: Backlight, n: u8) -> Backlight
     ensures same { λ r. ⌜ r ≡ lightAt b n ⌝ }
 {
+    let value = Seconds(n);
     match n {
-        0 => without_seconds(b, OFF),
-        1..=255 => with_duration(b, n),
-    }
-}
-
-// Only IEA starts the seconds; IES keeps those that are left.
-fn started(b: Backlight) -> Backlight
-    ensures same { λ r. ⌜ r ≡ withSecondsLeft (withLight b auto) (b .duration) ⌝ }
-{
-    let left = b.duration;
-    Backlight {
-        mode: AUTO,
-        left: left,
-        ..b
-    }
-}
-
-fn in_auto(b: Backlight) -> Backlight
-    ensures same { λ r. ⌜ r ≡ withLight b auto ⌝ }
-{
-    Backlight { mode: AUTO, ..b }
-}
-
-fn with_keypad(b: Backlight, keypad: bool) -> Backlight
-    ensures same { λ r. ⌜ r ≡ withKeypad b keypad ⌝ }
-{
-    Backlight {
-        keypad: keypad,
-        ..b
+        0 => Backlight {
+            mode: OFF,
+            left: value,
+            ..b
+        },
+        1..=255 => Backlight {
+            duration: value,
+            ..b
+        },
     }
 }
 
@@ -309,14 +129,6 @@ fn kept(row: u8, column: u8) -> u8
     column
 }
 
-// The number of a command in range, as the record holds it.
-fn byte(n: u16) -> u8
-    requires { ⌜ n ≤ 255 ⌝ }
-    ensures same { λ r. ⌜ r ≡ n ⌝ }
-{
-    n as u8
-}
-
 fn wide(b: u8) -> usize
     ensures same { λ r. ⌜ r ≡ b ⌝ }
 {
@@ -341,49 +153,87 @@ fn draw(picture: &mut [u8; 672], row: u8, columns: Columns)
     }
 }
 
-// What a command in range does.
-fn changed(p: Panel, text: &mut [u8; 80], c: Command) -> Panel
+// What a command in range does; its numbers are bytes.
+fn changed(mut p: Panel, text: &mut [u8; 80], c: Command) -> Panel
     requires { ⌜ commandInRange (rowsOf (p .screen .mode)) c ≡ true ⌝ }
     ensures same { λ r. ⌜ ((picture : List ℕ) → core r (now (text .exit)) picture ≡ effect (plain c) (core p (now (text .entry)) picture)) ⌝ }
 {
     match c {
-        Command::DisplayOff => with_screen(p, with_display(p.screen, false)),
-        Command::DisplayOn => with_screen(p, with_display(p.screen, true)),
-        Command::Mode(n) => with_screen(p, settings::to_mode(p.screen, byte(n))),
-        Command::CursorShown => with_shown(p, true),
-        Command::CursorHidden => with_shown(p, false),
+        Command::DisplayOff => p.screen.display = false,
+        Command::DisplayOn => p.screen.display = true,
+        Command::Mode(n) => p.screen = settings::to_mode(p.screen, n as u8),
+        Command::CursorShown => p.shown = true,
+        Command::CursorHidden => p.shown = false,
         Command::Clear => {
             clear(text);
-            with_screen(p, at_position(p.screen, 0, 0))
+            p.screen.row = 0;
+            p.screen.column = 0;
         }
-        Command::Position(row, column) => with_screen(
-            p,
-            at_position(p.screen, byte(row), byte(column)),
-        ),
-        Command::LabelsEmpty => with_right(with_left(p, no_label()), no_label()),
-        Command::IconS(n) => with_icons(p, with_icon_s(p.icons, byte(n))),
-        Command::IconU(n) => with_icons(p, with_icon_u(p.icons, byte(n))),
-        Command::IconF(n) => with_icons(p, with_icon_f(p.icons, byte(n))),
-        Command::IconR(n) => with_icons(p, with_icon_r(p.icons, byte(n))),
-        Command::IconP(n) => with_icons(p, with_icon_p(p.icons, byte(n))),
-        Command::IconW(n) => with_icons(p, with_icon_w(p.icons, byte(n))),
-        Command::Private(n) => with_volume(p, settings::at_level(p.volume, PRIVATE, byte(n))),
-        Command::Handsfree(n) => with_volume(p, settings::at_level(p.volume, HANDSFREE, byte(n))),
-        Command::HandsfreeOfNote(n) => with_volume(
-            p,
-            settings::at_level(p.volume, HANDSFREE, byte(n)),
-        ),
-        Command::Mute(n) => with_volume(p, with_mute(p.volume, byte(n))),
-        Command::KeyTimes(time1, time2) => with_times(p, byte(time1), byte(time2)),
-        Command::Buzzer(n) => with_buzzer(p, byte(n)),
-        Command::Light(n) => with_backlight(p, light_at(p.backlight, byte(n))),
-        Command::LightOn => with_backlight(p, without_seconds(p.backlight, ON)),
-        Command::LightAutoStart => with_backlight(p, started(p.backlight)),
-        Command::LightAuto => with_backlight(p, in_auto(p.backlight)),
-        Command::DefaultDuration => with_backlight(p, with_duration(p.backlight, DEFAULT_DURATION)),
-        Command::KeypadSet => with_backlight(p, with_keypad(p.backlight, true)),
-        Command::KeypadCleared => with_backlight(p, with_keypad(p.backlight, false)),
+        Command::Position(line, place) => {
+            let row = line as u8;
+            let column = place as u8;
+            p.screen.row = row;
+            p.screen.column = column;
+        }
+        Command::LabelsEmpty => {
+            p.left = no_label();
+            p.right = no_label();
+        }
+        Command::IconS(n) => {
+            let value = n as u8;
+            p.icons.s = value;
+        }
+        Command::IconU(n) => {
+            let value = n as u8;
+            p.icons.u = value;
+        }
+        Command::IconF(n) => {
+            let value = n as u8;
+            p.icons.f = value;
+        }
+        Command::IconR(n) => {
+            let value = n as u8;
+            p.icons.r = value;
+        }
+        Command::IconP(n) => {
+            let value = n as u8;
+            p.icons.p = value;
+        }
+        Command::IconW(n) => {
+            let value = n as u8;
+            p.icons.w = value;
+        }
+        Command::Private(n) => p.volume = settings::at_level(p.volume, PRIVATE, n as u8),
+        Command::Handsfree(n) => p.volume = settings::at_level(p.volume, HANDSFREE, n as u8),
+        Command::HandsfreeOfNote(n) => p.volume = settings::at_level(p.volume, HANDSFREE, n as u8),
+        Command::Mute(n) => p.volume = with_mute(p.volume, n as u8),
+        Command::KeyTimes(first, second) => {
+            let time1 = first as u8;
+            let time2 = second as u8;
+            p.times.time1.0 = time1;
+            p.times.time2.0 = time2;
+        }
+        Command::Buzzer(n) => {
+            let value = n as u8;
+            p.buzzer.0 = value;
+        }
+        Command::Light(n) => p.backlight = light_at(p.backlight, n as u8),
+        Command::LightOn => {
+            p.backlight.mode = ON;
+            p.backlight.left.0 = 0;
+        }
+        // Only IEA starts the seconds; IES keeps those that are left.
+        Command::LightAutoStart => {
+            let left = p.backlight.duration.0;
+            p.backlight.mode = AUTO;
+            p.backlight.left.0 = left;
+        }
+        Command::LightAuto => p.backlight.mode = AUTO,
+        Command::DefaultDuration => p.backlight.duration.0 = DEFAULT_DURATION,
+        Command::KeypadSet => p.backlight.keypad = true,
+        Command::KeypadCleared => p.backlight.keypad = false,
     }
+    p
 }
 
 // A command of the grammar: with a number out of range it is passed over.
@@ -397,15 +247,16 @@ fn obey_command(p: Panel, text: &mut [u8; 80], c: Command) -> Panel
     p
 }
 
-fn obey_label(p: Panel, side: Side, f: &[u8]) -> Panel
+fn obey_label(mut p: Panel, side: Side, f: &[u8]) -> Panel
     requires { ⌜ length (drop 3 (now f)) ≤ 7 ⌝ }
     ensures same { λ r. ⌜ ((text picture : List ℕ) → core r text picture ≡ effect (label side (drop 3 (now (f .entry)))) (core p text picture)) ⌝ }
 {
     let label = label_of(f);
     match side {
-        Side::Left => with_left(p, label),
-        Side::Right => with_right(p, label),
+        Side::Left => p.left = label,
+        Side::Right => p.right = label,
     }
+    p
 }
 
 // Obeys a frame: the text and the picture in place, the panel handed back.
