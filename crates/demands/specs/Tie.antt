@@ -11,7 +11,7 @@ use denote.Ref.{now}
 use denote.Triple.Clauses.{Ended, AtExit}
 use borrow.Fn.World.{World, Pr, ArgsD, ResD}
 use Rattle.record.specs.Answer.{numberOf}
-use Rattle.record.specs.Range.{rowsOf, lastColumnOf, inRange}
+use Rattle.record.specs.Range.{rowsOf, lastColumnOf, backlightInRange, inRange}
 use Rattle.record.specs.PowerOn.{timesAtPowerOn, startingWith, powerOn}
 use Rattle.ranges.specs.Parts.{joined}
 use Rattle.fields.specs.Fields.{withField}
@@ -46,6 +46,11 @@ use Rattle.record.proofs.Record.starting_with as StartingWith
 use Rattle.record.proofs.Record.starting_with.Reads as StartingWithReads
 use Rattle.record.proofs.Record.power_on as PowerOn
 use Rattle.record.proofs.Record.power_on.Reads as PowerOnReads
+use Rattle.small_ranges.specs.Small.{smallInRange}
+use Rattle.small_ranges.proofs.backlight_in_range as BacklightInRange
+use Rattle.small_ranges.proofs.backlight_in_range.Reads as BacklightInRangeReads
+use Rattle.small_ranges.proofs.small_in_range as SmallInRange
+use Rattle.small_ranges.proofs.small_in_range.Reads as SmallInRangeReads
 use Rattle.ranges.proofs.in_range as RecordInRange
 use Rattle.ranges.proofs.in_range.Reads as RecordInRangeReads
 use Rattle.ranges.proofs.in_range_lent as InRangeLent
@@ -169,6 +174,14 @@ record-starting-with-says κs a q e w = refl
 -- record::Record::power_on
 pub record-power-on-says : Says PowerOn.ended PowerOnReads.ensures (λ κs a q e. q ≡ powerOn)
 record-power-on-says κs a q e w = refl
+
+-- small_ranges::backlight_in_range
+pub backlight-in-range-says : Says BacklightInRange.ended BacklightInRangeReads.ensures (λ κs a q e. q ≡ backlightInRange (a .0))
+backlight-in-range-says κs a q e w = refl
+
+-- small_ranges::small_in_range
+pub small-in-range-says : Says SmallInRange.ended SmallInRangeReads.ensures (λ κs a q e. q ≡ smallInRange (a .0) (a .1 .0))
+small-in-range-says κs a q e w = refl
 
 -- ranges::in_range
 pub record-in-range-says : Says RecordInRange.ended RecordInRangeReads.ensures (λ κs a q e. q ≡ inRange (a .0))

@@ -21,6 +21,10 @@ use Rattle.record.proofs.Record.starting_with as StartingWith
 use Rattle.record.proofs.Record.starting_with.Reads as StartingWithReads
 use Rattle.record.proofs.Record.power_on as PowerOn
 use Rattle.record.proofs.Record.power_on.Reads as PowerOnReads
+use Rattle.small_ranges.proofs.backlight_in_range as BacklightInRange
+use Rattle.small_ranges.proofs.backlight_in_range.Reads as BacklightInRangeReads
+use Rattle.small_ranges.proofs.small_in_range as SmallInRange
+use Rattle.small_ranges.proofs.small_in_range.Reads as SmallInRangeReads
 use Rattle.ranges.proofs.in_range as RecordInRange
 use Rattle.ranges.proofs.in_range.Reads as RecordInRangeReads
 use Rattle.ranges.proofs.in_range_lent as InRangeLent
@@ -136,6 +140,14 @@ record-starting-with-one κs a q q′ e e′ p p′ = two-equal p p′
 -- record::Record::power_on
 pub record-power-on-one : OneResult PowerOn.ended PowerOnReads.Learnt
 record-power-on-one κs a q q′ e e′ p p′ = two-equal p p′
+
+-- small_ranges::backlight_in_range
+pub backlight-in-range-one : OneResult BacklightInRange.ended BacklightInRangeReads.Learnt
+backlight-in-range-one κs a q q′ e e′ p p′ = two-equal p p′
+
+-- small_ranges::small_in_range
+pub small-in-range-one : OneResult SmallInRange.ended SmallInRangeReads.Learnt
+small-in-range-one κs a q q′ e e′ p p′ = two-equal p p′
 
 -- ranges::in_range
 pub record-in-range-one : OneResult RecordInRange.ended RecordInRangeReads.Learnt

@@ -1,12 +1,12 @@
 // The seconds of the backlight: a call each second lowers those that are left.
 ghost use mathlib.Core.Path.{_≡_};
 ghost use Prim.Native.Nat.{_-_};
-ghost use Rattle.record.specs.Range.{backlightInRange};
 ghost use Rattle.light.specs.Seconds.{lowered, lightPassed, passed};
 use ranges::in_range;
 use record::Answer;
 use record::Backlight;
 use record::Record;
+use small_ranges::backlight_in_range;
 
 pub struct Passed {
     pub answer: Answer,
@@ -34,14 +34,6 @@ fn lower(b: Backlight) -> Backlight
     let left = one_less(b.left.0);
     next.left.0 = left;
     next
-}
-
-fn backlight_in_range(b: Backlight) -> bool
-    ensures { λ q. ⌜ q ≡ backlightInRange b ⌝ }
-{
-    (b.mode <= 2)
-        & ((1 <= b.duration.0) & (b.duration.0 <= 255))
-        & ((b.left.0 == 0) | (b.mode == 2))
 }
 
 // The core of the entry in place: all its branches are here.

@@ -2,18 +2,14 @@
 ghost use mathlib.Core.Path.{_≡_};
 ghost use Prim.Native.Nat.{_≤_};
 ghost use lib.ListN.{length};
-ghost use Rattle.record.specs.Range.{modeInRange, overlayInRange, cursorInRange, textInRange, labelInRange, pictureInRange, iconsInRange, volumeInRange, timesInRange, buzzerInRange, backlightInRange, heldInRange, frameInRange, inRange};
+ghost use Rattle.record.specs.Range.{textInRange, labelInRange, pictureInRange, frameInRange, inRange};
 ghost use Rattle.ranges.specs.Scan.{testOf, rightAt, filled};
 ghost use Rattle.ranges.specs.Parts.{joined};
-use record::Backlight;
 use record::Held;
-use record::Icons;
 use record::Label;
 use record::Panel;
 use record::Record;
-use record::Screen;
-use record::Times;
-use record::Volume;
+use small_ranges::small_in_range;
 
 const ESCAPE: u8 = 0x1B;
 
@@ -62,24 +58,6 @@ fn scan(s: &[u8], len: u8, place: Place) -> bool
     ok
 }
 
-fn mode_in_range(mode: u8) -> bool
-    ensures { λ r. ⌜ r ≡ modeInRange mode ⌝ }
-{
-    (mode == 0) | (mode == 1) | (mode == 5) | (mode == 6)
-}
-
-fn overlay_in_range(overlay: u8) -> bool
-    ensures { λ r. ⌜ r ≡ overlayInRange overlay ⌝ }
-{
-    (overlay == 0) | (overlay == 11) | (overlay == 12) | (overlay == 13)
-}
-
-fn cursor_in_range(s: Screen) -> bool
-    ensures { λ r. ⌜ r ≡ cursorInRange s ⌝ }
-{
-    (s.row < record::rows(s.mode)) & (s.column <= record::last_column(s.mode))
-}
-
 fn text_in_range(text: &[u8; 80]) -> bool
     ensures { λ r. ⌜ r ≡ textInRange (now (text .entry)) ⌝ }
 {
@@ -101,60 +79,13 @@ fn label_in_range(l: Label) -> bool
     (len <= 7) & scan(&l.codes, len, Place::Code)
 }
 
-fn icons_in_range(i: Icons) -> bool
-    ensures { λ r. ⌜ r ≡ iconsInRange i ⌝ }
-{
-    (i.s <= 1)
-        & ((i.u == 0) | (i.u == 1) | (i.u == 255))
-        & (i.f <= 6)
-        & (i.r <= 1)
-        & (i.p <= 19)
-        & (i.w <= 3)
-}
-
-fn volume_in_range(v: Volume) -> bool
-    ensures { λ r. ⌜ r ≡ volumeInRange v ⌝ }
-{
-    (v.which <= 2)
-        & (((v.which == 0) & (v.level == 0)) | ((v.which != 0) & (1 <= v.level) & (v.level <= 10)))
-        & ((v.which == 0) | !v.hidden)
-}
-
-fn times_in_range(t: Times) -> bool
-    ensures { λ r. ⌜ r ≡ timesInRange t ⌝ }
-{
-    (4 <= t.time1.0)
-        & (t.time1.0 <= 50)
-        & ((t.time2.0 == 0) | ((4 <= t.time2.0) & (t.time2.0 <= 50)))
-}
-
-fn buzzer_in_range(value: u8) -> bool
-    ensures { λ r. ⌜ r ≡ buzzerInRange value ⌝ }
-{
-    value <= 255
-}
-
-fn backlight_in_range(b: Backlight) -> bool
-    ensures { λ r. ⌜ r ≡ backlightInRange b ⌝ }
-{
-    (b.mode <= 2)
-        & ((1 <= b.duration.0) & (b.duration.0 <= 255))
-        & ((b.left.0 == 0) | (b.mode == 2))
-}
-
-fn held_in_range(h: Held) -> bool
-    ensures { λ r. ⌜ r ≡ heldInRange h ⌝ }
-{
-    (h.down & (h.key <= 18)) | (!h.down & (h.key == 0) & (h.tick.0 == 0) & !h.long)
-}
-
 fn frame_in_range(state: u8, len: u8, bytes: &[u8; 250]) -> bool
     ensures { λ r. ⌜ r ≡ frameInRange (record { state = state; len = len; bytes = now (bytes .entry) }) ⌝ }
 {
     (len <= 250) & (state <= 2) & ((state == 1) | (len == 0)) & scan(bytes, len, Place::FrameByte)
 }
 
-// Whether every field is within its range, in the order of document 01's table, for one who keeps the arrays elsewhere.
+// Whether every field is within its range, for one who keeps the arrays elsewhere.
 pub fn in_range_lent<'a>(
     panel: Panel,
     text: &'a [u8; 80],
@@ -166,19 +97,11 @@ pub fn in_range_lent<'a>(
 ) -> bool
     ensures same { λ b. ⌜ b ≡ inRange (joined panel (now (text .entry)) (now (picture .entry)) held state len (now (bytes .entry))) ⌝ }
 {
-    mode_in_range(panel.screen.mode)
-        & overlay_in_range(panel.screen.overlay)
-        & cursor_in_range(panel.screen)
+    small_in_range(panel, held)
         & text_in_range(text)
         & label_in_range(panel.left)
         & label_in_range(panel.right)
         & picture_in_range(picture)
-        & icons_in_range(panel.icons)
-        & volume_in_range(panel.volume)
-        & times_in_range(panel.times)
-        & buzzer_in_range(panel.buzzer.0)
-        & backlight_in_range(panel.backlight)
-        & held_in_range(held)
         & frame_in_range(state, len, bytes)
 }
 

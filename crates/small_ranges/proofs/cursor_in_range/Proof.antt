@@ -1,6 +1,6 @@
--- `ranges::cursor_in_range` keeps its promise. Assumes nothing.
-use Rattle.ranges.proofs.cursor_in_range.Statement.{statement}
-use Rattle.ranges.proofs.cursor_in_range.Tie as tie
+-- `small_ranges::cursor_in_range` keeps its promise. Assumes nothing.
+use Rattle.small_ranges.proofs.cursor_in_range.Statement.{statement}
+use Rattle.small_ranges.proofs.cursor_in_range.Tie as tie
 
 rows-requires : tie.Need-rows-requires
 rows-requires c κs = tt
