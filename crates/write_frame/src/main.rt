@@ -27,7 +27,6 @@
 //   help                        these lines, on standard error
 ghost use Prim.Native.Nat.{_≤_};
 ghost use lib.ListN.{length};
-use check::same;
 use command::Command;
 use command::Side;
 use libc::STDERR_FILENO;
@@ -38,105 +37,147 @@ use numeral::read_number;
 use record::Answer;
 use writer::Written;
 
-const LINE_FEED: u8 = 0x0A;
+const BLANK: u8 = b' ';
 
-const CARRIAGE_RETURN: u8 = 0x0D;
+const LINE_FEED: u8 = b'\n';
+
+const CARRIAGE_RETURN: u8 = b'\r';
 
 const LOWEST_CODE: u8 = 0x20;
 
-// Nothing says that the input ends, so its pieces are counted down.
-const MOST_PIECES: u64 = 18446744073709551615;
+// Past every place of a line, and past every count of digits; it is odd, as no count of whole columns is.
+const NOWHERE: usize = 0xFFFF_FFFF_FFFF_FFFF;
 
-// Why a line can't be taken.
-enum Reason {
+// Past every number of three digits.
+const NO_NUMBER: u16 = 1000;
+
+const LAST_ROW: u16 = 6;
+
+const MOST_COLUMNS: usize = 96;
+
+// Nothing says that the input ends, so its pieces are counted down.
+const MOST_PIECES: u64 = 0xFFFF_FFFF_FFFF_FFFF;
+
+// What became of a line: it is taken, or why it can't be.
+enum Outcome {
+    Taken,
     NoSuchCommand,
     NoNumber,
     OutOfRange,
     BadColumns,
     BadText,
-    TooLong,
 }
 
-// What the words of a line say.
-enum Said {
-    Order(Command),
-    Nothing(Reason),
+// A phrase, by its line in the table of phrases, and where the line that begins with it goes on.
+struct Found {
+    phrase: usize,
+    at: usize,
 }
 
-// A part of a line.
-struct Part {
-    from: usize,
+// A word as a number, and where it ends.
+struct Given {
+    number: u16,
     end: usize,
 }
 
-// Picture columns, if they are good.
-struct Columns {
-    good: bool,
-    len: usize,
-    bytes: [u8; 96],
-}
-
-// The line that is being read, and its number.
+// The number of the line that is being read, and how many of its bytes are held; NOWHERE of a line that is too long.
 struct Reading {
     number: u64,
-    used: usize,
-    long: bool,
-    line: [u8; 1024],
+    held: usize,
 }
+
+// Standard error.
 
 fn tell(words: &[u8]) {
     io::write_all(STDERR_FILENO, words);
 }
 
-fn tell_reason(reason: Reason) {
-    match reason {
-        Reason::NoSuchCommand => tell(b"no such command; the line help lists them"),
-        Reason::NoNumber => tell(b"a number of one to three digits is wanted"),
-        Reason::OutOfRange => tell(b"out of range"),
-        Reason::BadColumns => tell(b"wanted are 1 to 96 columns, two digits 0-9 A-F each"),
-        Reason::BadText => tell(b"a text has no code below 0x20"),
-        Reason::TooLong => tell(b"longer than 1024 bytes"),
-    }
-}
-
-fn refuse(number: u64, reason: Reason) {
+// A reason comes with its colon and its line feed, so that it is told in one piece.
+fn refuse(number: u64, reason: &[u8]) {
     tell(b"write_frame: line ");
     io::print_decimal(STDERR_FILENO, number);
-    tell(b": ");
-    tell_reason(reason);
-    tell(b"\n");
+    tell(reason);
 }
 
-fn help() {
-    tell(b"display on | display off\n");
-    tell(b"mode N                    text mode 0 1 5 6, or overlay 11 12 13\n");
-    tell(b"cursor show | cursor hide\n");
-    tell(b"clear                     all text blank, cursor at 0 0\n");
-    tell(b"at ROW COLUMN             the cursor: row 0-4, column 0-15\n");
-    tell(b"left TEXT | right TEXT    a label of at most 7 codes\n");
-    tell(b"labels empty\n");
-    tell(b"icon LETTER N             S 0-1, U 0 1 255, F 0-6, R 0-1, P 0-19, W 0-3\n");
-    tell(b"private N | handsfree N   the volume, 0-10\n");
-    tell(b"handsfree note N          the same in the note's spelling\n");
-    tell(b"mute N                    0-1\n");
-    tell(b"times N N                 4-50, and 0 or 4-50, in 100 ms\n");
-    tell(b"buzzer N                  0-255, in 10 ms\n");
-    tell(b"light N                   seconds, 1-255; 0 for off\n");
-    tell(b"light on | light off | light auto | light auto keep | light default\n");
-    tell(b"keypad on | keypad off\n");
-    tell(b"picture ROW COLUMNS       row 0-6; 1 to 96 columns, two digits 0-9 A-F each\n");
-    tell(b"text TEXT                 as it is, in no frame\n");
-    tell(b"help                      these lines\n");
+fn help() -> Outcome {
+    tell(
+        b"display on | display off\n\
+        mode N                    text mode 0 1 5 6, or overlay 11 12 13\n\
+        cursor show | cursor hide\n\
+        clear                     all text blank, cursor at 0 0\n\
+        at ROW COLUMN             the cursor: row 0-4, column 0-15\n\
+        left TEXT | right TEXT    a label of at most 7 codes\n\
+        labels empty\n\
+        icon LETTER N             S 0-1, U 0 1 255, F 0-6, R 0-1, P 0-19, W 0-3\n\
+        private N | handsfree N   the volume, 0-10\n\
+        handsfree note N          the same in the note's spelling\n\
+        mute N                    0-1\n\
+        times N N                 4-50, and 0 or 4-50, in 100 ms\n\
+        buzzer N                  0-255, in 10 ms\n\
+        light N                   seconds, 1-255; 0 for off\n\
+        light on | light off | light auto | light auto keep | light default\n\
+        keypad on | keypad off\n\
+        picture ROW COLUMNS       row 0-6; 1 to 96 columns, two digits 0-9 A-F each\n\
+        text TEXT                 as it is, in no frame\n\
+        help                      these lines\n",
+    );
+    Outcome::Taken
 }
 
-// The first place from here on that is a blank, or the first that is none.
+// Standard output.
+
+// What a writer wrote.
+fn send(room: &[u8], w: Written) -> Outcome {
+    let answer = w.answer;
+    let n = w.count;
+    let Answer::Done = answer else {
+        return Outcome::OutOfRange;
+    };
+    if n <= room.len() {
+        io::write_all(STDOUT_FILENO, &room[..n]);
+    }
+    Outcome::Taken
+}
+
+fn send_command(c: Command) -> Outcome {
+    let mut room = [0u8; 200];
+    let w = writer::write_command(c, &mut room);
+    send(&room, w)
+}
+
+fn send_label(side: Side, codes: &[u8]) -> Outcome {
+    let mut room = [0u8; 200];
+    let w = writer::write_label(side, codes, &mut room);
+    send(&room, w)
+}
+
+fn send_row(row: u8, columns: &[u8]) -> Outcome {
+    let mut room = [0u8; 200];
+    let w = writer::write_picture_row(row, columns, &mut room);
+    send(&room, w)
+}
+
+// A text goes out as it is.
+fn send_text(s: &[u8]) -> Outcome {
+    for i in 0..s.len() {
+        if s[i] < LOWEST_CODE {
+            return Outcome::BadText;
+        }
+    }
+    io::write_all(STDOUT_FILENO, s);
+    Outcome::Taken
+}
+
+// The words of a line.
+
+// The first place from here on that has a blank, or the first that has none.
 fn seek(s: &[u8], from: usize, blank: bool) -> usize
     requires { ⌜ from ≤ length (now s) ⌝ }
     ensures { λ r. ⌜ (from ≤ r) × (r ≤ length (now (s .entry))) ⌝ }
 {
     let mut i = from;
     while i < s.len() {
-        let here = s[i] == b' ';
+        let here = s[i] == BLANK;
         if here == blank {
             return i;
         }
@@ -145,214 +186,190 @@ fn seek(s: &[u8], from: usize, blank: bool) -> usize
     i
 }
 
-// The next word; an empty part where there is none.
-fn next_word(s: &[u8], from: usize) -> Part
-    requires { ⌜ from ≤ length (now s) ⌝ }
-    ensures { λ r. ⌜ (r .from ≤ r .end) × (r .end ≤ length (now (s .entry))) ⌝ }
-{
-    let start = seek(s, from, false);
-    let end = seek(s, start, true);
-    Part {
-        from: start,
-        end: end,
-    }
-}
-
-// Whether the words are these three; a word that is not there is empty.
-fn are(a: &[u8], b: &[u8], c: &[u8], first: &[u8], second: &[u8], third: &[u8]) -> bool {
-    same(a, first) & same(b, second) & same(c, third)
-}
-
-fn display_words(a: &[u8], b: &[u8], c: &[u8]) -> Said {
-    if are(a, b, c, b"display", b"on", b"") {
-        return Said::Order(Command::DisplayOn);
-    }
-    if are(a, b, c, b"display", b"off", b"") {
-        return Said::Order(Command::DisplayOff);
-    }
-    if are(a, b, c, b"cursor", b"show", b"") {
-        return Said::Order(Command::CursorShown);
-    }
-    if are(a, b, c, b"cursor", b"hide", b"") {
-        return Said::Order(Command::CursorHidden);
-    }
-    if are(a, b, c, b"clear", b"", b"") {
-        return Said::Order(Command::Clear);
-    }
-    if are(a, b, c, b"labels", b"empty", b"") {
-        return Said::Order(Command::LabelsEmpty);
-    }
-    Said::Nothing(Reason::NoSuchCommand)
-}
-
-fn light_words(a: &[u8], b: &[u8], c: &[u8]) -> Said {
-    if are(a, b, c, b"light", b"on", b"") {
-        return Said::Order(Command::LightOn);
-    }
-    if are(a, b, c, b"light", b"off", b"") {
-        return Said::Order(Command::Light(0));
-    }
-    if are(a, b, c, b"light", b"auto", b"") {
-        return Said::Order(Command::LightAutoStart);
-    }
-    if are(a, b, c, b"light", b"auto", b"keep") {
-        return Said::Order(Command::LightAuto);
-    }
-    if are(a, b, c, b"light", b"default", b"") {
-        return Said::Order(Command::DefaultDuration);
-    }
-    if are(a, b, c, b"keypad", b"on", b"") {
-        return Said::Order(Command::KeypadSet);
-    }
-    if are(a, b, c, b"keypad", b"off", b"") {
-        return Said::Order(Command::KeypadCleared);
-    }
-    Said::Nothing(Reason::NoSuchCommand)
-}
-
-// A command of one word and a number.
-fn with_number(a: &[u8], n: u16) -> Said {
-    if same(a, b"mode") {
-        return Said::Order(Command::Mode(n));
-    }
-    if same(a, b"private") {
-        return Said::Order(Command::Private(n));
-    }
-    if same(a, b"handsfree") {
-        return Said::Order(Command::Handsfree(n));
-    }
-    if same(a, b"mute") {
-        return Said::Order(Command::Mute(n));
-    }
-    if same(a, b"buzzer") {
-        return Said::Order(Command::Buzzer(n));
-    }
-    if same(a, b"light") {
-        return Said::Order(Command::Light(n));
-    }
-    Said::Nothing(Reason::NoSuchCommand)
-}
-
-// A command of one word and two numbers.
-fn with_numbers(a: &[u8], n: u16, m: u16) -> Said {
-    if same(a, b"at") {
-        return Said::Order(Command::Position(n, m));
-    }
-    if same(a, b"times") {
-        return Said::Order(Command::KeyTimes(n, m));
-    }
-    Said::Nothing(Reason::NoSuchCommand)
-}
-
-// A command of two words and a number.
-fn with_letter(a: &[u8], b: &[u8], n: u16) -> Said {
-    if same(a, b"handsfree") & same(b, b"note") {
-        return Said::Order(Command::HandsfreeOfNote(n));
-    }
-    if !same(a, b"icon") {
-        return Said::Nothing(Reason::NoSuchCommand);
-    }
-    if b.len() != 1 {
-        return Said::Nothing(Reason::NoSuchCommand);
-    }
-    let letter = b[0];
-    match letter {
-        b'S' => Said::Order(Command::IconS(n)),
-        b'U' => Said::Order(Command::IconU(n)),
-        b'F' => Said::Order(Command::IconF(n)),
-        b'R' => Said::Order(Command::IconR(n)),
-        b'P' => Said::Order(Command::IconP(n)),
-        b'W' => Said::Order(Command::IconW(n)),
-        _ => Said::Nothing(Reason::NoSuchCommand),
-    }
-}
-
-// Whether a command begins so that wants a number.
-fn wants_number(a: &[u8]) -> bool {
-    same(a, b"mode")
-        | same(a, b"private")
-        | same(a, b"handsfree")
-        | same(a, b"mute")
-        | same(a, b"buzzer")
-        | same(a, b"light")
-        | same(a, b"at")
-        | same(a, b"times")
-        | same(a, b"icon")
-}
-
-// A command with numbers.
-fn numbers(a: &[u8], b: &[u8], c: &[u8]) -> Said {
-    let second = read_number(b);
-    let third = read_number(c);
-    let Numeral::Value(n) = second else {
-        let Numeral::Value(m) = third else {
-            if wants_number(a) {
-                return Said::Nothing(Reason::NoNumber);
+// The place behind this sign, or behind all blanks for a blank; NOWHERE where another sign stands.
+fn behind_sign(line: &[u8], at: usize, sign: u8) -> usize {
+    if at < line.len() {
+        if line[at] == sign {
+            if sign == BLANK {
+                return seek(line, at, false);
             }
-            return Said::Nothing(Reason::NoSuchCommand);
-        };
-        return with_letter(a, b, m);
-    };
-    if c.len() == 0 {
-        if same(a, b"at") | same(a, b"times") | same(a, b"icon") {
-            return Said::Nothing(Reason::NoNumber);
+            return at + 1;
         }
-        return with_number(a, n);
     }
-    let Numeral::Value(m) = third else {
-        return Said::Nothing(Reason::NoNumber);
-    };
-    with_numbers(a, n, m)
+    NOWHERE
 }
 
-// What three words say.
-fn words(a: &[u8], b: &[u8], c: &[u8]) -> Said {
-    let display = display_words(a, b, c);
-    if let Said::Order(order) = display {
-        return Said::Order(order);
+// The place behind the one blank that ends a word; NOWHERE where the word goes on.
+fn behind_word(line: &[u8], at: usize) -> usize {
+    if at < line.len() {
+        if line[at] == BLANK {
+            return at + 1;
+        }
+        return NOWHERE;
     }
-    let light = light_words(a, b, c);
-    if let Said::Order(order) = light {
-        return Said::Order(order);
-    }
-    numbers(a, b, c)
+    at
 }
 
-// What a writer wrote, to standard output.
-fn send(room: &[u8], w: Written, number: u64) {
-    let answer = w.answer;
-    let n = w.count;
-    let Answer::Done = answer else {
-        refuse(number, Reason::OutOfRange);
-        return;
-    };
-    if n <= room.len() {
-        io::write_all(STDOUT_FILENO, &room[..n]);
+// The first of these phrases that a line has from this place on. A line feed ends each phrase.
+fn find(phrases: &[u8], line: &[u8], start: usize) -> Found
+    ensures { λ r. ⌜ r .at ≤ length (now (line .entry)) ⌝ }
+{
+    let mut phrase = 0;
+    let mut at = start;
+    for i in 0..phrases.len() {
+        let sign = phrases[i];
+        if sign == LINE_FEED {
+            let tail = behind_word(line, at);
+            if tail <= line.len() {
+                return Found {
+                    phrase: phrase,
+                    at: tail,
+                };
+            }
+            phrase += 1;
+            at = start;
+            continue;
+        }
+        at = behind_sign(line, at, sign);
+    }
+    Found {
+        phrase: phrase,
+        at: 0,
     }
 }
 
-fn send_command(c: Command, number: u64) {
-    let mut room = [0u8; 200];
-    let w = writer::write_command(c, &mut room);
-    send(&room, w, number);
-}
-
-fn send_label(side: Side, codes: &[u8], number: u64) {
-    let mut room = [0u8; 200];
-    let w = writer::write_label(side, codes, &mut room);
-    send(&room, w, number);
-}
-
-fn send_row(row: u8, columns: Columns, number: u64) {
-    let len = columns.len;
-    let bytes = columns.bytes;
-    if 96 < len {
-        return;
+// A number, if one is wanted: 0 and no word where none is.
+fn next_number(words: &[u8], from: usize, wanted: bool) -> Given
+    requires { ⌜ from ≤ length (now words) ⌝ }
+    ensures { λ r. ⌜ r .end ≤ length (now (words .entry)) ⌝ }
+{
+    if !wanted {
+        return Given {
+            number: 0,
+            end: from,
+        };
     }
-    let mut room = [0u8; 200];
-    let w = writer::write_picture_row(row, &bytes[..len], &mut room);
-    send(&room, w, number);
+    let start = seek(words, from, false);
+    let end = seek(words, start, true);
+    let numeral = read_number(&words[start..end]);
+    match numeral {
+        Numeral::None => Given {
+            number: NO_NUMBER,
+            end: end,
+        },
+        Numeral::Value(n) => Given {
+            number: n,
+            end: end,
+        },
+    }
 }
+
+// Commands.
+
+// The table of phrases. A phrase is known by its line, counted from 0: behind 0 to 3 stands a text, 5 to 17 want no number, 18 to
+// 30 want one, 31 and 32 two. Of phrases that begin with the same words the longest comes first.
+fn find_phrase(line: &[u8], start: usize) -> Found
+    ensures { λ r. ⌜ r .at ≤ length (now (line .entry)) ⌝ }
+{
+    find(
+        b"left\n\
+        right\n\
+        text\n\
+        picture\n\
+        help\n\
+        display off\n\
+        display on\n\
+        cursor show\n\
+        cursor hide\n\
+        clear\n\
+        labels empty\n\
+        light on\n\
+        light off\n\
+        light auto keep\n\
+        light auto\n\
+        light default\n\
+        keypad on\n\
+        keypad off\n\
+        mode\n\
+        icon S\n\
+        icon U\n\
+        icon F\n\
+        icon R\n\
+        icon P\n\
+        icon W\n\
+        private\n\
+        handsfree note\n\
+        handsfree\n\
+        mute\n\
+        buzzer\n\
+        light\n\
+        at\n\
+        times\n",
+        line,
+        start,
+    )
+}
+
+// How many numbers a phrase of the table wants.
+fn wanted(phrase: usize) -> u8 {
+    match phrase {
+        18..=30 => 1,
+        31..=32 => 2,
+        _ => 0,
+    }
+}
+
+// The command of a phrase of the table and its numbers.
+fn command_of(phrase: usize, n: u16, m: u16) -> Command {
+    match phrase {
+        5 => Command::DisplayOff,
+        6 => Command::DisplayOn,
+        7 => Command::CursorShown,
+        8 => Command::CursorHidden,
+        9 => Command::Clear,
+        10 => Command::LabelsEmpty,
+        11 => Command::LightOn,
+        12 => Command::Light(0),
+        13 => Command::LightAuto,
+        14 => Command::LightAutoStart,
+        15 => Command::DefaultDuration,
+        16 => Command::KeypadSet,
+        17 => Command::KeypadCleared,
+        18 => Command::Mode(n),
+        19 => Command::IconS(n),
+        20 => Command::IconU(n),
+        21 => Command::IconF(n),
+        22 => Command::IconR(n),
+        23 => Command::IconP(n),
+        24 => Command::IconW(n),
+        25 => Command::Private(n),
+        26 => Command::HandsfreeOfNote(n),
+        27 => Command::Handsfree(n),
+        28 => Command::Mute(n),
+        29 => Command::Buzzer(n),
+        30 => Command::Light(n),
+        31 => Command::Position(n, m),
+        _ => Command::KeyTimes(n, m),
+    }
+}
+
+// A line that begins with no phrase comes here as a whole, and so has words where none is wanted.
+fn obey_command(phrase: usize, words: &[u8]) -> Outcome {
+    let most = wanted(phrase);
+    let first = next_number(words, 0, 0 < most);
+    let second = next_number(words, first.end, 1 < most);
+    let n = first.number;
+    let m = second.number;
+    if seek(words, second.end, false) < words.len() {
+        return Outcome::NoSuchCommand;
+    }
+    if (n == NO_NUMBER) | (m == NO_NUMBER) {
+        return Outcome::NoNumber;
+    }
+    send_command(command_of(phrase, n, m))
+}
+
+// Picture rows.
 
 // The value of a digit 0-9 or A-F, of either case; 16 of any other code.
 fn hex(c: u8) -> u8
@@ -366,262 +383,165 @@ fn hex(c: u8) -> u8
     }
 }
 
-fn bad_columns() -> Columns {
-    Columns {
-        good: false,
-        len: 0,
-        bytes: [0u8; 96],
+// One digit more, two to a column; blanks stand only between columns. NOWHERE for a bad digit or one too many, and ever after.
+fn add_digit(columns: &mut [u8], digits: usize, c: u8) -> usize {
+    if (c == BLANK) & (digits % 2 == 0) {
+        return digits;
     }
-}
-
-// The columns that a text spells, two digits each.
-fn columns_of(s: &[u8]) -> Columns {
-    let mut bytes = [0u8; 96];
-    let mut len = 0;
-    let mut i = 0;
-    while i < s.len() {
-        if s[i] == b' ' {
-            i += 1;
-            continue;
+    let place = digits / 2;
+    let value = hex(c);
+    if value < 16 {
+        if place < columns.len() {
+            columns[place] = columns[place] % 16 * 16 + value;
+            return digits + 1;
         }
-        if s.len() - i < 2 {
-            return bad_columns();
+    }
+    NOWHERE
+}
+
+// How many digits a text has, when each pair of them spells a column.
+fn read_digits(text: &[u8], columns: &mut [u8]) -> usize {
+    let mut digits = 0;
+    for i in 0..text.len() {
+        digits = add_digit(columns, digits, text[i]);
+    }
+    digits
+}
+
+fn obey_columns(row: u8, text: &[u8]) -> Outcome {
+    let mut columns = [0u8; 96];
+    let digits = read_digits(text, &mut columns);
+    let count = digits / 2;
+    if (0 < digits) & (digits % 2 == 0) {
+        if count <= MOST_COLUMNS {
+            return send_row(row, &columns[..count]);
         }
-        let high = hex(s[i]);
-        let low = hex(s[i + 1]);
-        if 15 < high {
-            return bad_columns();
-        }
-        if 15 < low {
-            return bad_columns();
-        }
-        if 96 <= len {
-            return bad_columns();
-        }
-        bytes[len] = high * 16 + low;
-        len += 1;
-        i += 2;
     }
-    Columns {
-        good: 0 < len,
-        len: len,
-        bytes: bytes,
+    Outcome::BadColumns
+}
+
+// A picture row: its number, and the text of its columns.
+fn obey_picture(words: &[u8]) -> Outcome {
+    let row = next_number(words, 0, true);
+    let n = row.number;
+    let end = row.end;
+    if n == NO_NUMBER {
+        return Outcome::NoNumber;
+    }
+    if LAST_ROW < n {
+        return Outcome::OutOfRange;
+    }
+    obey_columns(n as u8, &words[end..])
+}
+
+// Lines.
+
+// A phrase of the table with all that stands behind it.
+fn obey_phrase(phrase: usize, rest: &[u8]) -> Outcome {
+    match phrase {
+        0 => send_label(Side::Left, rest),
+        1 => send_label(Side::Right, rest),
+        2 => send_text(rest),
+        3 => obey_picture(rest),
+        4 => help(),
+        _ => obey_command(phrase, rest),
     }
 }
 
-// A picture row by its number and the text of its columns.
-fn picture(row: &[u8], text: &[u8], number: u64) {
-    let numeral = read_number(row);
-    let Numeral::Value(n) = numeral else {
-        refuse(number, Reason::NoNumber);
-        return;
-    };
-    if 6 < n {
-        refuse(number, Reason::OutOfRange);
-        return;
-    }
-    let columns = columns_of(text);
-    if !columns.good {
-        refuse(number, Reason::BadColumns);
-        return;
-    }
-    send_row(n as u8, columns, number);
-}
-
-fn is_text(s: &[u8]) -> bool {
-    let mut ok = true;
-    let mut i = 0;
-    while i < s.len() {
-        ok = ok & (LOWEST_CODE <= s[i]);
-        i += 1;
-    }
-    ok
-}
-
-fn text(s: &[u8], number: u64) {
-    if is_text(s) {
-        io::write_all(STDOUT_FILENO, s);
-        return;
-    }
-    refuse(number, Reason::BadText);
-}
-
-// A command of words and numbers; a fourth word is one too many.
-fn command_line(a: &[u8], b: &[u8], c: &[u8], fourth: Part, number: u64) {
-    if fourth.from != fourth.end {
-        refuse(number, Reason::NoSuchCommand);
-        return;
-    }
-    let said = words(a, b, c);
-    match said {
-        Said::Order(order) => send_command(order, number),
-        Said::Nothing(reason) => refuse(number, reason),
+fn tell_outcome(outcome: Outcome, number: u64) {
+    match outcome {
+        Outcome::Taken => {}
+        Outcome::NoSuchCommand => refuse(number, b": no such command; the line help lists them\n"),
+        Outcome::NoNumber => refuse(number, b": a number of one to three digits is wanted\n"),
+        Outcome::OutOfRange => refuse(number, b": out of range\n"),
+        Outcome::BadColumns => refuse(
+            number,
+            b": wanted are 1 to 96 columns, two digits 0-9 A-F each\n",
+        ),
+        Outcome::BadText => refuse(number, b": a text has no code below 0x20\n"),
     }
 }
 
-// The place behind the one blank that ends a word.
-fn behind_blank(s: &[u8], at: usize) -> usize
-    requires { ⌜ at ≤ length (now s) ⌝ }
-    ensures { λ r. ⌜ r ≤ length (now (s .entry)) ⌝ }
-{
-    if at < s.len() {
-        return at + 1;
-    }
-    at
-}
-
-// A line whose first word is followed by words.
-fn words_line(line: &[u8], a: &[u8], at: usize, number: u64)
-    requires { ⌜ at ≤ length (now line) ⌝ }
-{
-    let second = next_word(line, at);
-    let from = second.from;
-    let end = second.end;
-    let b = &line[from..end];
-    if same(a, b"picture") {
-        picture(b, &line[end..], number);
-        return;
-    }
-    let third = next_word(line, end);
-    let third_from = third.from;
-    let third_end = third.end;
-    let c = &line[third_from..third_end];
-    command_line(a, b, c, next_word(line, third_end), number);
-}
-
-// A line that is not empty, by its first word, which ends at this place.
-fn first_word(line: &[u8], a: &[u8], at: usize, number: u64)
-    requires { ⌜ at ≤ length (now line) ⌝ }
-{
-    let tail = behind_blank(line, at);
-    if same(a, b"left") {
-        send_label(Side::Left, &line[tail..], number);
-        return;
-    }
-    if same(a, b"right") {
-        send_label(Side::Right, &line[tail..], number);
-        return;
-    }
-    if same(a, b"text") {
-        text(&line[tail..], number);
-        return;
-    }
-    if same(a, b"help") {
-        help();
-        return;
-    }
-    words_line(line, a, at, number);
-}
-
-// One line of the input.
 fn obey(line: &[u8], number: u64) {
-    let first = next_word(line, 0);
-    let from = first.from;
-    let end = first.end;
-    let a = &line[from..end];
-    if a.len() == 0 {
+    let start = seek(line, 0, false);
+    if line.len() <= start {
         return;
     }
-    if a[0] == b'#' {
+    if line[start] == b'#' {
         return;
     }
-    first_word(line, a, end, number);
+    let found = find_phrase(line, start);
+    let at = found.at;
+    tell_outcome(obey_phrase(found.phrase, &line[at..]), number);
 }
 
-// A line of so many bytes, without the CR that may end it.
-fn take_line(line: &[u8], used: usize, long: bool, number: u64) {
-    if long {
-        refuse(number, Reason::TooLong);
-        return;
+// How long a line is without the CR that may end it.
+fn without_return(line: &[u8], held: usize) -> usize
+    requires { ⌜ held ≤ length (now line) ⌝ }
+    ensures { λ r. ⌜ r ≤ length (now (line .entry)) ⌝ }
+{
+    if 0 < held {
+        let last = held - 1;
+        if line[last] == CARRIAGE_RETURN {
+            return last;
+        }
     }
-    if line.len() < used {
-        return;
-    }
-    if used == 0 {
-        return;
-    }
-    let last = used - 1;
-    if line[last] == CARRIAGE_RETURN {
-        obey(&line[..last], number);
-        return;
-    }
-    obey(&line[..used], number);
+    held
 }
 
-// A piece of the input: each line that it ends is taken, and what is left over waits.
-fn take_piece(piece: &[u8], reading: Reading) -> Reading {
-    let mut line = reading.line;
-    let mut used = reading.used;
-    let mut long = reading.long;
-    let mut number = reading.number;
-    let mut i = 0;
-    while i < piece.len() {
-        let b = piece[i];
-        i += 1;
-        if b == LINE_FEED {
-            take_line(&line, used, long, number);
-            used = 0;
-            long = false;
-            number = std::num::wrapping_add_u64(number, 1);
-            continue;
-        }
-        if used < 1024 {
-            line[used] = b;
-            used += 1;
-            continue;
-        }
-        long = true;
+fn take_line(line: &[u8], held: usize, number: u64) {
+    if line.len() < held {
+        refuse(number, b": longer than 1024 bytes\n");
+        return;
+    }
+    let end = without_return(line, held);
+    obey(&line[..end], number);
+}
+
+fn take_byte(reading: Reading, b: u8, line: &mut [u8]) -> Reading {
+    let number = reading.number;
+    let held = reading.held;
+    if b == LINE_FEED {
+        take_line(line, held, number);
+        return Reading {
+            number: std::num::wrapping_add_u64(number, 1),
+            held: 0,
+        };
+    }
+    if held < line.len() {
+        line[held] = b;
+        return Reading {
+            number: number,
+            held: held + 1,
+        };
     }
     Reading {
         number: number,
-        used: used,
-        long: long,
-        line: line,
+        held: NOWHERE,
     }
 }
 
-// The next piece of the input; the reading as it was where the input has ended.
-struct Turn {
-    ended: bool,
-    reading: Reading,
-}
-
-fn next_piece(reading: Reading) -> Turn {
-    let mut piece = io::buffer();
-    let n = io::count(libc::read(STDIN_FILENO, &mut piece), &piece);
-    if n == 0 {
-        return Turn {
-            ended: true,
-            reading: reading,
-        };
+fn take_piece(reading: Reading, piece: &[u8], line: &mut [u8]) -> Reading {
+    let mut now = reading;
+    for i in 0..piece.len() {
+        now = take_byte(now, piece[i], line);
     }
-    Turn {
-        ended: false,
-        reading: take_piece(&piece[..n], reading),
-    }
-}
-
-// The last line may lack its LF.
-fn finish(reading: Reading) {
-    let line = reading.line;
-    take_line(&line, reading.used, reading.long, reading.number);
+    now
 }
 
 fn main() {
-    let mut reading = Reading {
-        number: 1,
-        used: 0,
-        long: false,
-        line: [0u8; 1024],
-    };
+    let mut line = [0u8; 1024];
+    let mut piece = io::buffer();
+    let mut reading = Reading { number: 1, held: 0 };
     let mut left = MOST_PIECES;
     while 0 < left {
-        let t = next_piece(reading);
-        reading = t.reading;
-        if t.ended {
+        let n = io::count(libc::read(STDIN_FILENO, &mut piece), &piece);
+        if n == 0 {
             break;
         }
+        reading = take_piece(reading, &piece[..n], &mut line);
         left -= 1;
     }
-    finish(reading);
+    // The last line may lack its LF.
+    take_line(&line, reading.held, reading.number);
 }

@@ -1,20 +1,45 @@
--- The pieces are counted down. Assumes nothing.
-use Prim.Native.Nat.{_≤_}
+-- The pieces are counted down; the line and the piece keep their places. Assumes nothing.
+use mathlib.Core.Path.{_≡_}
+use lib.ListN.{length}
 use borrow.Author.Needs.{needs}
 use Rattle.write_frame.proofs.main.Statement.{statement}
 use Rattle.write_frame.proofs.main.Tie as tie
 
 abbrev Inv-loop : tie.InvT-loop
-Inv-loop reading₀ left₀ reading left = left ≤ left₀
+Inv-loop line₀ piece₀ reading₀ left₀ line piece reading left = (length line ≡ 1024) × (length piece ≡ 4096)
 
 abbrev μ-loop : tie.MeasureT-loop
-μ-loop reading₀ left₀ reading left = left
+μ-loop line₀ piece₀ reading₀ left₀ line piece reading left = left
+
+buffer-requires : tie.Need-buffer-requires Inv-loop μ-loop
+buffer-requires c κs = search needs
 
 loop-holds : tie.Need-loop-holds Inv-loop μ-loop
 loop-holds c = search needs
 
-next-piece-requires : tie.Need-next-piece-requires Inv-loop μ-loop
-next-piece-requires c κs = search needs
+slice-aggregate-read : tie.Need-slice-aggregate-read Inv-loop μ-loop
+slice-aggregate-read c = search needs
+
+read-requires : tie.Need-read-requires Inv-loop μ-loop
+read-requires c κs = search needs
+
+slice-aggregate-count : tie.Need-slice-aggregate-count Inv-loop μ-loop
+slice-aggregate-count c = search needs
+
+count-requires : tie.Need-count-requires Inv-loop μ-loop
+count-requires c κs = search needs
+
+array-share-prefix-piece : tie.Need-array-share-prefix-piece Inv-loop μ-loop
+array-share-prefix-piece c = search needs
+
+slice-aggregate-take-piece : tie.Need-slice-aggregate-take-piece Inv-loop μ-loop
+slice-aggregate-take-piece c = search needs
+
+slice-aggregate-take-piece-2 : tie.Need-slice-aggregate-take-piece-2 Inv-loop μ-loop
+slice-aggregate-take-piece-2 c = search needs
+
+take-piece-requires : tie.Need-take-piece-requires Inv-loop μ-loop
+take-piece-requires c κs = search needs
 
 sub-left : tie.Need-sub-left Inv-loop μ-loop
 sub-left c = search needs
@@ -25,8 +50,11 @@ loop-less c = search needs
 loop-again : tie.Need-loop-again Inv-loop μ-loop
 loop-again c = search needs
 
-finish-requires : tie.Need-finish-requires Inv-loop μ-loop
-finish-requires c κs = search needs
+slice-aggregate-take-line : tie.Need-slice-aggregate-take-line Inv-loop μ-loop
+slice-aggregate-take-line c = search needs
+
+take-line-requires : tie.Need-take-line-requires Inv-loop μ-loop
+take-line-requires c κs = search needs
 
 returns : tie.Need-returns Inv-loop μ-loop
 returns c = search needs
@@ -37,10 +65,19 @@ main-spec =
     (tie.spec
     Inv-loop
     μ-loop
+    buffer-requires
     loop-holds
-    next-piece-requires
+    slice-aggregate-read
+    read-requires
+    slice-aggregate-count
+    count-requires
+    array-share-prefix-piece
+    slice-aggregate-take-piece
+    slice-aggregate-take-piece-2
+    take-piece-requires
     sub-left
     loop-less
     loop-again
-    finish-requires
+    slice-aggregate-take-line
+    take-line-requires
     returns)

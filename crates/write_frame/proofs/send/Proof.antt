@@ -1,16 +1,13 @@
--- What was written is a part of the room. Assumes nothing.
-use native.Mathlib.Omega.{arith}
+-- What is sent is a part of the room. Assumes nothing.
 use mathlib.Core.Path.{sym}
 use lib.Seq.{length-take-le}
+use native.Mathlib.Omega.{arith}
 use borrow.Author.Needs.{needs}
 use Rattle.write_frame.proofs.send.Statement.{statement}
 use Rattle.write_frame.proofs.send.Tie as tie
 
 enum-told : tie.Need-enum-told
 enum-told c = search needs
-
-refuse-requires : tie.Need-refuse-requires
-refuse-requires c κs = search needs
 
 returns : tie.Need-returns
 returns c = search needs
@@ -30,11 +27,4 @@ returns-3 c = search needs
 pub send-spec : {M : Type 1} → statement M
 send-spec =
     tie.close
-    (tie.spec
-    enum-told
-    refuse-requires
-    returns
-    slice-aggregate-write-all
-    write-all-requires
-    returns-2
-    returns-3)
+    (tie.spec enum-told returns slice-aggregate-write-all write-all-requires returns-2 returns-3)
