@@ -90,176 +90,78 @@ fn frame_with(bytes: [u8; 250], place: usize, b: u8) -> [u8; 250]
 
 // The record with one place of one field set. A flag is set by any value but 0; of a byte's value the low eight bits are taken;
 // a place past an array's end changes nothing, and a field that is no array has no places to tell apart.
-pub fn with_field(r: Record, field: Field, place: usize, value: u16) -> Record
+pub fn with_field(mut r: Record, field: Field, place: usize, value: u16) -> Record
     ensures same { λ s. ⌜ s ≡ withField r field place value ⌝ }
 {
     let low = (value % 256) as u8;
     let flag = value != 0;
-    let mut s = r;
     match field {
-        Field::Display => {
-            s.panel.screen.display = flag;
-            s
-        }
-        Field::Mode => {
-            s.panel.screen.mode = low;
-            s
-        }
-        Field::Overlay => {
-            s.panel.screen.overlay = low;
-            s
-        }
-        Field::Shown => {
-            s.panel.shown = flag;
-            s
-        }
-        Field::Row => {
-            s.panel.screen.row = low;
-            s
-        }
-        Field::Column => {
-            s.panel.screen.column = low;
-            s
-        }
+        Field::Display => r.panel.screen.display = flag,
+        Field::Mode => r.panel.screen.mode = low,
+        Field::Overlay => r.panel.screen.overlay = low,
+        Field::Shown => r.panel.shown = flag,
+        Field::Row => r.panel.screen.row = low,
+        Field::Column => r.panel.screen.column = low,
         Field::Text => {
-            let old = s.text;
+            let old = r.text;
             let t = text_with(old, place, low);
-            s.text = t;
-            s
+            r.text = t;
         }
-        Field::LeftLength => {
-            s.panel.left.len = low;
-            s
-        }
+        Field::LeftLength => r.panel.left.len = low,
         Field::LeftCode => {
-            let mut p = s.panel;
+            let mut p = r.panel;
             let mut l = p.left;
             let old = l.codes;
             let codes = codes_with(old, place, low);
             l.codes = codes;
             p.left = l;
-            s.panel = p;
-            s
+            r.panel = p;
         }
-        Field::RightLength => {
-            s.panel.right.len = low;
-            s
-        }
+        Field::RightLength => r.panel.right.len = low,
         Field::RightCode => {
-            let mut p = s.panel;
+            let mut p = r.panel;
             let mut l = p.right;
             let old = l.codes;
             let codes = codes_with(old, place, low);
             l.codes = codes;
             p.right = l;
-            s.panel = p;
-            s
+            r.panel = p;
         }
         Field::Picture => {
-            let old = s.picture;
+            let old = r.picture;
             let g = picture_with(old, place, low);
-            s.picture = g;
-            s
+            r.picture = g;
         }
-        Field::IconS => {
-            s.panel.icons.s = low;
-            s
-        }
-        Field::IconU => {
-            s.panel.icons.u = low;
-            s
-        }
-        Field::IconF => {
-            s.panel.icons.f = low;
-            s
-        }
-        Field::IconR => {
-            s.panel.icons.r = low;
-            s
-        }
-        Field::IconP => {
-            s.panel.icons.p = low;
-            s
-        }
-        Field::IconW => {
-            s.panel.icons.w = low;
-            s
-        }
-        Field::Which => {
-            s.panel.volume.which = low;
-            s
-        }
-        Field::Level => {
-            s.panel.volume.level = low;
-            s
-        }
-        Field::Mute => {
-            s.panel.volume.mute = flag;
-            s
-        }
-        Field::Hidden => {
-            s.panel.volume.hidden = flag;
-            s
-        }
-        Field::Time1 => {
-            s.panel.times.time1.0 = low;
-            s
-        }
-        Field::Time2 => {
-            s.panel.times.time2.0 = low;
-            s
-        }
-        Field::Buzzer => {
-            s.panel.buzzer.0 = low;
-            s
-        }
-        Field::Light => {
-            s.panel.backlight.mode = low;
-            s
-        }
-        Field::Duration => {
-            s.panel.backlight.duration.0 = low;
-            s
-        }
-        Field::SecondsLeft => {
-            s.panel.backlight.left.0 = low;
-            s
-        }
-        Field::Keypad => {
-            s.panel.backlight.keypad = flag;
-            s
-        }
-        Field::Down => {
-            s.held.down = flag;
-            s
-        }
-        Field::Key => {
-            s.held.key = low;
-            s
-        }
-        Field::HeldTick => {
-            s.held.tick.0 = value;
-            s
-        }
-        Field::Long => {
-            s.held.long = flag;
-            s
-        }
-        Field::FrameState => {
-            s.frame.state = low;
-            s
-        }
-        Field::FrameLength => {
-            s.frame.len = low;
-            s
-        }
+        Field::IconS => r.panel.icons.s = low,
+        Field::IconU => r.panel.icons.u = low,
+        Field::IconF => r.panel.icons.f = low,
+        Field::IconR => r.panel.icons.r = low,
+        Field::IconP => r.panel.icons.p = low,
+        Field::IconW => r.panel.icons.w = low,
+        Field::Which => r.panel.volume.which = low,
+        Field::Level => r.panel.volume.level = low,
+        Field::Mute => r.panel.volume.mute = flag,
+        Field::Hidden => r.panel.volume.hidden = flag,
+        Field::Time1 => r.panel.times.time1.0 = low,
+        Field::Time2 => r.panel.times.time2.0 = low,
+        Field::Buzzer => r.panel.buzzer.0 = low,
+        Field::Light => r.panel.backlight.mode = low,
+        Field::Duration => r.panel.backlight.duration.0 = low,
+        Field::SecondsLeft => r.panel.backlight.left.0 = low,
+        Field::Keypad => r.panel.backlight.keypad = flag,
+        Field::Down => r.held.down = flag,
+        Field::Key => r.held.key = low,
+        Field::HeldTick => r.held.tick.0 = value,
+        Field::Long => r.held.long = flag,
+        Field::FrameState => r.frame.state = low,
+        Field::FrameLength => r.frame.len = low,
         Field::FrameByte => {
-            let mut f = s.frame;
+            let mut f = r.frame;
             let old = f.bytes;
             let bytes = frame_with(old, place, low);
             f.bytes = bytes;
-            s.frame = f;
-            s
+            r.frame = f;
         }
     }
+    r
 }

@@ -87,14 +87,14 @@ enum-told-22 c = search needs
 enum-told-23 : tie.Need-enum-told-23
 enum-told-23 c = search needs
 
-way-write-given-s : tie.Need-way-write-given-s
-way-write-given-s c = search needs
+way-write-given-r : tie.Need-way-write-given-r
+way-write-given-r c = search needs
 
 enum-told-24 : tie.Need-enum-told-24
 enum-told-24 c = search needs
 
-way-write-given-s-2 : tie.Need-way-write-given-s-2
-way-write-given-s-2 c = search needs
+way-write-given-r-2 : tie.Need-way-write-given-r-2
+way-write-given-r-2 c = search needs
 
 enum-told-25 : tie.Need-enum-told-25
 enum-told-25 c = search needs
@@ -105,14 +105,14 @@ enum-told-26 c = search needs
 enum-told-27 : tie.Need-enum-told-27
 enum-told-27 c = search needs
 
-way-write-given-s-3 : tie.Need-way-write-given-s-3
-way-write-given-s-3 c = search needs
+way-write-given-r-3 : tie.Need-way-write-given-r-3
+way-write-given-r-3 c = search needs
 
 enum-told-28 : tie.Need-enum-told-28
 enum-told-28 c = search needs
 
-way-write-given-s-4 : tie.Need-way-write-given-s-4
-way-write-given-s-4 c = search needs
+way-write-given-r-4 : tie.Need-way-write-given-r-4
+way-write-given-r-4 c = search needs
 
 enum-told-29 : tie.Need-enum-told-29
 enum-told-29 c = search needs
@@ -281,15 +281,15 @@ with-field-spec =
     enum-told-21
     enum-told-22
     enum-told-23
-    way-write-given-s
+    way-write-given-r
     enum-told-24
-    way-write-given-s-2
+    way-write-given-r-2
     enum-told-25
     enum-told-26
     enum-told-27
-    way-write-given-s-3
+    way-write-given-r-3
     enum-told-28
-    way-write-given-s-4
+    way-write-given-r-4
     enum-told-29
     enum-told-30
     enum-told-31
