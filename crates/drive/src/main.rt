@@ -1,59 +1,62 @@
 // A driver over the handset's libraries: it reads a script of calls from standard input and prints what each call answered.
 //
-// It keeps one record, at first the power-on record. A script has one call a line: a letter, and words after it with a single
-// blank before each. A number is written in one to five decimal digits, at most 65535. Bytes are written as pairs of
-// hexadecimal digits, of either case, with nothing between them; no bytes at all as one "-". A line that breaks these rules or
-// the limits below is answered by the line "what" and changes nothing; an empty line is passed over without an answer. The last
-// line needs no line feed.
+// It keeps one record, at first the power-on record. A script has one call a line: a letter alone, or a letter, one blank and
+// bytes as pairs of hexadecimal digits, of either case, with nothing between them; a blank with no bytes behind it does no harm.
+// A number is two bytes, its high byte first, unless it is said to be one byte. A line that breaks this, lacks bytes that its
+// call needs, has bytes too many or breaks a limit is answered by the line "what" and changes nothing; an empty line is passed
+// over without an answer. The last line needs no line feed.
 //
-//   P                      the power-on record
-//   S FIELD PLACE VALUE    sets a place of a field to any value, in range or not
-//   R                      whether the record is in range
-//   F ROOM BYTES           the stream call
-//   K ROOM TICKS EDGES     the key log call; a tick has four digits, its high byte first, an edge two. There may be more of one
-//                          than of the other
-//   C                      a second passes, on the record
-//   B                      a second passes in place, on a copy of the record's backlight; the record stays
-//   Q ROW                  the row question, ROW 0 to 255
-//   M                      the SMS panel
-//   V                      the volume panel
-//   W ROOM COMMAND A B     the command writer; A and B are the command's numbers, 0 where it has none
-//   T ROOM SIDE CODES      the label writer, SIDE 0 left, 1 right
-//   G ROOM ROW COLUMNS     the picture row writer, ROW 0 to 255
+//   P                           the power-on record
+//   S FIELD PLACE VALUE         sets a place of a field to any value, in range or not; FIELD is one byte
+//   R                           whether the record is in range
+//   F ROOM BYTES                the stream call, with no bytes or more
+//   K ROOM COUNT TICKS EDGES    the key log call; COUNT says how many ticks, a number each, and the rest are edges, a byte each.
+//                               There may be more of one than of the other
+//   C                           a second passes, on the record
+//   B                           a second passes in place, on a copy of the record's backlight; the record stays
+//   Q ROW                       the row question; ROW is one byte
+//   M                           the SMS panel
+//   V                           the volume panel
+//   W ROOM COMMAND A B          the command writer; COMMAND is one byte, A and B are the command's numbers, 0 where it has none
+//   T ROOM SIDE CODES           the label writer; SIDE is one byte, 0 left, 1 right
+//   G ROOM ROW COLUMNS          the picture row writer; ROW is one byte
 //
-// ROOM is 0 to 300: just so many places are lent to the call, and place i holds (i * 7 + 3) mod 256 before it. A line has at
-// most 4,096 stream bytes, 1,024 ticks and 1,024 edges, 300 codes or 300 columns.
+// "Q 05" asks for row 5, and "F 00021B51" hands the stream 1B 51 over with room for two answer bytes. ROOM is at most 300: just
+// so many places are lent to the call, and place i holds (i * 7 + 3) mod 256 before it. A line has at most 4,096 stream bytes,
+// 1,024 ticks and 1,024 edges, 300 codes or 300 columns.
 //
-// Answers. NUMBER is document 01's, BUFFER all that was lent as it stands after the call. Bytes are printed in upper case.
+// Answers. A line is a word and bytes, in upper case; one with no bytes is the word alone. NUMBER is document 01's, a byte; a flag
+// is 0 or 1. USED and WRITTEN are two bytes, and so is TICK; all else is one, but for arrays.
 //
-//   P and S                the letter
-//   R                      R 1 in range, R 0 not
-//   F and K                the letter NUMBER USED WRITTEN BUFFER
-//   C                      C NUMBER
-//   B                      B NUMBER MODE DURATION LEFT KEYPAD
-//   Q                      Q NUMBER OWNER, and what the owner shows: 0 nothing; 1 the icon bar: F P R SMS VOLUME LEVEL; 2 a text
-//                          row: its number and 16 codes; 3 a picture row: its number and 96 columns; 4 the soft keys: length and
-//                          seven places of the left label, the same of the right, and W. A refused question has owner 0
-//   M                      M NUMBER SMS: 0 nothing, 1 Read, 2 Unread
-//   V                      V NUMBER VOLUME LEVEL: 0 nothing, 1 Mute, 2 private, 3 handsfree; LEVEL 0 for the first two
-//   W, T and G             the letter NUMBER COUNT BUFFER
+//   P and S          the letter and 00
+//   R                R 01 in range, R 00 not
+//   C                C NUMBER
+//   F, K, W, T, G    the letter NUMBER USED WRITTEN, USED 0 for the writers; then "buffer" and all that was lent, as it stands
+//                    after the call
+//   B                B NUMBER; then a line "backlight" as in the record
+//   M                M NUMBER SMS: 0 nothing, 1 Read, 2 Unread
+//   V                V NUMBER VOLUME LEVEL: 0 nothing, 1 Mute, 2 private, 3 handsfree; LEVEL 0 for the first two
+//   Q                Q NUMBER; then what the owner of the row shows, no line if there is nothing:
+//                      icon bar F P R SMS VOLUME LEVEL
+//                      row OWNER ROW      OWNER 2 is a text row, 3 a picture row; then "cells": 16 codes or 96 columns
+//                      soft keys W        then the lines of the labels as in the record
 //
-// After the line of P, S, F, K and C the whole record follows, in these lines; a flag is 0 or 1:
+// After the lines of P, S, F, K and C the whole record follows:
 //
-//   screen DISPLAY MODE OVERLAY SHOWN ROW COLUMN       OVERLAY 0 is none; SHOWN, ROW and COLUMN are the cursor's
-//   labels LENGTH CODES LENGTH CODES                   left, right; all seven places
-//   icons S U F R P W
-//   volume WHICH LEVEL MUTE HIDDEN                     WHICH 0 none, 1 private, 2 handsfree
-//   times TIME1 TIME2
-//   buzzer VALUE
-//   backlight MODE DURATION LEFT KEYPAD                MODE 0 off, 1 on, 2 auto
-//   held DOWN KEY TICK STAGE                           STAGE 0 short, 1 long
-//   frame STATE LENGTH BYTES                           STATE 0 none, 1 open, 2 overlong; all 250 places
-//   text CODES                                         80 places
-//   picture COLUMNS                                    672 places
+//   screen DISPLAY MODE OVERLAY SHOWN ROW COLUMN           OVERLAY 0 is none; SHOWN, ROW and COLUMN are the cursor's
+//   labels LEFT RIGHT                                      their lengths
+//   left CODES                                             all seven places
+//   right CODES
+//   icons S U F R P W WHICH LEVEL MUTE HIDDEN BUZZER       WHICH volume: 0 none, 1 private, 2 handsfree
+//   backlight MODE DURATION LEFT KEYPAD                    MODE 0 off, 1 on, 2 auto
+//   keys DOWN KEY TICK STAGE TIME1 TIME2                   STAGE 0 short, 1 long
+//   frame STATE LENGTH                                     STATE 0 none, 1 open, 2 overlong
+//   bytes FRAME                                            all 250 places
+//   text CODES                                             80 places
+//   picture COLUMNS                                        672 places
 //
 // Fields of S, with the places of an array in brackets; any other field has only place 0. Of a value the low eight bits are
-// taken, all sixteen for the held tick; a flag is set by any value but 0.
+// taken, all sixteen for the held tick; a flag is set by any value but 0. The numbers are decimal here.
 //
 //    0 display (flag)    1 text mode         2 overlay            3 cursor shown (flag)  4 row              5 column
 //    6 text [80]         7 left length       8 left codes [7]     9 right length        10 right codes [7] 11 picture [672]
@@ -62,12 +65,12 @@
 //   24 buzzer           25 backlight mode   26 duration          27 seconds left        28 keypad (flag)   29 key held (flag)
 //   30 held key         31 held tick        32 stage long (flag) 33 frame state         34 frame length    35 frame bytes [250]
 //
-// Commands of W: 0 display off, 1 display on, 2 text mode or overlay A, 3 cursor shown, 4 cursor not shown, 5 clear, 6 cursor to
-// row A, column B, 7 both labels empty, 8 to 13 icon S, U, F, R, P, W to A, 14 private volume A, 15 handsfree volume A, 16 the
-// same as the note spells it, 17 mute A, 18 key times A and B, 19 buzzer A, 20 backlight IEn with A, then without numbers 21 IEE,
-// 22 IEA, 23 IES, 24 IER, 25 IEe, 26 IEr.
+// Commands of W, in decimal: 0 display off, 1 display on, 2 text mode or overlay A, 3 cursor shown, 4 cursor not shown, 5 clear,
+// 6 cursor to row A, column B, 7 both labels empty, 8 to 13 icon S, U, F, R, P, W to A, 14 private volume A, 15 handsfree volume
+// A, 16 the same as the note spells it, 17 mute A, 18 key times A and B, 19 buzzer A, 20 backlight IEn with A, then without
+// numbers 21 IEE, 22 IEA, 23 IES, 24 IER, 25 IEe, 26 IEr.
 ghost use mathlib.Core.Path.{_≡_};
-ghost use Prim.Native.Nat.{_*_, _≤_};
+ghost use Prim.Native.Nat.{_<_, _≤_, _*_};
 ghost use lib.ListN.{length};
 ghost use Rattle.light.specs.Seconds.{lightPassed};
 use command::Command;
@@ -78,8 +81,8 @@ use libc::STDOUT_FILENO;
 use light::LightPassed;
 use record::Answer;
 use record::Backlight;
-use record::Frame;
 use record::Held;
+use record::Hundredths;
 use record::Icons;
 use record::Label;
 use record::Panel;
@@ -101,79 +104,51 @@ const BLANK: u8 = b' ';
 
 const LINE_FEED: u8 = b'\n';
 
-// Past every number of a script.
-const NO_NUMBER: u32 = 65536;
+// Past every value of a digit.
+const NO_DIGIT: u8 = 16;
 
-const LARGEST: u32 = 65535;
+// Past every byte.
+const NO_BYTE: u16 = 256;
 
-const LARGEST_BYTE: u32 = 255;
+const LARGEST_BYTE: u16 = 255;
 
-// Past every value of two hexadecimal digits.
-const NO_PAIR: u16 = 256;
+// The bytes of the longest line: a room and the most of a stream.
+const MOST_BYTES: usize = 4098;
 
 // Past every count of bytes.
 const NO_BYTES: usize = 0xFFFF_FFFF_FFFF_FFFF;
 
-// Past every length of a line.
-const TOO_LONG: usize = 0xFFFF_FFFF_FFFF_FFFF;
+const MOST_ROOM: usize = 300;
 
-const LARGEST_PAIR: u16 = 255;
-
-const MOST_ROOM: u32 = 300;
-
-const MOST_BYTES: usize = 4096;
-
+// Ticks or edges of a key log.
 const MOST_ENTRIES: usize = 1024;
 
-// Bytes of the most ticks.
-const MOST_TICK_BYTES: usize = 2048;
+// Room, side or row, and the most codes or columns.
+const MOST_CELLS: usize = 303;
 
-// Columns and codes that a writer is lent.
-const MOST_LENT: usize = 300;
+const LAST_COMMAND: u8 = 26;
 
-const LAST_COMMAND: u32 = 26;
+// More than the longest line that is printed, the picture's.
+const MOST_PRINTED: usize = 1400;
 
-// Printing lines.
+// More than the longest line that is a call.
+const TOO_LONG: usize = 16384;
 
-// A line is gathered in `out`, which is written when it is full; `at` is how much of it is taken, and each of these functions
-// answers how much is then.
+// Printing. A line is gathered in `out`, where every line has room, and written at once; `at` is how much of it is taken, and
+// each of these functions answers how much is then.
 
 fn put_byte(out: &mut [u8], at: usize, b: u8) -> usize {
     if at < out.len() {
         out[at] = b;
         return at + 1;
     }
-    io::write_all(STDOUT_FILENO, out);
-    if 0 < out.len() {
-        out[0] = b;
-        return 1;
-    }
-    0
+    at
 }
 
-fn put(out: &mut [u8], at: usize, words: &[u8]) -> usize {
-    let mut end = at;
-    for i in 0..words.len() {
-        end = put_byte(out, end, words[i]);
-    }
-    end
-}
-
-fn put_number(out: &mut [u8], at: usize, n: u64) -> usize {
-    let mut digits = [0u8; 20];
-    let k = io::decimal(n, &mut digits);
-    let blank = put_byte(out, at, BLANK);
-    put(out, blank, &digits[..k])
-}
-
-fn put_small(out: &mut [u8], at: usize, n: u8) -> usize {
-    put_number(out, at, n as u64)
-}
-
-fn put_numbers(out: &mut [u8], at: usize, numbers: &[u8]) -> usize {
-    let mut end = at;
-    for i in 0..numbers.len() {
-        end = put_small(out, end, numbers[i]);
+fn put_word(out: &mut [u8], word: &[u8]) -> usize {
+    let mut end = 0;
+    for i in 0..word.len() {
+        end = put_byte(out, end, word[i]);
     }
     end
 }
@@ -187,182 +162,151 @@ fn hex_digit(n: u8) -> u8 {
 }
 
 fn put_pair(out: &mut [u8], at: usize, b: u8) -> usize {
-    let end = put_byte(out, at, hex_digit(b / 16));
-    put_byte(out, end, hex_digit(b % 16))
+    let half = put_byte(out, at, hex_digit(b / 16));
+    put_byte(out, half, hex_digit(b % 16))
 }
 
+// A blank and the bytes; nothing if there are none.
 fn put_pairs(out: &mut [u8], at: usize, bytes: &[u8]) -> usize {
-    let mut end = at;
+    if bytes.len() == 0 {
+        return at;
+    }
+    let mut end = put_byte(out, at, BLANK);
     for i in 0..bytes.len() {
         end = put_pair(out, end, bytes[i]);
     }
     end
 }
 
-fn put_hex(out: &mut [u8], at: usize, bytes: &[u8]) -> usize {
-    let end = put_byte(out, at, BLANK);
-    if bytes.len() == 0 {
-        return put_byte(out, end, b'-');
-    }
-    put_pairs(out, end, bytes)
-}
-
-fn write_out(out: &[u8], at: usize) {
-    if at <= out.len() {
-        io::write_all(STDOUT_FILENO, &out[..at]);
+// The line of a word and bytes. That both have one lifetime makes its callers cheaper to check.
+fn say<'a>(word: &'a [u8], bytes: &'a [u8]) {
+    let mut out = [0u8; MOST_PRINTED];
+    let named = put_word(&mut out, word);
+    let said = put_pairs(&mut out, named, bytes);
+    let end = put_byte(&mut out, said, LINE_FEED);
+    if end <= MOST_PRINTED {
+        io::write_all(STDOUT_FILENO, &out[..end]);
     }
 }
 
-fn say(words: &[u8]) {
-    io::write_all(STDOUT_FILENO, words);
+fn say_what() {
+    say(b"what", b"");
 }
 
-fn say_number(n: u64) {
-    let mut out = [0u8; 21];
-    let end = put_number(&mut out, 0, n);
-    write_out(&out, end);
+// A call's letter and its number.
+fn say_answer(letter: u8, answer: Answer) {
+    let n = record::number(answer);
+    say(&[letter], &[n]);
 }
 
-// A word and numbers.
-fn say_numbers(word: &[u8], numbers: &[u8]) {
-    let mut out = [0u8; 64];
-    let named = put(&mut out, 0, word);
-    let end = put_numbers(&mut out, named, numbers);
-    write_out(&out, end);
+// A count's two bytes.
+
+fn high(n: usize) -> u8 {
+    (n / 256 % 256) as u8
 }
 
-fn put_line(out: &mut [u8], word: &[u8], numbers: &[u8]) -> usize {
-    let named = put(out, 0, word);
-    let end = put_numbers(out, named, numbers);
-    put_byte(out, end, LINE_FEED)
+fn low(n: usize) -> u8 {
+    (n % 256) as u8
 }
 
-// A line of a word and numbers, or the rest of one.
-fn say_line(word: &[u8], numbers: &[u8]) {
-    let mut out = [0u8; 64];
-    let end = put_line(&mut out, word, numbers);
-    write_out(&out, end);
-}
-
-fn say_hex(bytes: &[u8]) {
-    let mut out = [0u8; 32];
-    let end = put_hex(&mut out, 0, bytes);
-    write_out(&out, end);
-}
-
-fn put_cells(out: &mut [u8], word: &[u8], cells: &[u8]) -> usize {
-    let named = put(out, 0, word);
-    let end = put_hex(out, named, cells);
-    put_byte(out, end, LINE_FEED)
-}
-
-// A line of a word and bytes, or the rest of one.
-fn say_cells(word: &[u8], cells: &[u8]) {
-    let mut out = [0u8; 512];
-    let end = put_cells(&mut out, word, cells);
-    write_out(&out, end);
+// What a call answers that was lent a buffer.
+fn say_lent(letter: u8, answer: Answer, used: usize, written: usize, buffer: &[u8]) {
+    let n = record::number(answer);
+    let numbers = [n, high(used), low(used), high(written), low(written)];
+    say(&[letter], &numbers);
+    say(b"buffer", buffer);
 }
 
 // The record's lines.
 
-fn flag(set: bool) -> u8 {
-    if set {
-        return 1;
-    }
-    0
-}
-
-fn say_screen(s: Screen, cursor: bool) {
-    let display = flag(s.display);
-    let shown = flag(cursor);
-    let numbers = [display, s.mode, s.overlay, shown, s.row, s.column];
-    say_line(b"screen", &numbers);
-}
-
-// A label: its length and all its places, with a word before them.
-fn say_label(word: &[u8], l: Label) {
-    let len = l.len;
-    say_numbers(word, &[len]);
-    say_hex(&l.codes);
+fn say_screen(s: Screen, shown: bool) {
+    say(
+        b"screen",
+        &[
+            s.display as u8,
+            s.mode,
+            s.overlay,
+            shown as u8,
+            s.row,
+            s.column,
+        ],
+    );
 }
 
 fn say_labels(left: Label, right: Label) {
-    say_label(b"labels", left);
-    say_label(b"", right);
-    say(b"\n");
+    say(b"labels", &[left.len, right.len]);
+    say(b"left", &left.codes);
+    say(b"right", &right.codes);
 }
 
-fn say_icons(i: Icons) {
-    let numbers = [i.s, i.u, i.f, i.r, i.p, i.w];
-    say_line(b"icons", &numbers);
+fn say_icons(i: Icons, v: Volume, buzzer: Hundredths) {
+    say(
+        b"icons",
+        &[
+            i.s,
+            i.u,
+            i.f,
+            i.r,
+            i.p,
+            i.w,
+            v.which,
+            v.level,
+            v.mute as u8,
+            v.hidden as u8,
+            buzzer.0,
+        ],
+    );
 }
 
-fn say_volume(v: Volume) {
-    let mute = flag(v.mute);
-    let hidden = flag(v.hidden);
-    let numbers = [v.which, v.level, mute, hidden];
-    say_line(b"volume", &numbers);
-}
-
-fn say_times(t: Times) {
-    let numbers = [t.time1.0, t.time2.0];
-    say_line(b"times", &numbers);
-}
-
-// The backlight's four numbers, with a word before them.
-fn say_light(word: &[u8], b: Backlight) {
-    let keypad = flag(b.keypad);
-    let numbers = [b.mode, b.duration.0, b.left.0, keypad];
-    say_line(word, &numbers);
-}
-
-fn say_held(h: Held) {
-    let down = flag(h.down);
-    let stage = flag(h.long);
-    say_numbers(b"held", &[down, h.key]);
-    say_number(h.tick.0 as u64);
-    say_line(b"", &[stage]);
-}
-
-fn say_frame(f: Frame) {
-    let numbers = [f.state, f.len];
-    say_numbers(b"frame", &numbers);
-    say_cells(b"", &f.bytes);
+fn say_light(b: Backlight) {
+    say(
+        b"backlight",
+        &[b.mode, b.duration.0, b.left.0, b.keypad as u8],
+    );
 }
 
 fn say_panel(p: Panel) {
     say_screen(p.screen, p.shown);
     say_labels(p.left, p.right);
-    say_icons(p.icons);
-    say_volume(p.volume);
-    say_times(p.times);
-    say_line(b"buzzer", &[p.buzzer.0]);
-    say_light(b"backlight", p.backlight);
+    say_icons(p.icons, p.volume, p.buzzer);
+    say_light(p.backlight);
 }
 
-// The whole record.
-fn say_record(r: Record) {
+fn say_keys(h: Held, t: Times) {
+    let tick = h.tick.0 as usize;
+    say(
+        b"keys",
+        &[
+            h.down as u8,
+            h.key,
+            high(tick),
+            low(tick),
+            h.long as u8,
+            t.time1.0,
+            t.time2.0,
+        ],
+    );
+}
+
+fn say_frame(state: u8, len: u8, bytes: &[u8]) {
+    say(b"frame", &[state, len]);
+    say(b"bytes", bytes);
+}
+
+fn say_arrays<'a>(text: &'a [u8], picture: &'a [u8]) {
+    say(b"text", text);
+    say(b"picture", picture);
+}
+
+// The record, when its lines are printed.
+fn shown(r: Record) -> Record {
+    let state = r.frame.state;
+    let len = r.frame.len;
     say_panel(r.panel);
-    say_held(r.held);
-    say_frame(r.frame);
-    say_cells(b"text", &r.text);
-    say_cells(b"picture", &r.picture);
-}
-
-// Answers of calls.
-
-// A call's letter and its number.
-fn say_answer(letter: &[u8], answer: Answer) {
-    let n = record::number(answer);
-    say_numbers(letter, &[n]);
-}
-
-// A call's letter, its number, two counts and the buffer.
-fn say_counts(letter: &[u8], answer: Answer, used: usize, written: usize, buffer: &[u8]) {
-    say_answer(letter, answer);
-    say_number(used as u64);
-    say_number(written as u64);
-    say_cells(b"", buffer);
+    say_keys(r.held, r.panel.times);
+    say_frame(state, len, &r.frame.bytes);
+    say_arrays(&r.text, &r.picture);
+    r
 }
 
 // What is seen.
@@ -396,274 +340,135 @@ fn volume_level(panel: VolumePanel) -> u8 {
 fn say_sms(seen: SmsSeen) {
     let answer = seen.answer;
     let panel = seen.panel;
-    let n = record::number(answer);
-    let sms = sms_number(panel);
-    say_line(b"M", &[n, sms]);
+    say(b"M", &[record::number(answer), sms_number(panel)]);
 }
 
-fn say_volume_seen(seen: VolumeSeen) {
+fn say_volume(seen: VolumeSeen) {
     let answer = seen.answer;
     let panel = seen.panel;
-    let n = record::number(answer);
-    let volume = volume_number(panel);
-    let level = volume_level(panel);
-    say_line(b"V", &[n, volume, level]);
+    say(
+        b"V",
+        &[
+            record::number(answer),
+            volume_number(panel),
+            volume_level(panel),
+        ],
+    );
 }
 
 fn say_bar(bar: Bar) {
-    let sms_panel = bar.sms;
-    let volume_panel = bar.volume;
-    let sms = sms_number(sms_panel);
-    let volume = volume_number(volume_panel);
-    let level = volume_level(volume_panel);
-    let numbers = [1, bar.f, bar.p, bar.r, sms, volume, level];
-    say_line(b"", &numbers);
+    let sms = bar.sms;
+    let volume = bar.volume;
+    say(
+        b"icon bar",
+        &[
+            bar.f,
+            bar.p,
+            bar.r,
+            sms_number(sms),
+            volume_number(volume),
+            volume_level(volume),
+        ],
+    );
+}
+
+fn say_cells(owner: u8, row: u8, cells: &[u8]) {
+    say(b"row", &[owner, row]);
+    say(b"cells", cells);
 }
 
 fn say_soft_keys(labels: Labels) {
-    let w = labels.w;
-    say_label(b" 4", labels.left);
-    say_label(b"", labels.right);
-    say_line(b"", &[w]);
+    say(b"soft keys", &[labels.w]);
+    say_labels(labels.left, labels.right);
 }
 
-fn say_row_of(owner: u8, row: u8, cells: &[u8]) {
-    let numbers = [owner, row];
-    say_numbers(b"", &numbers);
-    say_cells(b"", cells);
-}
-
-fn say_owner(row: Row) {
+fn say_row(row: Row) {
     let owner = row.owner;
     match owner {
-        Owner::Nothing => say(b" 0\n"),
+        Owner::Nothing => (),
         Owner::IconBar => say_bar(row.bar),
-        Owner::TextRow(n) => say_row_of(2, n, &row.codes),
-        Owner::PictureRow(n) => say_row_of(3, n, &row.columns),
+        Owner::TextRow(n) => say_cells(2, n, &row.codes),
+        Owner::PictureRow(n) => say_cells(3, n, &row.columns),
         Owner::SoftKeys => say_soft_keys(row.labels),
     }
 }
 
-fn say_row(row: Row) {
-    let answer = row.answer;
-    say_answer(b"Q", answer);
-    say_owner(row);
-}
+// Reading a line's bytes.
 
-// Reading a line's words.
-
-// Where the sign stands next, from `at` on; the length where it does not.
-fn next_sign(s: &[u8], at: usize, sign: u8) -> usize
-    requires { ⌜ at ≤ length (now s) ⌝ }
-    ensures { λ r. ⌜ (at ≤ r) × (r ≤ length (now (s .entry))) ⌝ }
-{
-    let mut i = at;
-    while i < s.len() {
-        if s[i] == sign {
-            return i;
-        }
-        i += 1;
-    }
-    i
-}
-
-// One to five decimal digits, at most 65,535.
-fn number(word: &[u8]) -> u32 {
-    if word.len() == 0 {
-        return NO_NUMBER;
-    }
-    if 5 < word.len() {
-        return NO_NUMBER;
-    }
-    let mut n = 0;
-    for i in 0..word.len() {
-        n = next_number(n, word[i]);
-    }
-    n
-}
-
-// A number with one digit more behind it.
-fn next_number(n: u32, digit: u8) -> u32 {
-    if digit < b'0' {
-        return NO_NUMBER;
-    }
-    if b'9' < digit {
-        return NO_NUMBER;
-    }
-    if 6553 < n {
-        return NO_NUMBER;
-    }
-    let more = n * 10 + (digit - b'0') as u32;
-    if LARGEST < more {
-        return NO_NUMBER;
-    }
-    more
-}
-
-// A number among the words: its value, whether a blank follows it, and where the next word begins.
-struct Word {
-    value: u32,
-    more: bool,
-    next: usize,
-}
-
-fn number_at(words: &[u8], at: usize) -> Word
-    requires { ⌜ at ≤ length (now words) ⌝ }
-    ensures { λ r. ⌜ r .next ≤ length (now (words .entry)) ⌝ }
-{
-    let end = next_sign(words, at, BLANK);
-    let value = number(&words[at..end]);
-    if end < words.len() {
-        return Word {
-            value: value,
-            more: true,
-            next: end + 1,
-        };
-    }
-    Word {
-        value: value,
-        more: false,
-        next: end,
-    }
-}
-
-// The value of a hexadecimal digit of either case; 16 of any other code.
-fn hex_value(digit: u8) -> u8 {
+// The value of a hexadecimal digit of either case.
+fn value_of(digit: u8) -> u8 {
     match digit {
         b'0'..=b'9' => digit - b'0',
         b'A'..=b'F' => digit - b'A' + 10,
         b'a'..=b'f' => digit - b'a' + 10,
-        _ => 16,
+        _ => NO_DIGIT,
     }
 }
 
-fn hex_pair(high: u8, low: u8) -> u16 {
-    let h = hex_value(high);
-    let l = hex_value(low);
+fn byte_of(high: u8, low: u8) -> u16 {
+    let h = value_of(high);
+    let l = value_of(low);
     if 15 < h {
-        return NO_PAIR;
+        return NO_BYTE;
     }
     if 15 < l {
-        return NO_PAIR;
+        return NO_BYTE;
     }
     (h * 16 + l) as u16
 }
 
-// Whether the word is the sign for no bytes.
-fn is_none(word: &[u8]) -> bool {
-    if word.len() == 1 {
-        return word[0] == b'-';
+// What stands among bytes; 0 where there is nothing.
+
+fn byte_at(bytes: &[u8], at: usize) -> u8 {
+    if at < bytes.len() {
+        return bytes[at];
     }
-    false
+    0
 }
 
-// The bytes of so many pairs into `to`, if they are good.
-fn pairs_into(word: &[u8], n: usize, to: &mut [u8]) -> usize
-    requires { ⌜ 2 * n ≤ length (now word) ⌝ }
-    requires { ⌜ n ≤ length (now to) ⌝ }
+// The byte of a pair. Where it has one digit the other is 0, which is none.
+fn pair_at(line: &[u8], at: usize) -> u16
+    requires { ⌜ at < length (now line) ⌝ }
 {
-    for i in 0..n {
-        let pair = hex_pair(word[2 * i], word[2 * i + 1]);
-        if LARGEST_PAIR < pair {
-            return NO_BYTES;
-        }
-        to[i] = pair as u8;
-    }
-    n
+    byte_of(line[at], byte_at(line, at + 1))
 }
 
-// The bytes of a word into `to`: how many they are, at most as many as it has places.
-fn hex_bytes(word: &[u8], to: &mut [u8]) -> usize {
-    if is_none(word) {
+// The bytes of a line into `to`: how many they are, if the line is good.
+fn bytes_into(line: &[u8], to: &mut [u8]) -> usize {
+    if line.len() < 2 {
         return 0;
     }
-    let n = word.len() / 2;
-    if n == 0 {
+    if line[1] != BLANK {
         return NO_BYTES;
     }
-    if word.len() % 2 != 0 {
-        return NO_BYTES;
-    }
-    if to.len() < n {
-        return NO_BYTES;
-    }
-    pairs_into(word, n, to)
-}
-
-fn tick_of(high: u8, low: u8) -> u16 {
-    high as u16 * 256 + low as u16
-}
-
-// The ticks of so many bytes into `to`.
-fn ticks_into(bytes: &[u8], n: usize, to: &mut [u16])
-    requires { ⌜ 2 * n ≤ length (now bytes) ⌝ }
-    requires { ⌜ n ≤ length (now to) ⌝ }
-{
+    let n = (line.len() - 1) / 2;
     for i in 0..n {
-        to[i] = tick_of(bytes[2 * i], bytes[2 * i + 1]);
+        let b = pair_at(line, 2 * i + 2);
+        if LARGEST_BYTE < b {
+            return NO_BYTES;
+        }
+        put_byte(to, i, b as u8);
     }
-}
-
-// The same of tick readings, four digits each.
-fn hex_ticks(word: &[u8], to: &mut [u16]) -> usize {
-    let mut bytes = [0u8; MOST_TICK_BYTES];
-    let count = hex_bytes(word, &mut bytes);
-    if MOST_TICK_BYTES < count {
-        return NO_BYTES;
-    }
-    if count % 2 != 0 {
-        return NO_BYTES;
-    }
-    let n = count / 2;
-    if to.len() < n {
-        return NO_BYTES;
-    }
-    ticks_into(&bytes, n, to);
     n
 }
 
-// The buffer that is lent, of the most room; place i holds (i * 7 + 3) mod 256.
-fn lent() -> [u8; 300]
-    ensures { λ r. ⌜ 300 ≡ length r ⌝ }
-{
-    let mut buffer = [0u8; 300];
-    let mut value = 3;
-    for i in 0..300 {
-        buffer[i] = value;
-        value = std::num::wrapping_add_u8(value, 7);
+// The number whose two bytes stand at these places.
+fn number_at(args: &[u8], high: usize, low: usize) -> u16 {
+    byte_at(args, high) as u16 * 256 + byte_at(args, low) as u16
+}
+
+// What stands behind so many bytes.
+fn after(args: &[u8], n: usize) -> &[u8] {
+    if args.len() < n {
+        return args;
     }
-    buffer
+    &args[n..]
 }
 
-// Calls. A call prints its answer; one that may change the record answers the record.
-
-fn say_what() {
-    say(b"what\n");
-}
-
-fn what(r: Record) -> Record {
-    say_what();
-    r
-}
-
-// The record's lines follow.
-fn shown(r: Record) -> Record {
-    say_record(r);
-    r
-}
-
-fn power_on_call() -> Record {
-    say(b"P\n");
-    shown(Record::power_on())
-}
-
-fn in_range_call(r: Record) {
-    let good = flag(ranges::in_range(r));
-    say_line(b"R", &[good]);
-}
+// Numbers of fields and commands.
 
 // How many places a field has; none if there is no such field.
-fn places_of(field: u32) -> u32 {
+fn places_of(field: u8) -> u16 {
     match field {
         6 => 80,
         8 => 7,
@@ -675,7 +480,7 @@ fn places_of(field: u32) -> u32 {
     }
 }
 
-fn field_of(field: u32) -> Field {
+fn field_of(field: u8) -> Field {
     match field {
         0 => Field::Display,
         1 => Field::Mode,
@@ -716,198 +521,7 @@ fn field_of(field: u32) -> Field {
     }
 }
 
-// What a line of S asks for, if it is good.
-struct Setting {
-    good: bool,
-    field: u32,
-    place: usize,
-    value: u16,
-}
-
-fn bad_setting() -> Setting {
-    Setting {
-        good: false,
-        field: 0,
-        place: 0,
-        value: 0,
-    }
-}
-
-fn checked(f: u32, p: u32, v: u32) -> Setting {
-    if places_of(f) <= p {
-        return bad_setting();
-    }
-    if LARGEST < v {
-        return bad_setting();
-    }
-    Setting {
-        good: true,
-        field: f,
-        place: p as usize,
-        value: v as u16,
-    }
-}
-
-fn setting_of(words: &[u8]) -> Setting {
-    let field = number_at(words, 0);
-    let place = number_at(words, field.next);
-    let value = number_at(words, place.next);
-    if value.more {
-        return bad_setting();
-    }
-    checked(field.value, place.value, value.value)
-}
-
-fn set_call(r: Record, words: &[u8]) -> Record {
-    let s = setting_of(words);
-    if !s.good {
-        return what(r);
-    }
-    say(b"S\n");
-    shown(fields::with_field(r, field_of(s.field), s.place, s.value))
-}
-
-fn feed_into(r: Record, bytes: &[u8], buffer: &mut [u8]) -> Record {
-    let fed = stream::feed(r, bytes, buffer);
-    let answer = fed.answer;
-    say_counts(b"F", answer, fed.used, fed.written, buffer);
-    shown(fed.record)
-}
-
-fn stream_lent(r: Record, room: usize, bytes: &[u8]) -> Record
-    requires { ⌜ room ≤ 300 ⌝ }
-{
-    let mut buffer = lent();
-    feed_into(r, bytes, &mut buffer[..room])
-}
-
-fn stream_of(r: Record, room: usize, word: &[u8]) -> Record
-    requires { ⌜ room ≤ 300 ⌝ }
-{
-    let mut bytes = io::buffer();
-    let n = hex_bytes(word, &mut bytes);
-    if MOST_BYTES < n {
-        return what(r);
-    }
-    stream_lent(r, room, &bytes[..n])
-}
-
-fn stream_call(r: Record, words: &[u8]) -> Record {
-    let room = number_at(words, 0);
-    let start = room.next;
-    let most = room.value;
-    if MOST_ROOM < most {
-        return what(r);
-    }
-    stream_of(r, most as usize, &words[start..])
-}
-
-fn log_into(r: Record, ticks: &[u16], edges: &[u8], buffer: &mut [u8]) -> Record {
-    let logged = keys::take_log(r, ticks, edges, buffer);
-    let answer = logged.answer;
-    say_counts(b"K", answer, logged.used, logged.written, buffer);
-    shown(logged.record)
-}
-
-fn log_lent(r: Record, room: usize, ticks: &[u16], edges: &[u8]) -> Record
-    requires { ⌜ room ≤ 300 ⌝ }
-{
-    let mut buffer = lent();
-    log_into(r, ticks, edges, &mut buffer[..room])
-}
-
-fn log_edges(r: Record, room: usize, ticks: &[u16], word: &[u8]) -> Record
-    requires { ⌜ room ≤ 300 ⌝ }
-{
-    let mut edges = [0u8; MOST_ENTRIES];
-    let n = hex_bytes(word, &mut edges);
-    if MOST_ENTRIES < n {
-        return what(r);
-    }
-    log_lent(r, room, ticks, &edges[..n])
-}
-
-fn log_ticks(r: Record, room: usize, first: &[u8], second: &[u8]) -> Record
-    requires { ⌜ room ≤ 300 ⌝ }
-{
-    let mut ticks = [0u16; MOST_ENTRIES];
-    let n = hex_ticks(first, &mut ticks);
-    if MOST_ENTRIES < n {
-        return what(r);
-    }
-    log_edges(r, room, &ticks[..n], second)
-}
-
-fn log_of(r: Record, room: usize, words: &[u8]) -> Record
-    requires { ⌜ room ≤ 300 ⌝ }
-{
-    let end = next_sign(words, 0, BLANK);
-    if words.len() <= end {
-        return what(r);
-    }
-    log_ticks(r, room, &words[..end], &words[end + 1..])
-}
-
-fn log_call(r: Record, words: &[u8]) -> Record {
-    let room = number_at(words, 0);
-    let start = room.next;
-    let most = room.value;
-    if MOST_ROOM < most {
-        return what(r);
-    }
-    log_of(r, most as usize, &words[start..])
-}
-
-fn second_call(r: Record) -> Record {
-    let passed = light::second(r);
-    let answer = passed.answer;
-    say_answer(b"C", answer);
-    say(b"\n");
-    shown(passed.after)
-}
-
-// The entry in place, on a copy.
-fn second_of(b: Backlight) -> LightPassed
-    ensures { λ q. ⌜ q ≡ lightPassed b ⌝ }
-{
-    let mut lent = b;
-    let answer = light::second_in_place(&mut lent);
-    LightPassed {
-        answer: answer,
-        backlight: lent,
-    }
-}
-
-fn light_call(b: Backlight) {
-    let passed = second_of(b);
-    let answer = passed.answer;
-    say_answer(b"B", answer);
-    say_light(b"", passed.backlight);
-}
-
-fn row_call(r: Record, words: &[u8]) {
-    let word = number_at(words, 0);
-    let n = word.value;
-    if word.more {
-        say_what();
-        return;
-    }
-    if LARGEST_BYTE < n {
-        say_what();
-        return;
-    }
-    say_row(seen::row_seen(r, n as u8));
-}
-
-// A writer's letter, its number, its count and the buffer.
-fn say_written(letter: &[u8], w: Written, buffer: &[u8]) {
-    let answer = w.answer;
-    say_answer(letter, answer);
-    say_number(w.count as u64);
-    say_cells(b"", buffer);
-}
-
-fn command_of(n: u32, a: u16, b: u16) -> Command {
+fn command_of(n: u8, a: u16, b: u16) -> Command {
     match n {
         0 => Command::DisplayOff,
         1 => Command::DisplayOn,
@@ -939,263 +553,314 @@ fn command_of(n: u32, a: u16, b: u16) -> Command {
     }
 }
 
-fn command_into(c: Command, buffer: &mut [u8]) {
-    let w = writer::write_command(c, buffer);
-    say_written(b"W", w, buffer);
+// Whether it is a call. All that a line can break is asked here, so the calls need not ask.
+
+// Whether the bytes are as many as they should be and begin with a room.
+fn has_room(args: &[u8], least: usize, most: usize) -> bool {
+    if args.len() < least {
+        return false;
+    }
+    if most < args.len() {
+        return false;
+    }
+    number_at(args, 0, 1) as usize <= MOST_ROOM
 }
 
-fn command_lent(c: Command, room: usize)
-    requires { ⌜ room ≤ 300 ⌝ }
+// Whether the ticks are there that the bytes tell of, and they and the edges are not too many.
+fn is_log(args: &[u8]) -> bool {
+    let n = number_at(args, 2, 3) as usize;
+    let edges = 2 * n + 4;
+    (n <= MOST_ENTRIES) & (edges <= args.len()) & (args.len() <= edges + MOST_ENTRIES)
+}
+
+fn is_setting(args: &[u8]) -> bool {
+    (args.len() == 5) & (number_at(args, 1, 2) < places_of(byte_at(args, 0)))
+}
+
+fn is_call(letter: u8, args: &[u8]) -> bool {
+    match letter {
+        b'S' => is_setting(args),
+        b'F' => has_room(args, 2, MOST_BYTES),
+        b'K' => has_room(args, 4, MOST_BYTES) & is_log(args),
+        b'Q' => args.len() == 1,
+        b'W' => has_room(args, 7, 7) & (byte_at(args, 2) <= LAST_COMMAND),
+        b'T' => has_room(args, 3, MOST_CELLS) & (byte_at(args, 2) <= 1),
+        b'G' => has_room(args, 3, MOST_CELLS),
+        b'P' => args.len() == 0,
+        b'R' => args.len() == 0,
+        b'C' => args.len() == 0,
+        b'B' => args.len() == 0,
+        b'M' => args.len() == 0,
+        b'V' => args.len() == 0,
+        _ => false,
+    }
+}
+
+// Calls that may change the record. Each answers the record.
+
+fn power_on_call() -> Record {
+    say_answer(b'P', Answer::Done);
+    shown(Record::power_on())
+}
+
+fn set_call(r: Record, args: &[u8]) -> Record {
+    let field = field_of(byte_at(args, 0));
+    let place = number_at(args, 1, 2) as usize;
+    say_answer(b'S', Answer::Done);
+    shown(fields::with_field(r, field, place, number_at(args, 3, 4)))
+}
+
+fn stream_call(r: Record, bytes: &[u8], buffer: &mut [u8]) -> Record {
+    let fed = stream::feed(r, bytes, buffer);
+    let answer = fed.answer;
+    say_lent(b'F', answer, fed.used, fed.written, buffer);
+    shown(fed.record)
+}
+
+// The ticks of a key log into `to`: how many they are.
+fn ticks_into(args: &[u8], to: &mut [u16]) -> usize
+    ensures { λ r. ⌜ r ≤ length (now (to .entry)) ⌝ }
 {
-    let mut buffer = lent();
-    command_into(c, &mut buffer[..room]);
+    let n = number_at(args, 2, 3) as usize;
+    if to.len() < n {
+        return 0;
+    }
+    for i in 0..n {
+        to[i] = number_at(args, 2 * i + 4, 2 * i + 5);
+    }
+    n
 }
 
-// The command writer, by the numbers of its line.
-fn write_numbered(room: u32, n: u32, a: u32, b: u32) {
-    if MOST_ROOM < room {
-        say_what();
-        return;
-    }
-    if LAST_COMMAND < n {
-        say_what();
-        return;
-    }
-    if LARGEST < a {
-        say_what();
-        return;
-    }
-    if LARGEST < b {
-        say_what();
-        return;
-    }
-    command_lent(command_of(n, a as u16, b as u16), room as usize);
+fn log_into(r: Record, ticks: &[u16], edges: &[u8], buffer: &mut [u8]) -> Record {
+    let logged = keys::take_log(r, ticks, edges, buffer);
+    let answer = logged.answer;
+    say_lent(b'K', answer, logged.used, logged.written, buffer);
+    shown(logged.record)
 }
 
-fn command_call(words: &[u8]) {
-    let room = number_at(words, 0);
-    let n = number_at(words, room.next);
-    let a = number_at(words, n.next);
-    let b = number_at(words, a.next);
-    if b.more {
-        say_what();
-        return;
-    }
-    write_numbered(room.value, n.value, a.value, b.value);
+fn log_call(r: Record, args: &[u8], buffer: &mut [u8]) -> Record {
+    let mut ticks = [0u16; MOST_ENTRIES];
+    let n = ticks_into(args, &mut ticks);
+    log_into(r, &ticks[..n], after(args, 2 * n + 4), buffer)
 }
 
-fn side_of(n: u32) -> Side {
+fn second_call(r: Record) -> Record {
+    let passed = light::second(r);
+    let answer = passed.answer;
+    say_answer(b'C', answer);
+    shown(passed.after)
+}
+
+// Calls that leave the record as it is.
+
+fn range_call(r: Record) {
+    say(b"R", &[ranges::in_range(r) as u8]);
+}
+
+// The entry in place, on a copy.
+fn second_of(b: Backlight) -> LightPassed
+    ensures { λ q. ⌜ q ≡ lightPassed b ⌝ }
+{
+    let mut lent = b;
+    let answer = light::second_in_place(&mut lent);
+    LightPassed {
+        answer: answer,
+        backlight: lent,
+    }
+}
+
+fn light_call(b: Backlight) {
+    let passed = second_of(b);
+    let answer = passed.answer;
+    say_answer(b'B', answer);
+    say_light(passed.backlight);
+}
+
+fn row_call(r: Record, row: u8) {
+    let seen = seen::row_seen(r, row);
+    let answer = seen.answer;
+    say_answer(b'Q', answer);
+    say_row(seen);
+}
+
+fn command_at(args: &[u8]) -> Command {
+    command_of(
+        byte_at(args, 2),
+        number_at(args, 3, 4),
+        number_at(args, 5, 6),
+    )
+}
+
+fn side_of(n: u8) -> Side {
     if n == 0 {
         return Side::Left;
     }
     Side::Right
 }
 
-fn label_into(side: u32, codes: &[u8], buffer: &mut [u8]) {
-    if 1 < side {
-        say_what();
-        return;
+fn written(letter: u8, args: &[u8], buffer: &mut [u8]) -> Written {
+    if letter == b'W' {
+        return writer::write_command(command_at(args), buffer);
     }
-    let w = writer::write_label(side_of(side), codes, buffer);
-    say_written(b"T", w, buffer);
-}
-
-fn picture_into(row: u32, columns: &[u8], buffer: &mut [u8]) {
-    if LARGEST_BYTE < row {
-        say_what();
-        return;
-    }
-    let w = writer::write_picture_row(row as u8, columns, buffer);
-    say_written(b"G", w, buffer);
-}
-
-fn write_into(letter: u8, n: u32, bytes: &[u8], buffer: &mut [u8]) {
+    let first = byte_at(args, 2);
+    let cells = after(args, 3);
     if letter == b'T' {
-        label_into(n, bytes, buffer);
-        return;
+        return writer::write_label(side_of(first), cells, buffer);
     }
-    picture_into(n, bytes, buffer);
+    writer::write_picture_row(first, cells, buffer)
 }
 
-fn write_lent(letter: u8, room: usize, n: u32, bytes: &[u8])
-    requires { ⌜ room ≤ 300 ⌝ }
-{
-    let mut buffer = lent();
-    write_into(letter, n, bytes, &mut buffer[..room]);
+fn writer_call(letter: u8, args: &[u8], buffer: &mut [u8]) {
+    let w = written(letter, args, buffer);
+    let answer = w.answer;
+    say_lent(letter, answer, 0, w.count, buffer);
 }
 
-fn write_of(letter: u8, room: usize, n: u32, word: &[u8])
-    requires { ⌜ room ≤ 300 ⌝ }
-{
-    let mut bytes = [0u8; MOST_LENT];
-    let count = hex_bytes(word, &mut bytes);
-    if MOST_LENT < count {
-        say_what();
-        return;
-    }
-    write_lent(letter, room, n, &bytes[..count]);
-}
-
-// The label writer and the picture row writer, whose lines have the same words.
-fn writer_call(letter: u8, words: &[u8]) {
-    let room = number_at(words, 0);
-    let second = number_at(words, room.next);
-    let start = second.next;
-    let most = room.value;
-    if MOST_ROOM < most {
-        say_what();
-        return;
-    }
-    write_of(letter, most as usize, second.value, &words[start..]);
-}
-
-// Calls that leave the record as it is.
-
-fn plain_question(r: Record, letter: u8) {
+fn question(r: Record, letter: u8, args: &[u8], buffer: &mut [u8]) {
     match letter {
-        b'R' => in_range_call(r),
+        b'R' => range_call(r),
         b'B' => light_call(r.panel.backlight),
         b'M' => say_sms(seen::sms_seen(r)),
-        b'V' => say_volume_seen(seen::volume_seen(r)),
-        _ => say_what(),
+        b'V' => say_volume(seen::volume_seen(r)),
+        b'Q' => row_call(r, byte_at(args, 0)),
+        _ => writer_call(letter, args, buffer),
     }
 }
 
-fn worded_question(r: Record, letter: u8, words: &[u8]) {
+// Lines.
+
+fn answered(r: Record, letter: u8, args: &[u8], buffer: &mut [u8]) -> Record {
     match letter {
-        b'Q' => row_call(r, words),
-        b'W' => command_call(words),
-        b'T' => writer_call(letter, words),
-        b'G' => writer_call(letter, words),
-        _ => say_what(),
-    }
-}
-
-// A line of one sign.
-fn plain_call(r: Record, letter: u8) -> Record {
-    if letter == b'P' {
-        return power_on_call();
-    }
-    if letter == b'C' {
-        return second_call(r);
-    }
-    plain_question(r, letter);
-    r
-}
-
-// A line of a letter, a blank and words.
-fn worded_call(r: Record, letter: u8, words: &[u8]) -> Record {
-    match letter {
-        b'S' => return set_call(r, words),
-        b'F' => return stream_call(r, words),
-        b'K' => return log_call(r, words),
-        _ => worded_question(r, letter, words),
+        b'P' => return power_on_call(),
+        b'S' => return set_call(r, args),
+        b'F' => return stream_call(r, after(args, 2), buffer),
+        b'K' => return log_call(r, args, buffer),
+        b'C' => return second_call(r),
+        _ => question(r, letter, args, buffer),
     }
     r
 }
 
-fn call(r: Record, line: &[u8]) -> Record {
-    let n = line.len();
-    if n == 0 {
+// The buffer of the most room; place i holds (i * 7 + 3) mod 256.
+fn lent() -> [u8; 300]
+    ensures { λ r. ⌜ 300 ≡ length r ⌝ }
+{
+    let mut buffer = [0u8; 300];
+    let mut value = 3;
+    for i in 0..300 {
+        buffer[i] = value;
+        value = std::num::wrapping_add_u8(value, 7);
+    }
+    buffer
+}
+
+// The room, or the most room if it is none.
+fn room_of(args: &[u8]) -> usize
+    ensures { λ r. ⌜ r ≤ 300 ⌝ }
+{
+    let room = number_at(args, 0, 1) as usize;
+    if MOST_ROOM < room {
+        return MOST_ROOM;
+    }
+    room
+}
+
+fn what(r: Record) -> Record {
+    say_what();
+    r
+}
+
+// The buffer is lent to every call; one whose bytes begin with no room leaves it alone.
+fn call(r: Record, letter: u8, args: &[u8]) -> Record {
+    if !is_call(letter, args) {
+        return what(r);
+    }
+    let mut buffer = lent();
+    let room = room_of(args);
+    answered(r, letter, args, &mut buffer[..room])
+}
+
+fn take_line(r: Record, line: &[u8]) -> Record {
+    if line.len() == 0 {
         return r;
     }
-    let letter = line[0];
-    if n == 1 {
-        return plain_call(r, letter);
+    let mut bytes = [0u8; MOST_BYTES];
+    let n = bytes_into(line, &mut bytes);
+    if MOST_BYTES < n {
+        return what(r);
     }
-    if line[1] == BLANK {
-        return worded_call(r, letter, &line[2..]);
-    }
-    what(r)
+    call(r, line[0], &bytes[..n])
 }
 
-// Lines. Standard input comes in pieces; what has come of a line is held in `line`.
+// Reading. Standard input is read into one buffer, behind the line there that is not whole yet.
 
-// The record, and how much of a line is held (TOO_LONG when it did not fit).
-struct State {
-    record: Record,
-    held: usize,
+// Where the line ends that begins at `start`; `end`, where all ends, if it is not whole yet.
+fn line_end(s: &[u8], start: usize, end: usize) -> usize
+    requires { ⌜ (start ≤ end) × (end ≤ length (now s)) ⌝ }
+    ensures { λ r. ⌜ (start ≤ r) × (r ≤ end) ⌝ }
+{
+    let mut i = start;
+    while i < end {
+        if s[i] == LINE_FEED {
+            return i;
+        }
+        i += 1;
+    }
+    i
 }
 
-fn hold_byte(line: &mut [u8], held: usize, b: u8) -> usize {
-    if held < line.len() {
-        line[held] = b;
-        return held + 1;
+// Moves that line to the front, with a line feed behind it in case no more comes: how much of it there is. Of a line that is too
+// long the beginning is enough.
+fn hold(s: &mut [u8], start: usize, end: usize) -> usize
+    requires { ⌜ (start ≤ end) × (end ≤ length (now s)) ⌝ }
+    requires { ⌜ 16384 < length (now s) ⌝ }
+    ensures { λ r. ⌜ r ≤ 16384 ⌝ }
+{
+    for i in 0..TOO_LONG {
+        if start + i == end {
+            s[i] = LINE_FEED;
+            return i;
+        }
+        s[i] = s[start + i];
     }
+    s[TOO_LONG] = LINE_FEED;
     TOO_LONG
 }
 
-fn hold(line: &mut [u8], held: usize, part: &[u8]) -> usize {
-    let mut end = held;
-    for i in 0..part.len() {
-        end = hold_byte(line, end, part[i]);
+// Reads behind it: where all ends then. At the end of the input the line feed ends the last line, and then there is nothing.
+fn refill(s: &mut [u8], start: usize, end: usize) -> usize
+    requires { ⌜ (start ≤ end) × (end ≤ length (now s)) ⌝ }
+    requires { ⌜ 16384 < length (now s) ⌝ }
+    ensures { λ r. ⌜ r ≤ length (now (s .entry)) ⌝ }
+{
+    let held = hold(s, start, end);
+    let rest = &mut s[held..];
+    let got = libc::read(STDIN_FILENO, rest);
+    let n = io::count(got, rest);
+    if (n == 0) & (0 < held) {
+        return held + 1;
     }
-    end
-}
-
-// The line that is held has come to its end.
-fn finish(r: Record, held: usize, line: &[u8]) -> Record {
-    if held <= line.len() {
-        return call(r, &line[..held]);
-    }
-    what(r)
-}
-
-fn take_piece(state: State, piece: &[u8], line: &mut [u8]) -> State {
-    let mut r = state.record;
-    let mut held = state.held;
-    let mut from = 0;
-    while from < piece.len() {
-        let end = next_sign(piece, from, LINE_FEED);
-        held = hold(line, held, &piece[from..end]);
-        from = end;
-        if end < piece.len() {
-            from = end + 1;
-            r = finish(r, held, line);
-            held = 0;
-        }
-    }
-    State {
-        record: r,
-        held: held,
-    }
-}
-
-// The state after one read of standard input, and whether the input ended.
-struct Turn {
-    state: State,
-    ended: bool,
-}
-
-fn take_some(state: State, line: &mut [u8]) -> Turn {
-    let mut piece = io::buffer();
-    let got = libc::read(STDIN_FILENO, &mut piece);
-    let n = io::count(got, &piece);
-    Turn {
-        state: take_piece(state, &piece[..n], line),
-        ended: n == 0,
-    }
-}
-
-fn take_all(line: &mut [u8]) -> State {
-    let mut state = State {
-        record: Record::power_on(),
-        held: 0,
-    };
-    let mut turns: u64 = 0xFFFF_FFFF_FFFF_FFFF;
-    while 0 < turns {
-        let turn = take_some(state, line);
-        state = turn.state;
-        if turn.ended {
-            return state;
-        }
-        turns -= 1;
-    }
-    state
+    held + n
 }
 
 fn main() {
-    let mut line = io::large_buffer();
-    let state = take_all(&mut line);
-    finish(state.record, state.held, &line);
+    let mut s = io::large_buffer();
+    let mut r = Record::power_on();
+    let mut start = 0;
+    let mut end = 0;
+    let mut turns: u64 = 0xFFFF_FFFF_FFFF_FFFF;
+    while 0 < turns {
+        turns -= 1;
+        let stop = line_end(&s, start, end);
+        if stop < end {
+            r = take_line(r, &s[start..stop]);
+            start = stop + 1;
+            continue;
+        }
+        end = refill(&mut s, start, end);
+        start = 0;
+        if end == 0 {
+            return;
+        }
+    }
 }

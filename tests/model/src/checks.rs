@@ -810,79 +810,127 @@ fn script_lines() {
         String::from_utf8(answer).unwrap()
     };
     assert_eq!(ask(""), "");
-    assert_eq!(ask("R"), "R 1\n");
-    assert_eq!(ask("Q 6"), "Q 0 0\n");
-    assert_eq!(ask("Q 0"), "Q 0 1 0 0 0 0 0 0\n");
-    assert_eq!(ask("Q 5"), "Q 0 4 0 00000000000000 0 00000000000000 0\n");
-    assert_eq!(ask("Q 7"), "Q 4 0\n");
-    assert_eq!(ask("M"), "M 0 0\n");
-    assert_eq!(ask("V"), "V 0 0 0\n");
-    assert_eq!(ask("B"), "B 0 0 30 0 0\n");
-    assert_eq!(ask("W 8 2 13 0"), "W 0 7 1B494431330D0A34\n");
-    assert_eq!(ask("W 0 2 2 0"), "W 2 0 -\n");
-    assert_eq!(ask("T 3 0 -"), "T 3 0 030A11\n");
-    assert_eq!(ask("G 10 0 ff"), "G 0 10 1B4772302C46467A0D0A\n");
-    let answer = ask("F 2 411b51");
+    assert_eq!(ask("R"), "R 01\n");
+    assert_eq!(ask("Q 06"), "Q 00\n");
+    assert_eq!(ask("Q 00"), "Q 00\nicon bar 000000000000\n");
+    assert_eq!(
+        ask("Q 05"),
+        "Q 00\nsoft keys 00\nlabels 0000\nleft 00000000000000\nright 00000000000000\n"
+    );
+    assert_eq!(ask("Q 07"), "Q 04\n");
+    assert_eq!(
+        ask("Q 02"),
+        format!("Q 00\nrow 0201\ncells {}\n", "20".repeat(16))
+    );
+    assert_eq!(ask("M"), "M 0000\n");
+    assert_eq!(ask("V"), "V 000000\n");
+    assert_eq!(ask("B"), "B 00\nbacklight 001E0000\n");
+    assert_eq!(
+        ask("W 000802000D0000"),
+        "W 0000000007\nbuffer 1B494431330D0A34\n"
+    );
+    assert_eq!(ask("W 00000200020000"), "W 0200000000\nbuffer\n");
+    assert_eq!(ask("T 000300"), "T 0300000000\nbuffer 030A11\n");
+    assert_eq!(
+        ask("G 000a00ff"),
+        "G 000000000A\nbuffer 1B4772302C46467A0D0A\n"
+    );
+    let answer = ask("F 0002411b51");
     let lines: Vec<&str> = answer.lines().collect();
-    assert_eq!(lines.len(), 12);
-    assert_eq!(lines[0], "F 0 3 0 030A");
-    assert_eq!(lines[1], "screen 1 0 0 0 0 1");
-    assert_eq!(lines[2], "labels 0 00000000000000 0 00000000000000");
-    assert_eq!(lines[3], "icons 0 0 0 0 0 0");
-    assert_eq!(lines[4], "volume 0 0 0 0");
-    assert_eq!(lines[5], "times 12 12");
-    assert_eq!(lines[6], "buzzer 0");
-    assert_eq!(lines[7], "backlight 0 30 0 0");
-    assert_eq!(lines[8], "held 0 0 0 0");
-    assert_eq!(lines[9], format!("frame 1 1 51{}", "00".repeat(249)));
-    assert_eq!(lines[10], format!("text 41{}", "20".repeat(79)));
-    assert_eq!(lines[11], format!("picture {}", "00".repeat(672)));
-    assert!(ask("S 31 0 65535").contains("held 0 0 65535 0\n"));
-    assert_eq!(ask("R"), "R 0\n");
-    assert_eq!(ask("Q 7"), "Q 1 0\n");
-    assert!(ask("K 0 - -").starts_with("K 1 0 0 -\nscreen"));
-    assert!(ask("C").starts_with("C 1\nscreen"));
-    assert!(ask("S 1 0 261").starts_with("S\nscreen 1 5 "));
-    assert!(ask("S 0 0 256").contains("screen 1 "));
-    assert!(ask("P").starts_with("P\nscreen 1 0 0 0 0 0\n"));
-    assert!(ask("K 1 000000C8 0080").starts_with("K 0 2 1 CC\n"));
+    let wanted = [
+        "F 0000030000",
+        "buffer 030A",
+        "screen 010000000001",
+        "labels 0000",
+        "left 00000000000000",
+        "right 00000000000000",
+        "icons 0000000000000000000000",
+        "backlight 001E0000",
+        "keys 00000000000C0C",
+        "frame 0101",
+        &format!("bytes 51{}", "00".repeat(249)),
+        &format!("text 41{}", "20".repeat(79)),
+        &format!("picture {}", "00".repeat(672)),
+    ];
+    assert_eq!(lines, wanted);
+    assert!(ask("S 1F0000fFfE").contains("\nkeys 0000FFFE000C0C\n"));
+    assert_eq!(ask("R"), "R 00\n");
+    assert_eq!(ask("Q 07"), "Q 01\n");
+    assert!(ask("K 00000000").starts_with("K 0100000000\nbuffer\nscreen"));
+    assert!(ask("C").starts_with("C 01\nscreen"));
+    assert!(ask("S 0100000105").starts_with("S 00\nscreen 0105"));
+    assert!(ask("S 0000000100").contains("screen 01"));
+    assert!(ask("P").starts_with("P 00\nscreen 010000000000\n"));
+    assert_eq!(ask("R "), "R 01\n");
+    assert!(ask("K 00010002000000C80080").starts_with("K 0000020001\nbuffer CC\n"));
+    // Each limit is reached, and passed by one.
+    let full = |head: &str, byte: &str, count: usize| format!("{head}{}", byte.repeat(count));
+    for (head, byte, most) in [
+        ("F 0000", "41", 4096),
+        ("F 012C", "41", 0),
+        ("K 00000400", "00", 2048 + 1024),
+        ("K 00000000", "FF", 1024),
+        ("K 00000001", "00", 2),
+        ("T 000000", "41", 300),
+        ("T 0000", "01", 1),
+        ("G 000000", "41", 300),
+        ("Q ", "04", 1),
+        ("S 230000", "00", 2),
+        ("W 00001A0000", "00", 2),
+    ] {
+        assert_ne!(ask(&full(head, byte, most)), "what\n", "{head}");
+    }
+    ask("P");
     for line in [
+        &full("F 0000", "41", 4097),
+        &full("K 00000400", "00", 2048 + 1025),
+        &full("K 00000401", "00", 2050),
+        &full("K 00000000", "FF", 1025),
+        &full("T 000000", "41", 301),
+        &full("G 000000", "41", 301),
         " ",
-        "P ",
+        "P  ",
         " P",
         "p",
-        "F",
-        "F 1",
-        "F 301 -",
-        "F 1  -",
-        "F 1 4",
-        "F 1 4g",
-        "F 000001 -",
-        "F +1 -",
-        "F 1 - -",
-        "K 1 00 -",
-        "S 36 0 0",
-        "S 1 1 0",
-        "S 6 80 0",
-        "S 1 0 65536",
-        "Q 256",
-        "W 1 27 0 0",
-        "W 1 0 0",
-        "T 1 2 -",
-        "G 1 256 -",
-        "F 1 --",
-        "F 1 ",
         "P\r",
+        "P 00",
+        "F",
+        "F ",
+        "F 00",
+        "F 012D",
+        "F 00014",
+        "F 00014g",
+        "F 0001 41",
+        "F  000141",
+        "F000141",
+        "F 0001-",
+        "F +001",
+        "K 000100",
+        "K 0001000100",
+        "S 2400000000",
+        "S 0100010000",
+        "S 0600500000",
+        "S 01000000",
+        "S 010000000000",
+        "Q ",
+        "Q 0000",
+        "W 00011B00000000",
+        "W 000100000000",
+        "W 0001000000000000",
+        "T 0001",
+        "T 000102",
+        "G 0001",
+        "G 012D00",
     ] {
         assert_eq!(ask(line), "what\n", "{line:?}");
     }
-    assert_eq!(ask("R"), "R 1\n");
+    assert_eq!(ask("R"), "R 01\n");
 }
 
 #[test]
 fn lines_of_calls_read_back() {
     for seed in 0..3 {
-        for (call, _, _) in generate::calls(seed, 500, "PSRFKCBQMVWTGXY") {
+        for (call, _, _) in generate::calls(seed, 500, generate::KINDS) {
             assert_eq!(script::parse(&script::line(&call)), call);
         }
     }

@@ -88,10 +88,7 @@ fn short(bytes: &[u8]) -> String {
 
 /// Where two lines first differ, with some signs around.
 fn place_of_difference(a: &[u8], b: &[u8]) -> usize {
-    a.iter()
-        .zip(b)
-        .take_while(|(x, y)| x.eq_ignore_ascii_case(y))
-        .count()
+    a.iter().zip(b).take_while(|(x, y)| x == y).count()
 }
 
 /// Compares one script. None: no difference.
@@ -117,8 +114,7 @@ pub fn script_differs(
         };
         for ours in ours.split(|&byte| byte == LF) {
             let line_of_theirs = theirs.next().unwrap_or(b"");
-            // The case of hexadecimal digits is free.
-            if line_of_theirs.eq_ignore_ascii_case(ours) {
+            if line_of_theirs == ours {
                 continue;
             }
             let at = place_of_difference(ours, line_of_theirs);

@@ -9,9 +9,7 @@ use crate::rng::Rng;
 use crate::script::{perform, Answer, Call, COMMANDS};
 use crate::writers;
 
-/// The letters of all calls; X stands for lines that can't be taken, Y (only
-/// by name) for such lines about which a strict and a lenient reader of
-/// scripts may differ.
+/// The letters of all calls; X stands for lines that can't be taken.
 pub const KINDS: &str = "PSRFKCBQMVWTGX";
 
 /// Values around the ends of the ranges.
@@ -59,8 +57,17 @@ pub fn calls(seed: u64, count: usize, kinds: &str) -> Vec<(Call, Record, Answer)
 /// The text of a script.
 pub fn script(seed: u64, count: usize, kinds: &str) -> Vec<u8> {
     let mut out = vec![];
-    for (call, _, _) in calls(seed, count, kinds) {
-        out.extend(crate::script::line(&call));
+    for (place, (call, _, _)) in calls(seed, count, kinds).iter().enumerate() {
+        let mut line = crate::script::line(call);
+        // Digits may be of either case.
+        if place % 4 == 0 && line.len() > 1 {
+            line[1..].make_ascii_lowercase();
+        }
+        // A blank with no bytes behind it does no harm.
+        if place % 4 == 1 && line.len() == 1 {
+            line.push(b' ');
+        }
+        out.extend(line);
         out.push(LF);
     }
     out
@@ -118,11 +125,7 @@ impl Generator {
                 self.emit(Call::InRange);
             }
             97 if self.has('X') => {
-                let line = clear_misfit(&mut self.rng);
-                self.emit(Call::Other(line));
-            }
-            98 if self.has('Y') => {
-                let line = doubtful_misfit(&mut self.rng);
+                let line = misfit(&mut self.rng);
                 self.emit(Call::Other(line));
             }
             _ => {
@@ -1298,82 +1301,136 @@ fn sender(rng: &mut Rng, pieces: usize) -> Vec<u8> {
 
 // Lines that can't be taken.
 
-fn clear_misfit(rng: &mut Rng) -> Vec<u8> {
-    const LINES: [&str; 40] = [
+/// A line that can't be taken, or an empty one.
+fn misfit(rng: &mut Rng) -> Vec<u8> {
+    const LINES: [&str; 68] = [
         "",
+        " ",
         "Z",
         "p",
         "what",
+        "P  ",
+        " P",
+        "PP",
+        "P\r",
+        "P 00",
+        "R 00",
+        "C 00",
+        "B 00",
+        "M 00",
+        "V 00",
+        "Z 0000",
+        "z 00",
         "F",
-        "F 3",
-        "F 301 00",
-        "F 3 0",
-        "F 3 0g",
-        "F 3 000",
-        "F x 00",
-        "F 3 00 00",
-        "F -1 00",
-        "K 3 0000",
-        "K 3 00 00",
-        "K 3 000000 0000",
-        "K 3 0000 0",
-        "K 400 0000 00",
-        "S 36 0 0",
-        "S 99 0 0",
-        "S 6 80 32",
-        "S 8 7 32",
-        "S 10 7 32",
-        "S 11 672 0",
-        "S 35 250 0",
-        "S 1 0",
-        "S 1 0 0 0",
-        "S 1 0 x",
-        "Q",
-        "Q x",
-        "Q 1 1",
-        "W 30 27 0 0",
-        "W 30 27",
-        "W 301 0 0 0",
-        "W 30 0 0",
-        "T 30 2 41",
-        "T 30 0 4",
-        "G 30 0 0",
-        "G 301 0 00",
-        "P 0",
+        "F ",
+        "F 0",
+        "F 00",
+        "F 000",
+        "F 012D",
+        "F 012D00",
+        "F 00030",
+        "F 0003000",
+        "F 00030g",
+        "F 0003g0",
+        "F 0003:0",
+        "F 0003/0",
+        "F 0003@0",
+        "F 0003`0",
+        "F 0003G0",
+        "F 0003 00",
+        "F  000300",
+        "F 000300 ",
+        "F\t000300",
+        "F000300",
+        "F-000300",
+        "f 000300",
+        "F 0x0300",
+        "F 0003-0",
+        "K",
+        "K 0003",
+        "K 000300",
+        "K 0003000100",
+        "K 000300020000FF",
+        "K 012D00010000FF",
+        "K 0003FFFF0000FF",
+        "S 2400000000",
+        "S FF00000000",
+        "S 0600500020",
+        "S 0800070020",
+        "S 0A00070020",
+        "S 0B02A00000",
+        "S 2300FA0000",
+        "S 0100010000",
+        "S 1F00010000",
+        "S 01000000",
+        "S 010000000000",
+        "Q ",
+        "Q 0000",
+        "W 001E1B00000000",
+        "W 012D0000000000",
+        "W 001E00000000",
+        "W 001E0000000000FF",
+        "T 001E",
+        "T 001E0241",
     ];
-    match rng.below(8) {
-        0 => format!("F 10 {}", "41".repeat(4097)).into_bytes(),
-        1 => format!("G 10 0 {}", "41".repeat(301)).into_bytes(),
-        2 => format!("T 10 0 {}", "41".repeat(301)).into_bytes(),
-        3 => format!("K 10 {} {}", "0000".repeat(1025), "FF".repeat(1025)).into_bytes(),
+    let stream = |count: usize| format!("F 000A{}", "41".repeat(count));
+    match rng.below(12) {
+        0 => stream(4097).into_bytes(),
+        1 => format!("{}4", stream(4096)).into_bytes(),
+        2 => format!("G 000A00{}", "41".repeat(301)).into_bytes(),
+        3 => format!("T 000A00{}", "41".repeat(301)).into_bytes(),
+        4 => format!("K 000A0401{}", "0000".repeat(1025)).into_bytes(),
+        5 => format!("K 000A0000{}", "FF".repeat(1025)).into_bytes(),
+        6 => stream(rng.pick(&[8188, 8189, 8190, 20_000, 32_764, 32_765, 40_000])).into_bytes(),
+        7 => rng
+            .pick(&["G 001E", "G 012D0000", "T 012D0041"])
+            .as_bytes()
+            .to_vec(),
+        8 | 9 => damaged(rng).unwrap_or_default(),
         _ => rng.pick(&LINES).as_bytes().to_vec(),
     }
 }
 
-fn doubtful_misfit(rng: &mut Rng) -> Vec<u8> {
-    const LINES: [&str; 20] = [
-        " ",
-        " P",
-        "P ",
-        "F  3 00",
-        "F 3 00 ",
-        "F 3\t00",
-        "F 3 ",
-        "F 000003 00",
-        "F +3 00",
-        "Q 256",
-        "Q 65536",
-        "S 1 1 0",
-        "S 0 5 0",
-        "S 1 0 65536",
-        "S 31 0 65536",
-        "W 30 2 65536 0",
-        "G 30 256 00",
-        "T 30 256 41",
-        "P\r",
-        "F 3 0x00",
-    ];
-    rng.pick(&LINES).as_bytes().to_vec()
+/// The line of a good call with one sign too few, too many or another, if it
+/// can't be taken then.
+fn damaged(rng: &mut Rng) -> Option<Vec<u8>> {
+    let call = match rng.below(4) {
+        0 => Call::Set {
+            field: 1,
+            place: 0,
+            value: rng.next() as u16,
+        },
+        1 => Call::Keys {
+            room: rng.below(30) as u16,
+            ticks: vec![rng.next() as u16; 3],
+            edges: vec![255; 3],
+        },
+        2 => Call::Command {
+            room: rng.below(30) as u16,
+            command: rng.below(usize::from(COMMANDS)) as u16,
+            numbers: [rng.next() as u16, rng.next() as u16],
+        },
+        _ => Call::Stream {
+            room: rng.below(30) as u16,
+            bytes: vec![rng.byte(); 3],
+        },
+    };
+    let mut line = crate::script::line(&call);
+    let place = rng.below(line.len());
+    let sign = match rng.below(3) {
+        0 => rng.pick(b" -/09:@AFGZ`afgz\r\t\0\xFF"),
+        1 => rng.byte(),
+        _ => b'0',
+    };
+    match rng.below(3) {
+        0 => line.insert(place, sign),
+        1 => line[place] = sign,
+        _ => {
+            line.remove(place);
+        }
+    }
+    let taken = line.contains(&LF) || !matches!(crate::script::parse(&line), Call::Other(_));
+    (!taken).then_some(line)
 }
 
 /// Whether the key rule for this entry sits right at its threshold; used to

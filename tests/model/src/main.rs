@@ -23,8 +23,7 @@
 //!   reach; exit status 1 if something isn't reached.
 //!
 //! KINDS is a list of call letters, for instance `PSRF`; without it all
-//! (`PSRFKCBQMVWTGX`, where X stands for lines that can't be taken). Y, only
-//! by name, adds such lines about which two readers of scripts may differ.
+//! (`PSRFKCBQMVWTGX`, where X stands for lines that can't be taken).
 
 mod compare;
 mod cover;
@@ -81,8 +80,7 @@ fn seeds(word: &str) -> Result<Range<u64>, String> {
 }
 
 fn kinds(word: &str) -> Result<String, String> {
-    let known = |letter: char| generate::KINDS.contains(letter) || letter == 'Y';
-    if !word.is_empty() && word.chars().all(known) {
+    if !word.is_empty() && word.chars().all(|letter| generate::KINDS.contains(letter)) {
         Ok(word.to_string())
     } else {
         Err(format!("no list of call letters: {word}"))

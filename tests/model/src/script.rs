@@ -13,6 +13,8 @@ pub const ENTRIES: usize = 1024;
 pub const LENT: usize = 300;
 /// Commands that the command writer knows.
 pub const COMMANDS: u16 = 27;
+/// Fields that can be set.
+const FIELDS: u16 = 36;
 
 #[derive(Clone, PartialEq, Eq, Debug)]
 pub enum Call {
@@ -87,34 +89,13 @@ pub enum Answer {
 
 // Reading a line.
 
-/// A number: one to five decimal digits, at most `most`.
-fn number(word: &[u8], most: u16) -> Option<u16> {
-    let digits = (1..=5).contains(&word.len()) && word.iter().all(u8::is_ascii_digit);
-    let n: u32 = std::str::from_utf8(word).ok()?.parse().ok()?;
-    (digits && n <= u32::from(most)).then_some(n as u16)
-}
-
-/// Bytes as pairs of hexadecimal digits, or none as a single `-`.
-fn bytes(word: &[u8], most: usize) -> Option<Vec<u8>> {
-    if word == b"-" {
-        return Some(vec![]);
-    }
-    if word.is_empty() || word.len() % 2 == 1 || word.len() / 2 > most {
-        return None;
-    }
+/// The bytes of pairs of hexadecimal digits.
+fn bytes(pairs: &[u8]) -> Option<Vec<u8>> {
     let digit = |byte: u8| char::from(byte).to_digit(16).map(|n| n as u8);
-    word.chunks(2)
-        .map(|pair| Some(digit(pair[0])? * 16 + digit(pair[1])?))
-        .collect()
-}
-
-/// Words of four hexadecimal digits each, high byte first.
-fn words(word: &[u8], most: usize) -> Option<Vec<u16>> {
-    let bytes = bytes(word, 2 * most)?;
-    let words = bytes
+    pairs
         .chunks(2)
-        .map(|pair| Some(u16::from_be_bytes([pair[0], *pair.get(1)?])));
-    words.collect()
+        .map(|pair| Some(digit(pair[0])? * 16 + digit(*pair.get(1)?)?))
+        .collect()
 }
 
 /// The call of a line.
@@ -123,108 +104,137 @@ pub fn parse(line: &[u8]) -> Call {
 }
 
 fn known(line: &[u8]) -> Option<Call> {
-    let words_of_line: Vec<&[u8]> = line.split(|&byte| byte == b' ').collect();
-    let call = match words_of_line[..] {
-        [b"P"] => Call::PowerOn,
-        [b"S", field, place, value] => {
-            let field = number(field, 35)?;
-            let place = number(place, u16::MAX)?;
-            if usize::from(place) >= places(field) {
-                return None;
-            }
-            let value = number(value, u16::MAX)?;
-            Call::Set {
+    match line {
+        [letter] => with_bytes(*letter, &[]),
+        [letter, b' ', pairs @ ..] => with_bytes(*letter, &bytes(pairs)?),
+        _ => None,
+    }
+}
+
+fn with_bytes(letter: u8, bytes: &[u8]) -> Option<Call> {
+    match (letter, bytes) {
+        (b'P', []) => Some(Call::PowerOn),
+        (b'R', []) => Some(Call::InRange),
+        (b'C', []) => Some(Call::Second),
+        (b'B', []) => Some(Call::Thin),
+        (b'M', []) => Some(Call::Sms),
+        (b'V', []) => Some(Call::Volume),
+        (b'S', &[field, p, q, v, w]) => {
+            let field = u16::from(field);
+            let place = u16::from_be_bytes([p, q]);
+            let good = field < FIELDS && usize::from(place) < places(field);
+            good.then_some(Call::Set {
                 field,
                 place,
-                value,
-            }
+                value: u16::from_be_bytes([v, w]),
+            })
         }
-        [b"R"] => Call::InRange,
-        [b"F", room, stream] => Call::Stream {
-            room: number(room, ROOM)?,
-            bytes: bytes(stream, BYTES)?,
-        },
-        [b"K", room, ticks, edges] => Call::Keys {
-            room: number(room, ROOM)?,
-            ticks: words(ticks, ENTRIES)?,
-            edges: bytes(edges, ENTRIES)?,
-        },
-        [b"C"] => Call::Second,
-        [b"B"] => Call::Thin,
-        [b"Q", row] => Call::Row {
-            row: number(row, 255)? as u8,
-        },
-        [b"M"] => Call::Sms,
-        [b"V"] => Call::Volume,
-        [b"W", room, command, a, b] => Call::Command {
-            room: number(room, ROOM)?,
-            command: number(command, COMMANDS - 1)?,
-            numbers: [number(a, u16::MAX)?, number(b, u16::MAX)?],
-        },
-        [b"T", room, side, codes] => Call::Label {
-            room: number(room, ROOM)?,
-            side: number(side, 1)? as u8,
-            codes: bytes(codes, LENT)?,
-        },
-        [b"G", room, row, columns] => Call::Picture {
-            room: number(room, ROOM)?,
-            row: number(row, 255)? as u8,
-            columns: bytes(columns, LENT)?,
-        },
-        _ => return None,
-    };
-    Some(call)
+        (b'Q', &[row]) => Some(Call::Row { row }),
+        (_, &[high, low, ref rest @ ..]) => {
+            let room = u16::from_be_bytes([high, low]);
+            (room <= ROOM).then(|| with_room(letter, room, rest))?
+        }
+        _ => None,
+    }
+}
+
+/// A call that is lent a buffer.
+fn with_room(letter: u8, room: u16, bytes: &[u8]) -> Option<Call> {
+    match (letter, bytes) {
+        (b'F', bytes) if bytes.len() <= BYTES => Some(Call::Stream {
+            room,
+            bytes: bytes.to_vec(),
+        }),
+        (b'K', &[high, low, ref rest @ ..]) => {
+            let count = usize::from(u16::from_be_bytes([high, low]));
+            if count > ENTRIES || rest.len() < 2 * count {
+                return None;
+            }
+            let (ticks, edges) = rest.split_at(2 * count);
+            let tick = |pair: &[u8]| u16::from_be_bytes([pair[0], pair[1]]);
+            (edges.len() <= ENTRIES).then(|| Call::Keys {
+                room,
+                ticks: ticks.chunks(2).map(tick).collect(),
+                edges: edges.to_vec(),
+            })
+        }
+        (b'W', &[command, a, b, c, d]) if u16::from(command) < COMMANDS => Some(Call::Command {
+            room,
+            command: command.into(),
+            numbers: [u16::from_be_bytes([a, b]), u16::from_be_bytes([c, d])],
+        }),
+        (b'T', &[side @ 0..=1, ref codes @ ..]) if codes.len() <= LENT => Some(Call::Label {
+            room,
+            side,
+            codes: codes.to_vec(),
+        }),
+        (b'G', &[row, ref columns @ ..]) if columns.len() <= LENT => Some(Call::Picture {
+            room,
+            row,
+            columns: columns.to_vec(),
+        }),
+        _ => None,
+    }
 }
 
 // Writing a line.
 
-fn hex_into(out: &mut Vec<u8>, bytes: &[u8]) {
+pub fn hex(bytes: &[u8]) -> String {
     const DIGITS: &[u8; 16] = b"0123456789ABCDEF";
-    if bytes.is_empty() {
-        out.push(b'-');
-    }
-    for byte in bytes {
-        out.push(DIGITS[usize::from(byte >> 4)]);
-        out.push(DIGITS[usize::from(byte & 15)]);
-    }
+    let digits = |byte: &u8| [byte >> 4, byte & 15].map(|n| char::from(DIGITS[usize::from(n)]));
+    bytes.iter().flat_map(digits).collect()
 }
 
-pub fn hex(bytes: &[u8]) -> String {
-    let mut out = vec![];
-    hex_into(&mut out, bytes);
-    String::from_utf8(out).unwrap()
+/// A word, and bytes if there are some.
+fn with_pairs(word: &str, bytes: &[u8]) -> String {
+    if bytes.is_empty() {
+        word.to_string()
+    } else {
+        format!("{word} {}", hex(bytes))
+    }
 }
 
 /// The line of a call, without its end.
 pub fn line(call: &Call) -> Vec<u8> {
-    let text = match call {
-        Call::PowerOn => "P".to_string(),
+    let bytes: Vec<u8> = match call {
+        Call::Other(line) => return line.clone(),
         Call::Set {
             field,
             place,
             value,
-        } => format!("S {field} {place} {value}"),
-        Call::InRange => "R".to_string(),
-        Call::Stream { room, bytes } => format!("F {room} {}", hex(bytes)),
+        } => [
+            &[*field as u8][..],
+            &place.to_be_bytes(),
+            &value.to_be_bytes(),
+        ]
+        .concat(),
+        Call::Stream { room, bytes } => [&room.to_be_bytes()[..], bytes].concat(),
         Call::Keys { room, ticks, edges } => {
+            let count = ticks.len() as u16;
             let ticks: Vec<u8> = ticks.iter().flat_map(|tick| tick.to_be_bytes()).collect();
-            format!("K {room} {} {}", hex(&ticks), hex(edges))
+            [&room.to_be_bytes()[..], &count.to_be_bytes(), &ticks, edges].concat()
         }
-        Call::Second => "C".to_string(),
-        Call::Thin => "B".to_string(),
-        Call::Row { row } => format!("Q {row}"),
-        Call::Sms => "M".to_string(),
-        Call::Volume => "V".to_string(),
+        Call::Row { row } => vec![*row],
         Call::Command {
             room,
             command,
             numbers: [a, b],
-        } => format!("W {room} {command} {a} {b}"),
-        Call::Label { room, side, codes } => format!("T {room} {side} {}", hex(codes)),
-        Call::Picture { room, row, columns } => format!("G {room} {row} {}", hex(columns)),
-        Call::Other(line) => return line.clone(),
+        } => [
+            &room.to_be_bytes()[..],
+            &[*command as u8],
+            &a.to_be_bytes(),
+            &b.to_be_bytes(),
+        ]
+        .concat(),
+        Call::Label { room, side, codes } => [&room.to_be_bytes()[..], &[*side], codes].concat(),
+        Call::Picture { room, row, columns } => {
+            [&room.to_be_bytes()[..], &[*row], columns].concat()
+        }
+        Call::PowerOn | Call::InRange | Call::Second | Call::Thin | Call::Sms | Call::Volume => {
+            vec![]
+        }
     };
-    text.into_bytes()
+    with_pairs(&letter(call).to_string(), &bytes).into_bytes()
 }
 
 // Calling.
@@ -337,100 +347,102 @@ pub fn perform(record: &mut Record, call: &Call) -> Answer {
 
 // Printing.
 
-fn put(out: &mut Vec<u8>, text: String) {
-    out.extend(text.into_bytes());
+/// A line: a word and bytes.
+fn put(out: &mut Vec<u8>, word: &str, bytes: &[u8]) {
+    out.extend(with_pairs(word, bytes).into_bytes());
+    out.push(LF);
 }
 
 /// The record in its eleven lines.
 pub fn print_record(out: &mut Vec<u8>, record: &Record) {
     let bit = u8::from;
-    put(
-        out,
-        format!(
-            "screen {} {} {} {} {} {}\n",
-            bit(record.display),
-            record.mode,
-            record.overlay,
-            bit(record.shown),
-            record.row,
-            record.column
-        ),
-    );
-    put(out, format!("labels {} ", record.left.length));
-    hex_into(out, &record.left.codes);
-    put(out, format!(" {} ", record.right.length));
-    hex_into(out, &record.right.codes);
-    let [s, u, f, r, p, w] = record.icons;
-    put(out, format!("\nicons {s} {u} {f} {r} {p} {w}\n"));
+    let screen = [
+        bit(record.display),
+        record.mode,
+        record.overlay,
+        bit(record.shown),
+        record.row,
+        record.column,
+    ];
+    put(out, "screen", &screen);
+    put_labels(out, &record.left, &record.right);
     let volume = &record.volume;
-    put(
-        out,
-        format!(
-            "volume {} {} {} {}\ntimes {} {}\nbuzzer {}\n",
-            volume.which,
-            volume.level,
-            bit(volume.mute),
-            bit(volume.hidden),
-            record.time1,
-            record.time2,
-            record.buzzer
-        ),
-    );
-    put(
-        out,
-        format!("backlight {}\n", light_words(&record.backlight)),
-    );
+    let sounds = [
+        volume.which,
+        volume.level,
+        bit(volume.mute),
+        bit(volume.hidden),
+        record.buzzer,
+    ];
+    put(out, "icons", &[&record.icons[..], &sounds].concat());
+    put_light(out, &record.backlight);
     let held = &record.held;
-    put(
-        out,
-        format!(
-            "held {} {} {} {}\nframe {} {} ",
-            bit(held.down),
-            held.key,
-            held.tick,
-            bit(held.long),
-            record.frame.state,
-            record.frame.length
-        ),
-    );
-    hex_into(out, &record.frame.bytes);
-    out.extend(b"\ntext ");
-    hex_into(out, &record.text);
-    out.extend(b"\npicture ");
-    hex_into(out, &record.picture);
-    out.push(b'\n');
+    let [high, low] = held.tick.to_be_bytes();
+    let keys = [
+        bit(held.down),
+        held.key,
+        high,
+        low,
+        bit(held.long),
+        record.time1,
+        record.time2,
+    ];
+    put(out, "keys", &keys);
+    put(out, "frame", &[record.frame.state, record.frame.length]);
+    put(out, "bytes", &record.frame.bytes);
+    put(out, "text", &record.text);
+    put(out, "picture", &record.picture);
 }
 
-fn light_words(light: &Backlight) -> String {
-    format!(
-        "{} {} {} {}",
-        light.mode,
-        light.duration,
-        light.left,
-        u8::from(light.keypad)
-    )
+fn put_labels(out: &mut Vec<u8>, left: &Label, right: &Label) {
+    put(out, "labels", &[left.length, right.length]);
+    put(out, "left", &left.codes);
+    put(out, "right", &right.codes);
 }
 
-fn owner_words(owner: &Owner) -> String {
+fn put_light(out: &mut Vec<u8>, light: &Backlight) {
+    let keypad = u8::from(light.keypad);
+    let numbers = [light.mode, light.duration, light.left, keypad];
+    put(out, "backlight", &numbers);
+}
+
+fn put_owner(out: &mut Vec<u8>, owner: &Owner) {
     match owner {
-        Owner::Nothing => "0".to_string(),
+        Owner::Nothing => (),
         Owner::IconBar {
             f,
             p,
             r,
             sms,
             volume: (volume, level),
-        } => format!("1 {f} {p} {r} {sms} {volume} {level}"),
-        Owner::Text { row, codes } => format!("2 {row} {}", hex(codes)),
-        Owner::Picture { row, columns } => format!("3 {row} {}", hex(columns)),
-        Owner::SoftKeys { left, right, w } => format!(
-            "4 {} {} {} {} {w}",
-            left.length,
-            hex(&left.codes),
-            right.length,
-            hex(&right.codes)
-        ),
+        } => put(out, "icon bar", &[*f, *p, *r, *sms, *volume, *level]),
+        Owner::Text { row, codes } => {
+            put(out, "row", &[2, *row]);
+            put(out, "cells", codes);
+        }
+        Owner::Picture { row, columns } => {
+            put(out, "row", &[3, *row]);
+            put(out, "cells", columns);
+        }
+        Owner::SoftKeys { left, right, w } => {
+            put(out, "soft keys", &[*w]);
+            put_labels(out, left, right);
+        }
     }
+}
+
+/// What a call answers that was lent a buffer.
+fn put_lent(
+    out: &mut Vec<u8>,
+    letter: &str,
+    number: u8,
+    used: usize,
+    written: usize,
+    buffer: &[u8],
+) {
+    let counts = [used, written].map(|count| (count as u16).to_be_bytes());
+    put(out, letter, &[&[number][..], &counts.concat()].concat());
+    put(out, "buffer", buffer);
 }
 
 /// The letter of a call.
@@ -455,41 +467,33 @@ pub fn letter(call: &Call) -> char {
 
 /// Prints an answer, and the record (as it now stands) where it follows.
 pub fn print(out: &mut Vec<u8>, call: &Call, answer: &Answer, record: &Record) {
-    let letter = letter(call);
+    let letter = letter(call).to_string();
     match answer {
-        Answer::Done => put(out, format!("{letter}\n")),
-        Answer::InRange(yes) => put(out, format!("{letter} {}\n", u8::from(*yes))),
+        Answer::Done => put(out, &letter, &[0]),
+        Answer::InRange(yes) => put(out, &letter, &[u8::from(*yes)]),
         Answer::Counts {
             number,
             used,
             written,
             buffer,
-        } => {
-            put(out, format!("{letter} {number} {used} {written} "));
-            hex_into(out, buffer);
-            out.push(b'\n');
-        }
-        Answer::Number(number) => put(out, format!("{letter} {number}\n")),
+        } => put_lent(out, &letter, *number, *used, *written, buffer),
+        Answer::Number(number) => put(out, &letter, &[*number]),
         Answer::Thin(number, light) => {
-            put(out, format!("{letter} {number} {}\n", light_words(light)))
+            put(out, &letter, &[*number]);
+            put_light(out, light);
         }
         Answer::Row(number, owner) => {
-            put(out, format!("{letter} {number} {}\n", owner_words(owner)));
+            put(out, &letter, &[*number]);
+            put_owner(out, owner);
         }
-        Answer::Sms(number, panel) => put(out, format!("{letter} {number} {panel}\n")),
-        Answer::Volume(number, panel, level) => {
-            put(out, format!("{letter} {number} {panel} {level}\n"));
-        }
+        Answer::Sms(number, panel) => put(out, &letter, &[*number, *panel]),
+        Answer::Volume(number, panel, level) => put(out, &letter, &[*number, *panel, *level]),
         Answer::Written {
             number,
             count,
             buffer,
-        } => {
-            put(out, format!("{letter} {number} {count} "));
-            hex_into(out, buffer);
-            out.push(b'\n');
-        }
-        Answer::What => out.extend(b"what\n"),
+        } => put_lent(out, &letter, *number, 0, *count, buffer),
+        Answer::What => put(out, "what", &[]),
         Answer::Silence => (),
     }
     if matches!(

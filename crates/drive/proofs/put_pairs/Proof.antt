@@ -12,6 +12,12 @@ Inv-loop out₀ at bytes end₀ i₀ i-end out end i = length out ≡ length out
 abbrev μ-loop : tie.MeasureT-loop
 μ-loop out₀ at bytes end₀ i₀ i-end out end i = length bytes - i
 
+returns : tie.Need-returns Inv-loop μ-loop
+returns c = search needs
+
+put-byte-requires : tie.Need-put-byte-requires Inv-loop μ-loop
+put-byte-requires c κs = search needs
+
 loop-holds : tie.Need-loop-holds Inv-loop μ-loop
 loop-holds c = search needs
 
@@ -33,8 +39,8 @@ loop-again c = search needs
 same-length : tie.Need-same-length Inv-loop μ-loop
 same-length c = search needs
 
-returns : tie.Need-returns Inv-loop μ-loop
-returns c = search needs
+returns-2 : tie.Need-returns-2 Inv-loop μ-loop
+returns-2 c = search needs
 
 pub put-pairs-spec : {M : Type 1} → statement M
 put-pairs-spec =
@@ -42,6 +48,8 @@ put-pairs-spec =
     (tie.spec
     Inv-loop
     μ-loop
+    returns
+    put-byte-requires
     loop-holds
     shared-slice-read-put-pair
     put-pair-requires
@@ -49,4 +57,4 @@ put-pairs-spec =
     loop-less
     loop-again
     same-length
-    returns)
+    returns-2)

@@ -8,31 +8,37 @@ use Rattle.drive.proofs.ticks_into.Statement.{statement}
 use Rattle.drive.proofs.ticks_into.Tie as tie
 
 abbrev Inv-loop : tie.InvT-loop
-Inv-loop bytes n to₀ i₀ to i = length to ≡ length to₀
+Inv-loop args to₀ n i₀ to i = length to ≡ length to₀
 
 abbrev μ-loop : tie.MeasureT-loop
-μ-loop bytes n to₀ i₀ to i = n - i
+μ-loop args to₀ n i₀ to i = n - i
+
+number-at-requires : tie.Need-number-at-requires Inv-loop μ-loop
+number-at-requires c κs = search needs
+
+cast-n : tie.Need-cast-n Inv-loop μ-loop
+cast-n c = search needs
+
+returns : tie.Need-returns Inv-loop μ-loop
+returns c = search needs
 
 loop-holds : tie.Need-loop-holds Inv-loop μ-loop
 loop-holds c = search needs
 
-mul-tick-of : tie.Need-mul-tick-of Inv-loop μ-loop
-mul-tick-of c = search needs
+mul-number-at : tie.Need-mul-number-at Inv-loop μ-loop
+mul-number-at c = search needs
 
-shared-slice-read-tick-of : tie.Need-shared-slice-read-tick-of Inv-loop μ-loop
-shared-slice-read-tick-of c = search needs
+add-number-at : tie.Need-add-number-at Inv-loop μ-loop
+add-number-at c = search needs
 
-mul-tick-of-2 : tie.Need-mul-tick-of-2 Inv-loop μ-loop
-mul-tick-of-2 c = search needs
+mul-number-at-2 : tie.Need-mul-number-at-2 Inv-loop μ-loop
+mul-number-at-2 c = search needs
 
-add-tick-of : tie.Need-add-tick-of Inv-loop μ-loop
-add-tick-of c = search needs
+add-number-at-2 : tie.Need-add-number-at-2 Inv-loop μ-loop
+add-number-at-2 c = search needs
 
-shared-slice-read-tick-of-2 : tie.Need-shared-slice-read-tick-of-2 Inv-loop μ-loop
-shared-slice-read-tick-of-2 c = search needs
-
-tick-of-requires : tie.Need-tick-of-requires Inv-loop μ-loop
-tick-of-requires c κs = search needs
+number-at-requires-2 : tie.Need-number-at-requires-2 Inv-loop μ-loop
+number-at-requires-2 c κs = search needs
 
 mul-to : tie.Need-mul-to Inv-loop μ-loop
 mul-to c = search needs
@@ -52,8 +58,8 @@ loop-again c = simp length-set (omega arith)
 same-length : tie.Need-same-length Inv-loop μ-loop
 same-length c = search needs
 
-returns : tie.Need-returns Inv-loop μ-loop
-returns c = search needs
+returns-2 : tie.Need-returns-2 Inv-loop μ-loop
+returns-2 c = search needs
 
 pub ticks-into-spec : {M : Type 1} → statement M
 ticks-into-spec =
@@ -61,17 +67,19 @@ ticks-into-spec =
     (tie.spec
     Inv-loop
     μ-loop
+    number-at-requires
+    cast-n
+    returns
     loop-holds
-    mul-tick-of
-    shared-slice-read-tick-of
-    mul-tick-of-2
-    add-tick-of
-    shared-slice-read-tick-of-2
-    tick-of-requires
+    mul-number-at
+    add-number-at
+    mul-number-at-2
+    add-number-at-2
+    number-at-requires-2
     mul-to
     slice-write-to
     add-i
     loop-less
     loop-again
     same-length
-    returns)
+    returns-2)

@@ -1,15 +1,14 @@
--- `drive::next_sign` keeps its promise. Assumes nothing.
+-- `drive::line_end` keeps its promise. Assumes nothing.
 use Prim.Native.Nat.{_-_, _≤_}
-use lib.ListN.{length}
 use borrow.Author.Needs.{needs}
-use Rattle.drive.proofs.next_sign.Statement.{statement}
-use Rattle.drive.proofs.next_sign.Tie as tie
+use Rattle.drive.proofs.line_end.Statement.{statement}
+use Rattle.drive.proofs.line_end.Tie as tie
 
 abbrev Inv-loop : tie.InvT-loop
-Inv-loop s at sign i₀ i = (at ≤ i) × (i ≤ length s)
+Inv-loop s start end i₀ i = (start ≤ i) × (i ≤ end)
 
 abbrev μ-loop : tie.MeasureT-loop
-μ-loop s at sign i₀ i = length s - i
+μ-loop s start end i₀ i = end - i
 
 loop-holds : tie.Need-loop-holds Inv-loop μ-loop
 loop-holds c = search needs
@@ -32,8 +31,8 @@ loop-again c = search needs
 returns-2 : tie.Need-returns-2 Inv-loop μ-loop
 returns-2 c = search needs
 
-pub next-sign-spec : {M : Type 1} → statement M
-next-sign-spec =
+pub line-end-spec : {M : Type 1} → statement M
+line-end-spec =
     tie.close
     (tie.spec
     Inv-loop

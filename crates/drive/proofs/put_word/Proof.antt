@@ -1,16 +1,16 @@
--- `drive::put` keeps its promise. Assumes nothing.
+-- `drive::put_word` keeps its promise. Assumes nothing.
 use Prim.Native.Nat.{_-_}
 use mathlib.Core.Path.{_≡_}
 use lib.ListN.{length}
 use borrow.Author.Needs.{needs}
-use Rattle.drive.proofs.put.Statement.{statement}
-use Rattle.drive.proofs.put.Tie as tie
+use Rattle.drive.proofs.put_word.Statement.{statement}
+use Rattle.drive.proofs.put_word.Tie as tie
 
 abbrev Inv-loop : tie.InvT-loop
-Inv-loop out₀ at words end₀ i₀ i-end out end i = length out ≡ length out₀
+Inv-loop out₀ word end₀ i₀ i-end out end i = length out ≡ length out₀
 
 abbrev μ-loop : tie.MeasureT-loop
-μ-loop out₀ at words end₀ i₀ i-end out end i = length words - i
+μ-loop out₀ word end₀ i₀ i-end out end i = length word - i
 
 loop-holds : tie.Need-loop-holds Inv-loop μ-loop
 loop-holds c = search needs
@@ -36,8 +36,8 @@ same-length c = search needs
 returns : tie.Need-returns Inv-loop μ-loop
 returns c = search needs
 
-pub put-spec : {M : Type 1} → statement M
-put-spec =
+pub put-word-spec : {M : Type 1} → statement M
+put-word-spec =
     tie.close
     (tie.spec
     Inv-loop
