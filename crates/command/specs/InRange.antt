@@ -1,7 +1,6 @@
 -- Which orders are in range: document 01's second column, by the record's own ranges. Assumes nothing.
 use Prim.Native.Nat.{ℕ}
 use mathlib.Core.Bool.{Bool, true, not, _&&_, _||_}
-use mathlib.Core.List.{List}
 use lib.Dec.{leb, ltb, eqb}
 use Rattle.record.specs.Range.{rowsOf, modeInRange, overlayInRange, iconSInRange, iconUInRange, iconFInRange, iconRInRange, iconPInRange, iconWInRange, time1InRange, time2InRange, buzzerInRange, durationInRange}
 use Rattle.command.specs.Order.{Order, plain, label, draw}

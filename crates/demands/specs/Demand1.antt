@@ -18,7 +18,6 @@ use Rattle.record.specs.Range.{inRange, backlightInRange}
 use Rattle.command.specs.Order.{Order}
 use Rattle.command.specs.Grammar.{Spells}
 use Rattle.command.specs.InRange.{inRangeInMode}
-use Rattle.command.specs.Reading.{orderOf}
 use Rattle.command.specs.Agree.{agree, bad-frame}
 use Rattle.effect.specs.Core.{Core}
 use Rattle.effect.specs.Obey.{isGood}

@@ -3,7 +3,6 @@
 -- through the log's rules. Assumes nothing.
 use Prim.Native.Nat.{ℕ}
 use mathlib.Core.Path.{_≡_, refl}
-use mathlib.Core.Bool.{cond}
 use mathlib.Core.List.{List, [], _∷_, _++_, map}
 use lib.ListN.{length, replicate}
 use Rattle.lists.specs.Codes.{ascii, escape, carriageReturn, questionMark}

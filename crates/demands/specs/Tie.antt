@@ -1,7 +1,6 @@
 -- EACH PUBLIC FUNCTION'S OWN CLAUSE, as its proof was checked against it, is the equation that this page speaks of: by refl, in every
 -- model of the logic. `a` is the arguments in their order, `q` the result, `e` the arguments at exit; what is lent is read by `now`.
 -- Assumes nothing.
-use Prim.Native.Nat.{ℕ}
 use mathlib.Core.Path.{_≡_, refl}
 use lib.ListN.{length}
 use base.Logic.{sep}

@@ -2,10 +2,10 @@
 use Prim.Native.Nat.{ℕ, suc, _+_, _*_, _<_, _≤_}
 use native.Mathlib.Omega.{arith}
 use native.Mathlib.Numerals.{add-one}
-use mathlib.Core.Path.{_≡_, refl, sym, ap, _∙_}
-use mathlib.Core.List.{List, [], _∷_, _++_, map}
+use mathlib.Core.Path.{_≡_, sym, ap, _∙_}
+use mathlib.Core.List.{List, [], _∷_, map}
 use lib.ListN.{length, take, drop, set, getD}
-use lib.Seq.{sets, slice, slice-cons, slice-empty, take-suc, length-take-le, getD-drop}
+use lib.Seq.{sets, slice, slice-cons, slice-empty, take-suc, length-take-le}
 use Rattle.lists.specs.Padded.{padded, lengthen}
 use Rattle.effect.specs.Effect.{keptIn, drawn}
 

@@ -1,5 +1,4 @@
 -- What a stream can change of the record: all but its held key and its frame. Assumes nothing.
-use mathlib.Core.Bool.{Bool, true, _&&_}
 use mathlib.Core.List.{List}
 use Prim.Native.Nat.{ℕ}
 use Rattle.record.specs.declared.Panel.{Panel}

@@ -1,9 +1,8 @@
 -- What each order does: document 01's third column, line by line ("The good frames"), and what a text byte does. Each line is a
 -- setter of the fields that it names, so nothing else changes. Assumes nothing.
 use Prim.Native.Nat.{ℕ, _+_, _*_, _%_}
-use mathlib.Core.Bool.{Bool, true, false, cond}
+use mathlib.Core.Bool.{true, false, cond}
 use mathlib.Core.List.{List, [], map}
-use mathlib.Core.Option.{Option, none, some}
 use lib.Dec.{eqb, ltb}
 use lib.ListN.{length, set, replicate}
 use lib.Seq.{sets}

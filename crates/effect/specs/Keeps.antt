@@ -1,15 +1,15 @@
 -- Whatever a frame orders and whatever text byte comes, the core stays within its ranges. Assumes nothing.
-use Prim.Native.Nat.{ℕ, suc, _+_, _*_, _-_, _%_, _<_, _≤_}
+use Prim.Native.Nat.{ℕ, _+_, _*_, _-_, _%_, _<_, _≤_}
 use native.Mathlib.Omega.{arith}
 use native.Mathlib.Nat.{mod-lt}
 use mathlib.Core.Bool.{Bool, true, false, true≢false, cond, not, _&&_, _||_}
-use mathlib.Core.List.{List, [], _∷_, _++_, map}
+use mathlib.Core.List.{List, [], _∷_, map}
 use mathlib.Core.Option.{Option, none, some}
 use mathlib.Core.Path.{_≡_, refl, sym, ap, _∙_}
 use lib.Dec.{leb, ltb, eqb}
 use lib.ListN.{length, set, take, drop, replicate, length-set, length-map}
-use lib.Seq.{sets, slice, length-sets, take-all, drop-append-seam}
-use borrow.Author.Tests.{leb-true, ltb-true, lt-ltb, le-leb, eq-eqb, eqb-true, eqb-false}
+use lib.Seq.{sets, length-sets, take-all, drop-append-seam}
+use borrow.Author.Tests.{leb-true, ltb-true, lt-ltb, le-leb, eq-eqb, eqb-false}
 use Rattle.lists.specs.Both.{both, and-both}
 use Rattle.lists.specs.Every.{every}
 use Rattle.lists.specs.Padded.{padded, held, length-padded}

@@ -16,10 +16,8 @@ use command::Reading;
 use command::Side;
 use picture::Columns;
 use record::Backlight;
-use record::Icons;
 use record::Label;
 use record::Panel;
-use record::Screen;
 use record::Seconds;
 use record::Volume;
 
@@ -60,7 +58,7 @@ fn with_mute(v: Volume, n: u8) -> Volume
     }
 }
 
-// 0 is off, another number is the duration.
+// 0 is off, with no seconds left; another number is the duration.
 fn light_at(b: Backlight, n: u8) -> Backlight
     ensures same { λ r. ⌜ r ≡ lightAt b n ⌝ }
 {

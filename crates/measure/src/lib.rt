@@ -7,7 +7,7 @@ ghost use lib.ListN.{length};
 ghost use Rattle.record.specs.PowerOn.{powerOn};
 ghost use Rattle.reader.specs.Stream.{fedOf, answersAfter};
 ghost use Rattle.measure.specs.Mark.{prime, mixed, marked, small, markOf};
-ghost use Rattle.measure.specs.Calls.{inOrder, fedFrom, fedInCalls, answersInCalls, goodOnes};
+ghost use Rattle.measure.specs.Calls.{fedFrom, fedInCalls, answersInCalls, goodOnes};
 use reader::Fed;
 use reader::FedLent;
 use reader::Small;

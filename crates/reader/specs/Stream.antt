@@ -4,7 +4,7 @@ use mathlib.Core.Path.{_≡_}
 use mathlib.Core.Bool.{true, false, cond}
 use mathlib.Core.List.{List, [], _∷_, _++_}
 use lib.Dec.{eqb, ltb}
-use lib.ListN.{length, take, drop, set, replicate}
+use lib.ListN.{length, take, drop, set}
 use Rattle.lists.specs.Codes.{carriageReturn, questionMark}
 use Rattle.lists.specs.Padded.{padded}
 use Rattle.record.specs.declared.Answer.the-variants.{Done, FieldOutOfRange}

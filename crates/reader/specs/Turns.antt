@@ -5,10 +5,10 @@ use native.Mathlib.Numerals.{add-one}
 use mathlib.Core.Path.{_≡_, refl, sym, ap, _∙_, subst}
 use mathlib.Core.Bool.{Bool, true, false, cond, true≢false}
 use mathlib.Core.Option.{Option, none, some}
-use mathlib.Core.List.{List, [], _∷_, _++_, append-nil, append-assoc}
+use mathlib.Core.List.{List, [], _∷_, _++_}
 use lib.Dec.{eqb, ltb, leb}
 use lib.ListN.{length, take, set, getD, replicate, length-set}
-use lib.Seq.{take-suc-set, length-take-le, take-all}
+use lib.Seq.{take-suc-set, length-take-le}
 use borrow.Author.Tests.{eqb-true, eqb-false, ne-eqb, ltb-true, leb-true}
 use Rattle.lists.specs.Codes.{escape, carriageReturn, blank, questionMark}
 use Rattle.lists.specs.Padded.{padded}

@@ -1,7 +1,6 @@
 -- The record's ranges but those of its arrays, and how the range of the whole record is made of them. Assumes nothing.
-use Prim.Native.Nat.{ℕ}
 use mathlib.Core.Path.{_≡_, refl, sym, ap, _∙_}
-use mathlib.Core.Bool.{Bool, true, false, _&&_, and-assoc, and-true}
+use mathlib.Core.Bool.{Bool, true, false, _&&_, and-true}
 use Rattle.record.specs.declared.Record.{Record}
 use Rattle.record.specs.declared.Panel.{Panel}
 use Rattle.record.specs.declared.Held.{Held}

@@ -1,6 +1,5 @@
 -- 0 is off, another number is the duration. Assumes nothing.
 use native.Mathlib.Omega.{arith}
-use mathlib.Core.Path.{ap}
 use borrow.Author.Tests.{ne-eqb}
 use Rattle.effect.proofs.light_at.Statement.{statement}
 use Rattle.effect.proofs.light_at.Tie as tie

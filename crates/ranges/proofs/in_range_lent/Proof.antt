@@ -1,9 +1,7 @@
 -- `ranges::in_range_lent` keeps its promise. Assumes nothing.
 use mathlib.Core.Path.{_∙_}
 use mathlib.Core.Bool.{_&&_}
-use denote.Ref.{now}
 use Rattle.small_ranges.specs.Small.{small-and-arrays}
-use Rattle.ranges.specs.Parts.{joined}
 use Rattle.ranges.proofs.in_range_lent.Statement.{statement}
 use Rattle.ranges.proofs.in_range_lent.Tie as tie
 
