@@ -84,6 +84,8 @@ use Rattle.places.proofs.empty_from as EmptyFrom
 use Rattle.places.proofs.empty_from.Reads as EmptyFromReads
 use Rattle.reader.proofs.feed_lent as FeedLent
 use Rattle.reader.proofs.feed_lent.Reads as FeedLentReads
+use Rattle.stream.proofs.whole as Whole
+use Rattle.stream.proofs.whole.Reads as WholeReads
 use Rattle.stream.proofs.feed as Feed
 use Rattle.stream.proofs.feed.Reads as FeedReads
 use Rattle.measure.specs.Mark.{markOf}
@@ -261,6 +263,10 @@ pub feed-lent-says : SaysFive FeedLent.ended FeedLentReads.ensures
     (λ κs a q e. now (e .1 .1 .1 .0) ≡ called κs a .record .frame .bytes)
     (λ κs a q e. now (e .1 .1 .1 .1 .1 .0) ≡ answersAfter (given κs a) (now (a .1 .1 .1 .1 .0)) (now (a .1 .1 .1 .1 .1 .0)))
 feed-lent-says κs a q e w = refl
+
+-- stream::whole
+pub whole-says : Says Whole.ended WholeReads.ensures (λ κs a q e. q ≡ together (a .0) (a .1 .0) (a .1 .1 .0) (a .1 .1 .1 .0))
+whole-says κs a q e w = refl
 
 -- stream::feed
 pub feed-says : SaysBoth Feed.ended FeedReads.ensures

@@ -59,6 +59,8 @@ use Rattle.places.proofs.empty_from as EmptyFrom
 use Rattle.places.proofs.empty_from.Reads as EmptyFromReads
 use Rattle.reader.proofs.feed_lent as FeedLent
 use Rattle.reader.proofs.feed_lent.Reads as FeedLentReads
+use Rattle.stream.proofs.whole as Whole
+use Rattle.stream.proofs.whole.Reads as WholeReads
 use Rattle.stream.proofs.feed as Feed
 use Rattle.stream.proofs.feed.Reads as FeedReads
 use Rattle.measure.proofs.measure_one_call as OneCall
@@ -207,6 +209,10 @@ feed-lent-one κs a q q′ e e′ p p′ = (
   two-equal (p .0) (p′ .0),
   λ j. (two-equal (p .1 .0) (p′ .1 .0) j, two-equal (p .1 .1 .0) (p′ .1 .1 .0) j, two-equal (p .1 .1 .1 .0) (p′ .1 .1 .1 .0) j, two-equal (p .1 .1 .1 .1) (p′ .1 .1 .1 .1) j),
 )
+
+-- stream::whole
+pub whole-one : OneResult Whole.ended WholeReads.Learnt
+whole-one κs a q q′ e e′ p p′ = two-equal p p′
 
 -- stream::feed
 pub feed-one : OneEnd Feed.ended (List ℕ) FeedReads.Learnt (λ κs e. now (e .1 .1 .0))

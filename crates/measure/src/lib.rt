@@ -11,7 +11,6 @@ ghost use Rattle.measure.specs.Calls.{fedFrom, fedInCalls, answersInCall
 use reader::Fed;
 use reader::FedLent;
 use reader::Small;
-use record::Frame;
 use record::Panel;
 use record::Record;
 
@@ -96,21 +95,9 @@ fn fed(f: FedLent, text: [u8; 80], picture: [u8; 672], bytes: [u8; 250]) -> Fed
 {
     let answer = f.answer;
     let small = f.small;
-    let panel = small.panel;
-    let held = small.held;
     Fed {
         answer: answer,
-        record: Record {
-            panel: panel,
-            text: text,
-            picture: picture,
-            held: held,
-            frame: Frame {
-                state: small.state,
-                len: small.len,
-                bytes: bytes,
-            },
-        },
+        record: stream::whole(small, text, picture, bytes),
         used: f.used,
         written: f.written,
     }

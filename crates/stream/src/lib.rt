@@ -7,9 +7,9 @@ use reader::Small;
 use record::Frame;
 use record::Record;
 
-// The record put together again.
-fn whole(small: Small, text: [u8; 80], picture: [u8; 672], bytes: [u8; 250]) -> Record
-    ensures { λ r. ⌜ r ≡ together small text picture bytes ⌝ }
+// The record put together of its small fields and its arrays.
+pub fn whole(small: Small, text: [u8; 80], picture: [u8; 672], bytes: [u8; 250]) -> Record
+    ensures same { λ r. ⌜ r ≡ together small text picture bytes ⌝ }
 {
     let panel = small.panel;
     let held = small.held;
