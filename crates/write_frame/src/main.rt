@@ -51,6 +51,9 @@ const NOWHERE: usize = 0xFFFF_FFFF_FFFF_FFFF;
 // Past every number of three digits.
 const NO_NUMBER: u16 = 1000;
 
+// The sign of no phrase.
+const NO_PHRASE: u8 = 0;
+
 const LAST_ROW: u16 = 6;
 
 const MOST_COLUMNS: usize = 96;
@@ -68,9 +71,9 @@ enum Outcome {
     BadText,
 }
 
-// A phrase, by its line in the table of phrases, and where the line that begins with it goes on.
+// A phrase, by its sign in the table of phrases, and where the line that begins with it goes on.
 struct Found {
-    phrase: usize,
+    phrase: u8,
     at: usize,
 }
 
@@ -210,14 +213,21 @@ fn behind_word(line: &[u8], at: usize) -> usize {
     at
 }
 
-// The first of these phrases that a line has from this place on. A line feed ends each phrase.
+// The first of these phrases that a line has from this place on. Its sign and a blank stand before each phrase, a line feed ends it.
 fn find(phrases: &[u8], line: &[u8], start: usize) -> Found
     ensures { λ r. ⌜ r .at ≤ length (now (line .entry)) ⌝ }
 {
-    let mut phrase = 0;
+    let mut phrase = NO_PHRASE;
     let mut at = start;
     for i in 0..phrases.len() {
         let sign = phrases[i];
+        if phrase == NO_PHRASE {
+            phrase = sign;
+            continue;
+        }
+        if (sign == BLANK) & (at == start) {
+            continue;
+        }
         if sign == LINE_FEED {
             let tail = behind_word(line, at);
             if tail <= line.len() {
@@ -226,14 +236,14 @@ fn find(phrases: &[u8], line: &[u8], start: usize) -> Found
                     at: tail,
                 };
             }
-            phrase += 1;
+            phrase = NO_PHRASE;
             at = start;
             continue;
         }
         at = behind_sign(line, at, sign);
     }
     Found {
-        phrase: phrase,
+        phrase: NO_PHRASE,
         at: 0,
     }
 }
@@ -266,95 +276,108 @@ fn next_number(words: &[u8], from: usize, wanted: bool) -> Given
 
 // Commands.
 
-// The table of phrases. A phrase is known by its line, counted from 0: behind 0 to 3 stands a text, 5 to 17 want no number, 18 to
-// 30 want one, 31 and 32 two. Of phrases that begin with the same words the longest comes first.
+// The table of phrases, each with its sign before it: the note's letter where it has one. Of phrases that begin with the same
+// words the longest comes first.
 fn find_phrase(line: &[u8], start: usize) -> Found
     ensures { λ r. ⌜ r .at ≤ length (now (line .entry)) ⌝ }
 {
     find(
-        b"left\n\
-        right\n\
-        text\n\
-        picture\n\
-        help\n\
-        display off\n\
-        display on\n\
-        cursor show\n\
-        cursor hide\n\
-        clear\n\
-        labels empty\n\
-        light on\n\
-        light off\n\
-        light auto keep\n\
-        light auto\n\
-        light default\n\
-        keypad on\n\
-        keypad off\n\
-        mode\n\
-        icon S\n\
-        icon U\n\
-        icon F\n\
-        icon R\n\
-        icon P\n\
-        icon W\n\
-        private\n\
-        handsfree note\n\
-        handsfree\n\
-        mute\n\
-        buzzer\n\
-        light\n\
-        at\n\
-        times\n",
+        b"< left\n\
+        > right\n\
+        = text\n\
+        : picture\n\
+        ? help\n\
+        x display off\n\
+        X display on\n\
+        C cursor show\n\
+        c cursor hide\n\
+        # clear\n\
+        0 labels empty\n\
+        E light on\n\
+        e light off\n\
+        a light auto keep\n\
+        A light auto\n\
+        d light default\n\
+        K keypad on\n\
+        k keypad off\n\
+        D mode\n\
+        S icon S\n\
+        U icon U\n\
+        F icon F\n\
+        R icon R\n\
+        P icon P\n\
+        W icon W\n\
+        L private\n\
+        I handsfree note\n\
+        J handsfree\n\
+        M mute\n\
+        B buzzer\n\
+        n light\n\
+        H at\n\
+        T times\n",
         line,
         start,
     )
 }
 
 // How many numbers a phrase of the table wants.
-fn wanted(phrase: usize) -> u8 {
+fn wanted(phrase: u8) -> u8 {
     match phrase {
-        18..=30 => 1,
-        31..=32 => 2,
+        b'D' => 1,
+        b'S' => 1,
+        b'U' => 1,
+        b'F' => 1,
+        b'R' => 1,
+        b'P' => 1,
+        b'W' => 1,
+        b'L' => 1,
+        b'I' => 1,
+        b'J' => 1,
+        b'M' => 1,
+        b'B' => 1,
+        b'n' => 1,
+        b'H' => 2,
+        b'T' => 2,
         _ => 0,
     }
 }
 
 // The command of a phrase of the table and its numbers.
-fn command_of(phrase: usize, n: u16, m: u16) -> Command {
+fn command_of(phrase: u8, n: u16, m: u16) -> Command {
     match phrase {
-        5 => Command::DisplayOff,
-        6 => Command::DisplayOn,
-        7 => Command::CursorShown,
-        8 => Command::CursorHidden,
-        9 => Command::Clear,
-        10 => Command::LabelsEmpty,
-        11 => Command::LightOn,
-        12 => Command::Light(0),
-        13 => Command::LightAuto,
-        14 => Command::LightAutoStart,
-        15 => Command::DefaultDuration,
-        16 => Command::KeypadSet,
-        17 => Command::KeypadCleared,
-        18 => Command::Mode(n),
-        19 => Command::IconS(n),
-        20 => Command::IconU(n),
-        21 => Command::IconF(n),
-        22 => Command::IconR(n),
-        23 => Command::IconP(n),
-        24 => Command::IconW(n),
-        25 => Command::Private(n),
-        26 => Command::HandsfreeOfNote(n),
-        27 => Command::Handsfree(n),
-        28 => Command::Mute(n),
-        29 => Command::Buzzer(n),
-        30 => Command::Light(n),
-        31 => Command::Position(n, m),
+        b'x' => Command::DisplayOff,
+        b'X' => Command::DisplayOn,
+        b'C' => Command::CursorShown,
+        b'c' => Command::CursorHidden,
+        b'#' => Command::Clear,
+        b'0' => Command::LabelsEmpty,
+        b'E' => Command::LightOn,
+        b'e' => Command::Light(0),
+        b'a' => Command::LightAuto,
+        b'A' => Command::LightAutoStart,
+        b'd' => Command::DefaultDuration,
+        b'K' => Command::KeypadSet,
+        b'k' => Command::KeypadCleared,
+        b'D' => Command::Mode(n),
+        b'S' => Command::IconS(n),
+        b'U' => Command::IconU(n),
+        b'F' => Command::IconF(n),
+        b'R' => Command::IconR(n),
+        b'P' => Command::IconP(n),
+        b'W' => Command::IconW(n),
+        b'L' => Command::Private(n),
+        b'I' => Command::HandsfreeOfNote(n),
+        b'J' => Command::Handsfree(n),
+        b'M' => Command::Mute(n),
+        b'B' => Command::Buzzer(n),
+        b'n' => Command::Light(n),
+        b'H' => Command::Position(n, m),
         _ => Command::KeyTimes(n, m),
     }
 }
 
 // A line that begins with no phrase comes here as a whole, and so has words where none is wanted.
-fn obey_command(phrase: usize, words: &[u8]) -> Outcome {
+fn obey_command(phrase: u8, words: &[u8]) -> Outcome {
     let most = wanted(phrase);
     let first = next_number(words, 0, 0 < most);
     let second = next_number(words, first.end, 1 < most);
@@ -437,13 +460,13 @@ fn obey_picture(words: &[u8]) -> Outcome {
 // Lines.
 
 // A phrase of the table with all that stands behind it.
-fn obey_phrase(phrase: usize, rest: &[u8]) -> Outcome {
+fn obey_phrase(phrase: u8, rest: &[u8]) -> Outcome {
     match phrase {
-        0 => send_label(Side::Left, rest),
-        1 => send_label(Side::Right, rest),
-        2 => send_text(rest),
-        3 => obey_picture(rest),
-        4 => help(),
+        b'<' => send_label(Side::Left, rest),
+        b'>' => send_label(Side::Right, rest),
+        b'=' => send_text(rest),
+        b':' => obey_picture(rest),
+        b'?' => help(),
         _ => obey_command(phrase, rest),
     }
 }
