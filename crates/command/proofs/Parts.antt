@@ -18,7 +18,7 @@ use Rattle.command.specs.declared.NumberPair.the-variants.{None as Neith
 use Rattle.command.specs.declared.Reading.{Reading}
 use Rattle.command.specs.declared.Reading.the-variants.{Bad, Plain}
 use Rattle.command.specs.declared.Command.the-variants.{LabelsEmpty}
-use Rattle.command.specs.Reading.{soleOf, semicolonAt, paired, twoNumbers, onlyIf, labelOf, labelled, afterI, cursorSign, positionOf, readOf}
+use Rattle.command.specs.Reading.{soleOf, semicolonAt, paired, twoNumbers, onlyIf, labelRead, labelled, afterI, cursorSign, positionOf, readOf}
 
 pub sole-one : (s : List ℕ) → length s ≡ 1 → getD s 0 0 ≡ soleOf s
 sole-one [] e = absurd (omega arith)
@@ -53,13 +53,13 @@ pub at-semicolon : (s : List ℕ) (i : ℕ) → i ≡ semicolonAt s
 unfolding twoNumbers
 at-semicolon s i e = rw (part-rest (i + 1) s, add-one i, e)
 
-pub label-none : (s : List ℕ) → length s ≡ 0 → Bad ≡ labelOf s
-unfolding labelOf
+pub label-none : (s : List ℕ) → length s ≡ 0 → Bad ≡ labelRead s
+unfolding labelRead
 label-none [] e = refl
 label-none (a ∷ more) e = absurd (omega arith)
 
-pub label-opens : (s : List ℕ) → (length s ≡ 0 → ⊥) → labelOf s ≡ labelled (getD s 0 0) (drop 1 s)
-unfolding labelOf
+pub label-opens : (s : List ℕ) → (length s ≡ 0 → ⊥) → labelRead s ≡ labelled (getD s 0 0) (drop 1 s)
+unfolding labelRead
 label-opens [] e = absurd (e refl)
 label-opens (a ∷ more) e = refl
 
@@ -87,8 +87,8 @@ read-opens [] e = absurd (omega arith)
 read-opens (a ∷ []) e = absurd (omega arith)
 read-opens (a ∷ b ∷ more) e = refl
 
-pub label-empties : (s : List ℕ) → (length s ≡ 0 → ⊥) → getD s 0 0 ≡ code "0" → onlyIf (eqb (length s) 1) (Plain LabelsEmpty) ≡ labelOf s
-unfolding labelOf
+pub label-empties : (s : List ℕ) → (length s ≡ 0 → ⊥) → getD s 0 0 ≡ code "0" → onlyIf (eqb (length s) 1) (Plain LabelsEmpty) ≡ labelRead s
+unfolding labelRead
 label-empties [] e k = absurd (e refl)
 label-empties (a ∷ []) e k = rw k
 label-empties (a ∷ b ∷ more) e k =

@@ -23,7 +23,7 @@ use Rattle.picture.specs.Reading.{columnsIn}
 use Rattle.picture.specs.ReadLaws as drawing
 use Rattle.command.specs.Order.{Order, plain, label, draw}
 use Rattle.command.specs.Grammar.{end, signs, digits, one-digit, codes, data-of, Spells}
-use Rattle.command.specs.Reading.{soleOf, butLast, semicolonAt, twoNumbers, withNumber, oneNumber, keyTimes, numberFrame, displayOf, lightOf, isText, labelOf, afterI, cursorSign, positionAt, positionOf, readOf, opensPicture, rowWith, rowOf, drawnRow, pictureOf, orderDrawn, orderOf}
+use Rattle.command.specs.Reading.{soleOf, butLast, semicolonAt, twoNumbers, withNumber, oneNumber, keyTimes, numberFrame, displayOf, lightOf, isText, labelRead, afterI, cursorSign, positionAt, positionOf, readOf, opensPicture, rowWith, rowAndData, drawnRow, pictureOf, orderDrawn, orderOf}
 use Rattle.command.specs.declared.Command.{Command}
 use Rattle.command.specs.declared.Command.the-variants.{DisplayOff, DisplayOn, Mode, CursorShown, CursorHidden, Clear, Position, LabelsEmpty, IconS, IconU, IconF, IconR, IconP, IconW, Private, Handsfree, HandsfreeOfNote, Mute, KeyTimes, Buzzer, Light, LightOn, LightAutoStart, LightAuto, DefaultDuration, KeypadSet, KeypadCleared}
 use Rattle.command.specs.declared.Side.{Side}
@@ -115,13 +115,13 @@ row-drawn : (row : ℕ) (cs : List ℕ) → 1 ≤ length cs → orderDrawn (rowW
 row-drawn row cs h = rw (ne-eqb (length cs) 0 (λ e. omega arith), held 96 cs)
 
 draw-read : {row : ℕ} {d cs : List ℕ} → row < 10 → Draws d cs → orderDrawn (drawnRow (digitCode row) (d ++ code "z" ∷ [])) ≡ some (draw row cs)
-unfolding drawnRow rowOf
+unfolding drawnRow rowAndData
 draw-read {row} {d} {cs} h draws =
     let same : digitCode row - code "0" ≡ row = omega arith in
     rw (end-read d (code "z"), before-read d (code "z"), digit-read row h, same, drawing.complete draws) (row-drawn row cs (draws .least))
 
 pub complete : (o : Order) (f : List ℕ) → Spells o f → orderOf f ≡ some o
-unfolding orderOf opensPicture readOf afterI displayOf lightOf labelOf numberFrame withNumber cursorSign pictureOf
+unfolding orderOf opensPicture readOf afterI displayOf lightOf labelRead numberFrame withNumber cursorSign pictureOf
 complete (plain DisplayOff) f (signs s end) = refl
 complete (plain DisplayOn) f (signs s end) = refl
 complete (plain (Mode n)) f (signs s (digits t end)) = plain-order f refl (mode-read t)

@@ -16,7 +16,7 @@ use Rattle.picture.specs.Reading.{items, few, columnsOf, columnsIn}
 use Rattle.command.specs.Order.{label}
 use Rattle.command.specs.Grammar.{Spells}
 use Rattle.command.specs.Facts.{LabelText, read-label, label-length}
-use Rattle.command.specs.Reading.{endsWith, butLast, readOf, opensPicture, rowWith, noPicture, rowOf, drawnRow, pictureOf, orderRead, orderDrawn, orderOf}
+use Rattle.command.specs.Reading.{endsWith, butLast, readOf, opensPicture, rowWith, noPicture, rowAndData, drawnRow, pictureOf, orderRead, orderDrawn, orderOf}
 use Rattle.command.specs.Sound.{cond-if, sound}
 use Rattle.command.specs.declared.Side.{Side}
 use Rattle.command.specs.declared.Reading.the-variants.{Bad, Label}
@@ -80,7 +80,7 @@ none-fits : Fits noPicture
 none-fits = row-fits 0 [] (omega arith) (omega arith)
 
 drawn-fits : (digit : ℕ) (rest : List ℕ) → Fits (drawnRow digit rest)
-unfolding drawnRow rowOf
+unfolding drawnRow rowAndData
 drawn-fits digit rest =
     cond-if Fits (endsWith (code "z") rest)
     (λ z. cond-if Fits (isDigit digit)

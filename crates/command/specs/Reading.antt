@@ -113,15 +113,15 @@ labelled sign t =
     (cond (eqb sign (code "1")) (onlyIf (isText t) (Label Left))
     (cond (eqb sign (code "2")) (onlyIf (isText t) (Label Right)) Bad))
 
-unfoldable pub labelOf : List ℕ → Reading
-labelOf [] = Bad
-labelOf (sign ∷ t) = labelled sign t
+unfoldable pub labelRead : List ℕ → Reading
+labelRead [] = Bad
+labelRead (sign ∷ t) = labelled sign t
 
 unfoldable pub afterI : ℕ → List ℕ → Reading
 afterI letter rest =
     cond (eqb letter (code "D")) (displayOf rest)
     (cond (eqb letter (code "E")) (lightOf rest)
-    (cond (eqb letter (code "K")) (labelOf rest) (numberFrame letter rest)))
+    (cond (eqb letter (code "K")) (labelRead rest) (numberFrame letter rest)))
 
 -- Other frames ----------------------------------------------------------------------------------------------------
 
@@ -164,12 +164,12 @@ abbrev pub noPicture : PictureFrame
 noPicture = rowWith 0 (columnsIn [])
 
 -- the row's digit and the data
-unfoldable pub rowOf : ℕ → List ℕ → PictureFrame
-rowOf digit codes = cond (isDigit digit) (rowWith (digit - code "0") (columnsRead codes)) noPicture
+unfoldable pub rowAndData : ℕ → List ℕ → PictureFrame
+rowAndData digit codes = cond (isDigit digit) (rowWith (digit - code "0") (columnsRead codes)) noPicture
 
 -- the row's digit and what follows the comma: data and a z
 unfoldable pub drawnRow : ℕ → List ℕ → PictureFrame
-drawnRow digit rest = cond (endsWith (code "z") rest) (rowOf digit (butLast rest)) noPicture
+drawnRow digit rest = cond (endsWith (code "z") rest) (rowAndData digit (butLast rest)) noPicture
 
 unfoldable pub pictureOf : List ℕ → PictureFrame
 pictureOf [] = noPicture

@@ -23,7 +23,7 @@ use Rattle.picture.specs.ReadLaws as drawing
 use Rattle.command.specs.Order.{Order, draw}
 use Rattle.command.specs.Grammar.{text, Matches, end, signs, digits, one-digit, codes, data-of, Spells}
 use Rattle.command.specs.Grammar as grammar
-use Rattle.command.specs.Reading.{soleOf, endsWith, butLast, semicolonAt, paired, twoNumbers, withNumber, oneNumber, keyTimes, numberFrame, displayOf, lightOf, isText, labelOf, afterI, cursorSign, positionAt, positionOf, readOf, opensPicture, rowWith, rowOf, drawnRow, pictureOf, orderRead, orderDrawn, orderOf}
+use Rattle.command.specs.Reading.{soleOf, endsWith, butLast, semicolonAt, paired, twoNumbers, withNumber, oneNumber, keyTimes, numberFrame, displayOf, lightOf, isText, labelRead, afterI, cursorSign, positionAt, positionOf, readOf, opensPicture, rowWith, rowAndData, drawnRow, pictureOf, orderRead, orderDrawn, orderOf}
 use Rattle.command.specs.declared.NumberPair.{NumberPair}
 use Rattle.command.specs.declared.NumberPair.the-variants.{None as Neither, Both}
 use Rattle.command.specs.declared.Reading.{Reading}
@@ -164,8 +164,8 @@ empty : (u : List ℕ) → length u ≡ 0 → u ≡ []
 empty [] e = refl
 empty (a ∷ u) e = absurd (omega arith)
 
-label-frame : (t : List ℕ) → Told (code "I" ∷ code "K" ∷ t) (labelOf t)
-unfolding labelOf
+label-frame : (t : List ℕ) → Told (code "I" ∷ code "K" ∷ t) (labelRead t)
+unfolding labelRead
 label-frame [] = tt
 label-frame (k ∷ u) =
     let P : ℕ → Reading → Type 0 = λ j r. Told (code "I" ∷ code "K" ∷ j ∷ u) r in
@@ -223,7 +223,7 @@ digit-of c e =
     (omega (arith, leb-true (code "0") c (h .0)), omega (arith, leb-true c (code "9") (h .1)))
 
 drawn-row : (digit : ℕ) (rest : List ℕ) → Said (ascii "Gr" ++ digit ∷ code "," ∷ rest) (orderDrawn (drawnRow digit rest))
-unfolding drawnRow rowOf
+unfolding drawnRow rowAndData
 drawn-row digit rest =
     let f : List ℕ = ascii "Gr" ++ digit ∷ code "," ∷ rest in
     let d : List ℕ = butLast rest in

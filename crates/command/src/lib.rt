@@ -1,8 +1,8 @@
 // The commands, and which of them a frame spells. A frame is the bytes between ESC and CR.
 // The grammar is in specs/Grammar.antt, which knows nothing of this reader. The ranges of specs/InRange.antt are asked in the
-// crate limits, and frames that draw are read in the crate drawing: each is judged by the definitions here.
+// crate `command_ranges`, and frames that draw are read in the crate `picture_frame`: each is judged by the definitions here.
 ghost use mathlib.Core.Path.{_≡_};
-ghost use Rattle.command.specs.Reading.{soleOf, semicolonAt, paired, twoNumbers, withNumber, oneNumber, keyTimes, numberFrame, displayOf, lightOf, isText, onlyIf, labelOf, afterI, cursorSign, positionAt, positionOf, readOf};
+ghost use Rattle.command.specs.Reading.{soleOf, semicolonAt, paired, twoNumbers, withNumber, oneNumber, keyTimes, numberFrame, displayOf, lightOf, isText, onlyIf, labelRead, afterI, cursorSign, positionAt, positionOf, readOf};
 use numeral::Numeral;
 use picture::Columns;
 
@@ -221,7 +221,7 @@ fn only_if(good: bool, reading: Reading) -> Reading
 
 // After IK: 0 and no more, or 1 or 2 and a text.
 fn label(rest: &[u8]) -> Reading
-    ensures same { λ r. ⌜ r ≡ labelOf (now (rest .entry)) ⌝ }
+    ensures same { λ r. ⌜ r ≡ labelRead (now (rest .entry)) ⌝ }
 {
     let n = rest.len();
     if n == 0 {

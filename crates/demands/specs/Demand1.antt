@@ -13,7 +13,7 @@ use Rattle.lists.specs.Codes.{questionMark}
 use Rattle.lists.specs.Every.{every}
 use Rattle.record.specs.declared.Record.{Record}
 use Rattle.record.specs.declared.Backlight.{Backlight}
-use Rattle.record.specs.Answer.{numberOf}
+use Rattle.record.specs.Number.{paperNumber}
 use Rattle.record.specs.Range.{inRange, backlightInRange}
 use Rattle.command.specs.Order.{Order}
 use Rattle.command.specs.Grammar.{Spells}
@@ -24,12 +24,12 @@ use Rattle.effect.specs.Obey.{isGood}
 use Rattle.effect.specs.Keeps.{out-of-range-keeps}
 use Rattle.parting.specs.Rules.{closed, abandoned, limit}
 use Rattle.parting.specs.Meaning.{close, act}
-use Rattle.reader.specs.Stream.{handset, obeyFrame, fedOf, answersAfter}
-use Rattle.keying.specs.Rules.{listed}
-use Rattle.keys.specs.Log.{outcome, handedBack, bufferAfter}
-use Rattle.keys.specs.Laws.{answers-1, answers-5, answers-4, answers-0}
-use Rattle.light.specs.Seconds.{passed, lightPassed}
-use Rattle.light.specs.Laws.{second-done, second-refused, light-done, light-refused}
+use Rattle.stream.specs.Stream.{handset, obeyFrame, fedOf, answersAfter}
+use Rattle.key_entry.specs.Rules.{listed}
+use Rattle.key_log.specs.Log.{outcome, handedBack, bufferAfter}
+use Rattle.key_log.specs.Laws.{answers-1, answers-5, answers-4, answers-0}
+use Rattle.seconds.specs.Seconds.{passed, lightPassed}
+use Rattle.seconds.specs.Laws.{second-done, second-refused, light-done, light-refused}
 use Rattle.seen.specs.Rows.{rowSeen, smsSeen, volumeSeen}
 use Rattle.seen.specs.Laws.{row-number, panel-numbers}
 use Rattle.writer.specs.Writing.{writtenOf, roomAfter}
@@ -46,37 +46,37 @@ pub record Refused (number : ℕ) (answered : ℕ) (given back : Record) (used w
 pub record Demand1 : Type 0 where
   -- The stream call: 1, else 0. The call on lent arrays is the same call (Tie, feed-lent-says).
   pub feed-refuses : (r : Record) (bytes before : List ℕ) → inRange r ≡ false
-      → (let f = fedOf r bytes (length before) in Refused 1 (numberOf (f .answer)) r (f .record) (f .used) (f .written) before (answersAfter r bytes before))
-  pub feed-done : (r : Record) (bytes : List ℕ) (room : ℕ) → inRange r ≡ true → numberOf (fedOf r bytes room .answer) ≡ 0
+      → (let f = fedOf r bytes (length before) in Refused 1 (paperNumber (f .number)) r (f .record) (f .used) (f .written) before (answersAfter r bytes before))
+  pub feed-done : (r : Record) (bytes : List ℕ) (room : ℕ) → inRange r ≡ true → paperNumber (fedOf r bytes room .number) ≡ 0
   -- The key log: 1, then 5, then 4, else 0.
   pub log-refuses-1 : (r : Record) (ticks edges before : List ℕ) → inRange r ≡ false
-      → (let o = outcome r ticks edges (length before) in let l = handedBack o in Refused 1 (numberOf (l .answer)) r (l .record) (l .used) (l .written) before (bufferAfter o before))
+      → (let o = outcome r ticks edges (length before) in let l = handedBack o in Refused 1 (paperNumber (l .number)) r (l .record) (l .used) (l .written) before (bufferAfter o before))
   pub log-refuses-5 : (r : Record) (ticks edges before : List ℕ) → inRange r ≡ true → (length ticks ≡ length edges → ⊥)
-      → (let o = outcome r ticks edges (length before) in let l = handedBack o in Refused 5 (numberOf (l .answer)) r (l .record) (l .used) (l .written) before (bufferAfter o before))
+      → (let o = outcome r ticks edges (length before) in let l = handedBack o in Refused 5 (paperNumber (l .number)) r (l .record) (l .used) (l .written) before (bufferAfter o before))
   pub log-refuses-4 : (r : Record) (ticks edges before : List ℕ) → inRange r ≡ true → length ticks ≡ length edges → every listed edges ≡ false
-      → (let o = outcome r ticks edges (length before) in let l = handedBack o in Refused 4 (numberOf (l .answer)) r (l .record) (l .used) (l .written) before (bufferAfter o before))
+      → (let o = outcome r ticks edges (length before) in let l = handedBack o in Refused 4 (paperNumber (l .number)) r (l .record) (l .used) (l .written) before (bufferAfter o before))
   pub log-done : (r : Record) (ticks edges : List ℕ) (room : ℕ) → inRange r ≡ true → length ticks ≡ length edges → every listed edges ≡ true
-      → numberOf (outcome r ticks edges room .answer) ≡ 0
+      → paperNumber (outcome r ticks edges room .number) ≡ 0
   -- The second: 1 and the same record, else 0; in place: by the backlight's own ranges.
-  pub second-answers : (r : Record) → inRange r ≡ false → (numberOf (passed r .answer) ≡ 1) × (passed r .after ≡ r)
-  pub second-passes : (r : Record) → inRange r ≡ true → numberOf (passed r .answer) ≡ 0
-  pub light-answers : (b : Backlight) → backlightInRange b ≡ false → (numberOf (lightPassed b .answer) ≡ 1) × (lightPassed b .backlight ≡ b)
-  pub light-passes : (b : Backlight) → backlightInRange b ≡ true → numberOf (lightPassed b .answer) ≡ 0
+  pub second-answers : (r : Record) → inRange r ≡ false → (paperNumber (passed r .number) ≡ 1) × (passed r .after ≡ r)
+  pub second-passes : (r : Record) → inRange r ≡ true → paperNumber (passed r .number) ≡ 0
+  pub light-answers : (b : Backlight) → backlightInRange b ≡ false → (paperNumber (lightPassed b .number) ≡ 1) × (lightPassed b .backlight ≡ b)
+  pub light-passes : (b : Backlight) → backlightInRange b ≡ true → paperNumber (lightPassed b .number) ≡ 0
   -- The questions: 1, then 4 for a row above 6, else 0.
-  pub row-answers : (r : Record) (row : ℕ) → numberOf (rowSeen r row .answer) ≡ cond (not (inRange r)) 1 (cond (ltb 6 row) 4 0)
-  pub panels-answer : (r : Record) → (numberOf (smsSeen r .answer) ≡ cond (not (inRange r)) 1 0) × (numberOf (volumeSeen r .answer) ≡ cond (not (inRange r)) 1 0)
+  pub row-answers : (r : Record) (row : ℕ) → paperNumber (rowSeen r row .number) ≡ cond (not (inRange r)) 1 (cond (ltb 6 row) 4 0)
+  pub panels-answer : (r : Record) → (paperNumber (smsSeen r .number) ≡ cond (not (inRange r)) 1 0) × (paperNumber (volumeSeen r .number) ≡ cond (not (inRange r)) 1 0)
   -- The writers: 2, then 3, nothing written then, count 0; else 0. `good` is whether the command, label or row is in range.
-  pub writer-refuses-2 : (frame room : List ℕ) → (numberOf (writtenOf false frame room .answer) ≡ 2) × (writtenOf false frame room .count ≡ 0) × (roomAfter false frame room ≡ room)
+  pub writer-refuses-2 : (frame room : List ℕ) → (paperNumber (writtenOf false frame room .number) ≡ 2) × (writtenOf false frame room .count ≡ 0) × (roomAfter false frame room ≡ room)
   pub writer-refuses-3 : (frame room : List ℕ) → length room < length frame
-      → (numberOf (writtenOf true frame room .answer) ≡ 3) × (writtenOf true frame room .count ≡ 0) × (roomAfter true frame room ≡ room)
-  pub writer-done : (frame room : List ℕ) → length frame ≤ length room → (numberOf (writtenOf true frame room .answer) ≡ 0) × (writtenOf true frame room .count ≡ length frame)
+      → (paperNumber (writtenOf true frame room .number) ≡ 3) × (writtenOf true frame room .count ≡ 0) × (roomAfter true frame room ≡ room)
+  pub writer-done : (frame room : List ℕ) → length frame ≤ length room → (paperNumber (writtenOf true frame room .number) ≡ 0) × (writtenOf true frame room .count ≡ length frame)
   -- A bad frame gets one question mark, and nothing changes.
   pub bad-frame-asked : (c : Core) (frame : List ℕ) → ((o : Order) → Spells o frame → ⊥) → obeyFrame c frame ≡ record { core = c; answers = questionMark ∷ [] }
   -- So do one that ESC abandons, and one that is closed with more than 250 bytes.
   pub abandoned-asked : (c : Core) (body : List ℕ) → act handset c (abandoned body) ≡ record { core = c; answers = questionMark ∷ [] }
   pub overlong-asked : (c : Core) (body : List ℕ) → limit < length body → act handset c (closed body) ≡ record { core = c; answers = questionMark ∷ [] }
   -- A frame with a number out of range gets silence, and nothing changes.
-  pub out-of-range-silent : (c : Core) (frame : List ℕ) (o : Order) → Spells o frame → inRangeInMode (c .panel .screen .mode) o ≡ false
+  pub out-of-range-silent : (c : Core) (frame : List ℕ) (o : Order) → Spells o frame → inRangeInMode (c .settings .screen .mode) o ≡ false
       → obeyFrame c frame ≡ record { core = c; answers = [] }
 
 -- The proof ---------------------------------------------------------------------------------------------------------

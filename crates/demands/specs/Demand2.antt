@@ -9,7 +9,7 @@ use lib.ListN.{length}
 use Rattle.lists.specs.Codes.{questionMark}
 use Rattle.lists.specs.Every.{every}
 use Rattle.record.specs.declared.Record.{Record}
-use Rattle.record.specs.declared.Answer.the-variants.{Done}
+use Rattle.record.specs.declared.Number.the-variants.{Done}
 use Rattle.record.specs.Range.{inRange}
 use Rattle.picture.specs.Data.{Bytes}
 use Rattle.command.specs.declared.Command.{Command}
@@ -22,17 +22,17 @@ use Rattle.effect.specs.Core.{Core}
 use Rattle.effect.specs.Effect.{effect, carryOut}
 use Rattle.effect.specs.Obey.{obeyOrder, isGood}
 use Rattle.effect.specs.Untouched.{groupOf, without, untouched}
-use Rattle.reader.specs.Stream.{obeyFrame}
+use Rattle.stream.specs.Stream.{obeyFrame}
 use Rattle.turns.specs.Room.{run}
-use Rattle.keying.specs.Rules.{listed, step}
-use Rattle.keys.specs.Log.{entries, outcome}
-use Rattle.keys.specs.Laws.{answers-0}
-use Rattle.light.specs.Seconds.{passed, dimmed}
-use Rattle.light.specs.Laws.{second-done}
+use Rattle.key_entry.specs.Rules.{listed, step}
+use Rattle.key_log.specs.Log.{entries, outcome}
+use Rattle.key_log.specs.Laws.{answers-0}
+use Rattle.seconds.specs.Seconds.{passed, dimmed}
+use Rattle.seconds.specs.Laws.{second-done}
 use Rattle.seen.specs.Places.{rowOwner}
 use Rattle.seen.specs.Rows.{contents, rowSeen}
 use Rattle.seen.specs.Laws.{seen-row}
-use Rattle.fitting.specs.Fitting.{isLabel, isRow}
+use Rattle.writer_ranges.specs.Fitting.{isLabel, isRow}
 use Rattle.writer.specs.Writing.{bodyOf, labelBody, rowBody}
 use Rattle.writer.specs.ReadBack.{ReadsBack, command-reads-back, label-reads-back, row-reads-back}
 
@@ -40,13 +40,13 @@ pub record Demand2 : Type 0 where
   -- A frame is good when the grammar has an order that it spells, and it spells no second one.
   pub one-meaning : (o other : Order) (frame : List ℕ) → Spells o frame → Spells other frame → o ≡ other
   -- A good frame in range has its order's effect, in silence.
-  pub obeyed : (c : Core) (frame : List ℕ) (o : Order) → Spells o frame → inRangeInMode (c .panel .screen .mode) o ≡ true
+  pub obeyed : (c : Core) (frame : List ℕ) (o : Order) → Spells o frame → inRangeInMode (c .settings .screen .mode) o ≡ true
       → obeyFrame c frame ≡ record { core = effect o c; answers = [] }
   -- And no other effect: what the order's group does not name is as it was.
   pub no-other : (o : Order) (c : Core) → without (groupOf o) (carryOut o c) ≡ without (groupOf o) c
   -- A key log of listed edges is taken by the rules.
   pub logs : (r : Record) (ticks edges : List ℕ) (room : ℕ) → inRange r ≡ true → length ticks ≡ length edges → every listed edges ≡ true
-      → outcome r ticks edges room ≡ record { answer = Done; ran = run step r (entries ticks edges) room }
+      → outcome r ticks edges room ≡ record { number = Done; ran = run step r (entries ticks edges) room }
   -- A second lowers the seconds left by one, not below 0.
   pub seconds : (r : Record) → inRange r ≡ true → passed r .after ≡ dimmed r
   -- A row shows the contents of its owner.
@@ -58,7 +58,7 @@ pub record Demand2 : Type 0 where
 
 -- The proof ---------------------------------------------------------------------------------------------------------
 
-carried : (c : Core) (o : Order) → inRangeInMode (c .panel .screen .mode) o ≡ true → carryOut o c ≡ effect o c
+carried : (c : Core) (o : Order) → inRangeInMode (c .settings .screen .mode) o ≡ true → carryOut o c ≡ effect o c
 unfolding carryOut
 carried c o h = rw h
 

@@ -10,8 +10,8 @@ use mathlib.Core.List.{List}
 use Rattle.record.specs.declared.Record.{Record}
 use Rattle.record.specs.Range.{inRange}
 use Rattle.parting.specs.Rules.{Stands}
-use Rattle.reader.specs.Stream.{stateOf, fedOf}
-use Rattle.reader.specs.Demand.{FeedDemand3, feed-demand3, fed-in-range}
+use Rattle.stream.specs.Stream.{stateOf, fedOf}
+use Rattle.stream.specs.Demand.{FeedDemand3, feed-demand3, fed-in-range}
 
 -- `FeedDemand3 r before` has the letter's sentences one by one, of the stream call `fedOf`.
 pub record Demand3 : Type 0 where

@@ -11,7 +11,7 @@ use Rattle.record.specs.PowerOn.{powerOn}
 use Rattle.numeral.specs.Numeral.{digitOf}
 use Rattle.picture.specs.Reading.{hexOf, timesOf, items, columnsOf}
 use Rattle.picture.specs.Writing.{hexCode, itemText, encode}
-use Rattle.command.specs.Reading.{twoNumbers, withNumber, numberFrame, displayOf, lightOf, isText, labelOf, afterI, cursorSign, positionOf, readOf, opensPicture, rowOf, drawnRow, pictureOf, orderOf}
+use Rattle.command.specs.Reading.{twoNumbers, withNumber, numberFrame, displayOf, lightOf, isText, labelRead, afterI, cursorSign, positionOf, readOf, opensPicture, rowAndData, drawnRow, pictureOf, orderOf}
 use Rattle.effect.specs.Core.{Core}
 use Rattle.effect.specs.Effect.{blanks, drawn, carryOut, storeText}
 use Rattle.turns.specs.Room
@@ -20,13 +20,13 @@ use Rattle.turns.specs.Taking.{Taken}
 use Rattle.parting.specs.Rules.{keep}
 use Rattle.parting.specs.Reading.{step, reading}
 use Rattle.parting.specs.Meaning.{State}
-use Rattle.reader.specs.Stream.{handset, frameIn, stateOf}
-use Rattle.keying.specs.Codes.{codeOf}
-use Rattle.keying.specs.Rules as Keys
-use Rattle.keying.specs.Rules.{Entry, entry, elapsed, keyed}
-use Rattle.panels.specs.Panels.{volumePanel}
-use Rattle.panels.specs.declared.VolumePanel.{VolumePanel}
-use Rattle.panels.specs.declared.VolumePanel.the-variants as Panel
+use Rattle.stream.specs.Stream.{handset, frameIn, stateOf}
+use Rattle.key_entry.specs.Codes.{codeOf}
+use Rattle.key_entry.specs.Rules as Keys
+use Rattle.key_entry.specs.Rules.{Entry, entry, elapsed, keyed}
+use Rattle.seen_panels.specs.Panels.{volumePanel}
+use Rattle.seen_panels.specs.declared.VolumePanel.{VolumePanel}
+use Rattle.seen_panels.specs.declared.VolumePanel.the-variants as Sound
 
 -- a frame on the cord, and streams of them
 abbrev frame : List ℕ → List ℕ
@@ -41,10 +41,10 @@ abbrev said : List ℕ → List ℕ
 said stream = after stream .answers
 
 abbrev position : List ℕ → List ℕ
-position stream = let s = after stream .state .core .panel .screen in s .row ∷ s .column ∷ []
+position stream = let s = after stream .state .core .settings .screen in s .row ∷ s .column ∷ []
 
 abbrev iconP : List ℕ → List ℕ
-iconP stream = after stream .state .core .panel .icons .p ∷ []
+iconP stream = after stream .state .core .settings .icons .p ∷ []
 
 -- the volume panel: nothing, Mute, private or handsfree at a level
 abbrev nothing : List ℕ
@@ -54,13 +54,13 @@ abbrev mute : List ℕ
 mute = ascii "Mute"
 
 abbrev told : VolumePanel → List ℕ
-told Panel.Nothing = nothing
-told Panel.Mute = mute
-told (Panel.Private n) = n ∷ []
-told (Panel.Handsfree n) = n ∷ []
+told Sound.Nothing = nothing
+told Sound.Mute = mute
+told (Sound.Private n) = n ∷ []
+told (Sound.Handsfree n) = n ∷ []
 
 abbrev volume : List ℕ → List ℕ
-volume stream = told (volumePanel (after stream .state .core .panel .volume))
+volume stream = told (volumePanel (after stream .state .core .settings .volume))
 
 -- the codes that a key log sends, from the power-on record (Time1 12)
 abbrev sends : List Entry → List ℕ
@@ -119,5 +119,5 @@ table =
 
 -- EVERY P LINE HOLDS.
 pub p-lines : map (λ (l : List ℕ × List ℕ). l .0) table ≡ map (λ (l : List ℕ × List ℕ). l .1) table
-unfolding digitOf padded hexOf timesOf items columnsOf hexCode itemText twoNumbers withNumber numberFrame displayOf lightOf isText labelOf afterI cursorSign positionOf readOf opensPicture rowOf drawnRow pictureOf orderOf blanks drawn carryOut storeText keep step Taking.reading frameIn Keys.step keyed elapsed codeOf
+unfolding digitOf padded hexOf timesOf items columnsOf hexCode itemText twoNumbers withNumber numberFrame displayOf lightOf isText labelRead afterI cursorSign positionOf readOf opensPicture rowAndData drawnRow pictureOf orderOf blanks drawn carryOut storeText keep step Taking.reading frameIn Keys.step keyed elapsed codeOf
 p-lines = refl

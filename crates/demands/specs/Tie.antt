@@ -9,85 +9,85 @@ use contract.Monad.{fact}
 use denote.Ref.{now}
 use denote.Triple.Clauses.{Ended, AtExit}
 use borrow.Fn.World.{World, Pr, ArgsD, ResD}
-use Rattle.record.specs.Answer.{numberOf}
-use Rattle.record.specs.Range.{rowsOf, lastColumnOf, backlightInRange, inRange}
+use Rattle.record.specs.Number.{paperNumber}
+use Rattle.record.specs.Range.{rowsOf, rowEndOf, backlightInRange, inRange}
 use Rattle.record.specs.PowerOn.{timesAtPowerOn, startingWith, powerOn}
-use Rattle.ranges.specs.Parts.{joined}
-use Rattle.fields.specs.Fields.{withField}
+use Rattle.record_ranges.specs.Parts.{joined}
+use Rattle.record_fields.specs.Fields.{withField}
 use Rattle.numeral.specs.Numeral as Numerals
 use Rattle.picture.specs.Reading.{columnsRead}
 use Rattle.picture.specs.Writing.{dataWritten}
 use Rattle.command.specs.InRange.{commandInRange, mostRows}
 use Rattle.command.specs.Reading.{readOf, opensPicture, pictureOf}
-use Rattle.settings.specs.Settings.{toMode, atLevel}
+use Rattle.effect_modes.specs.Modes.{toMode, atLevel}
 use Rattle.effect.specs.Obey.{Obeys, core}
 use Rattle.record.specs.declared.Record.{Record}
-use Rattle.places.specs.Places.{countAfter, asked, emptied}
-use Rattle.reader.specs.declared.Fed.{Fed}
-use Rattle.reader.specs.Stream.{together, lentOf, fedOf, answersAfter}
+use Rattle.stream_places.specs.Places.{countAfter, asked, emptied}
+use Rattle.stream.specs.declared.Fed.{Fed}
+use Rattle.stream.specs.Stream.{together, lentOf, fedOf, answersAfter}
 use Rattle.lists.specs.Every.{every}
-use Rattle.keying.specs.Rules.{listed, keyed}
-use Rattle.keys.specs.Log.{outcome, handedBack, bufferAfter}
-use Rattle.light.specs.Seconds.{passed, lightPassed}
-use Rattle.panels.specs.Panels.{smsPanel, volumePanel}
+use Rattle.key_entry.specs.Rules.{listed, keyed}
+use Rattle.key_log.specs.Log.{outcome, handedBack, bufferAfter}
+use Rattle.seconds.specs.Seconds.{passed, lightPassed}
+use Rattle.seen_panels.specs.Panels.{smsPanel, volumePanel}
 use Rattle.seen.specs.Rows.{rowSeen, smsSeen, volumeSeen}
-use Rattle.fitting.specs.Fitting.{isLabel, isRow}
+use Rattle.writer_ranges.specs.Fitting.{isLabel, isRow}
 use Rattle.writer.specs.Writing.{bodyOf, labelBody, rowBody, frameOf, writtenOf, roomAfter}
-use Rattle.record.proofs.number as Number
-use Rattle.record.proofs.number.Reads as NumberReads
+use Rattle.record.proofs.paper_number as PaperNumber
+use Rattle.record.proofs.paper_number.Reads as PaperNumberReads
 use Rattle.record.proofs.rows as Rows
 use Rattle.record.proofs.rows.Reads as RowsReads
-use Rattle.record.proofs.last_column as LastColumn
-use Rattle.record.proofs.last_column.Reads as LastColumnReads
+use Rattle.record.proofs.row_end as RowEnd
+use Rattle.record.proofs.row_end.Reads as RowEndReads
 use Rattle.record.proofs.Times.power_on as TimesPowerOn
 use Rattle.record.proofs.Times.power_on.Reads as TimesPowerOnReads
 use Rattle.record.proofs.Record.starting_with as StartingWith
 use Rattle.record.proofs.Record.starting_with.Reads as StartingWithReads
 use Rattle.record.proofs.Record.power_on as PowerOn
 use Rattle.record.proofs.Record.power_on.Reads as PowerOnReads
-use Rattle.small_ranges.specs.Small.{smallInRange}
-use Rattle.small_ranges.proofs.backlight_in_range as BacklightInRange
-use Rattle.small_ranges.proofs.backlight_in_range.Reads as BacklightInRangeReads
-use Rattle.small_ranges.proofs.small_in_range as SmallInRange
-use Rattle.small_ranges.proofs.small_in_range.Reads as SmallInRangeReads
-use Rattle.ranges.proofs.in_range as RecordInRange
-use Rattle.ranges.proofs.in_range.Reads as RecordInRangeReads
-use Rattle.ranges.proofs.in_range_lent as InRangeLent
-use Rattle.ranges.proofs.in_range_lent.Reads as InRangeLentReads
-use Rattle.fields.proofs.with_field as WithField
-use Rattle.fields.proofs.with_field.Reads as WithFieldReads
+use Rattle.record_small_ranges.specs.Small.{smallInRange}
+use Rattle.record_small_ranges.proofs.backlight_in_range as BacklightInRange
+use Rattle.record_small_ranges.proofs.backlight_in_range.Reads as BacklightInRangeReads
+use Rattle.record_small_ranges.proofs.small_in_range as SmallInRange
+use Rattle.record_small_ranges.proofs.small_in_range.Reads as SmallInRangeReads
+use Rattle.record_ranges.proofs.in_range as RecordInRange
+use Rattle.record_ranges.proofs.in_range.Reads as RecordInRangeReads
+use Rattle.record_ranges.proofs.in_range_lent as InRangeLent
+use Rattle.record_ranges.proofs.in_range_lent.Reads as InRangeLentReads
+use Rattle.record_fields.proofs.with_field as WithField
+use Rattle.record_fields.proofs.with_field.Reads as WithFieldReads
 use Rattle.numeral.proofs.read_number as ReadNumber
 use Rattle.numeral.proofs.read_number.Reads as ReadNumberReads
 use Rattle.numeral.proofs.digits_of as DigitsOf
 use Rattle.numeral.proofs.digits_of.Reads as DigitsOfReads
 use Rattle.picture.proofs.read_data as ReadData
 use Rattle.picture.proofs.read_data.Reads as ReadDataReads
-use Rattle.encoding.proofs.write_data as WriteData
-use Rattle.encoding.proofs.write_data.Reads as WriteDataReads
-use Rattle.limits.proofs.in_range as CommandInRange
-use Rattle.limits.proofs.in_range.Reads as CommandInRangeReads
+use Rattle.picture_writer.proofs.write_data as WriteData
+use Rattle.picture_writer.proofs.write_data.Reads as WriteDataReads
+use Rattle.command_ranges.proofs.in_range as CommandInRange
+use Rattle.command_ranges.proofs.in_range.Reads as CommandInRangeReads
 use Rattle.command.proofs.read_command as ReadCommand
 use Rattle.command.proofs.read_command.Reads as ReadCommandReads
-use Rattle.drawing.proofs.opens_picture as OpensPicture
-use Rattle.drawing.proofs.opens_picture.Reads as OpensPictureReads
-use Rattle.drawing.proofs.read_picture as ReadPicture
-use Rattle.drawing.proofs.read_picture.Reads as ReadPictureReads
-use Rattle.settings.proofs.to_mode as ToMode
-use Rattle.settings.proofs.to_mode.Reads as ToModeReads
-use Rattle.settings.proofs.at_level as AtLevel
-use Rattle.settings.proofs.at_level.Reads as AtLevelReads
+use Rattle.picture_frame.proofs.opens_picture as OpensPicture
+use Rattle.picture_frame.proofs.opens_picture.Reads as OpensPictureReads
+use Rattle.picture_frame.proofs.read_picture as ReadPicture
+use Rattle.picture_frame.proofs.read_picture.Reads as ReadPictureReads
+use Rattle.effect_modes.proofs.to_mode as ToMode
+use Rattle.effect_modes.proofs.to_mode.Reads as ToModeReads
+use Rattle.effect_modes.proofs.at_level as AtLevel
+use Rattle.effect_modes.proofs.at_level.Reads as AtLevelReads
 use Rattle.effect.proofs.obey as Obey
 use Rattle.effect.proofs.obey.Reads as ObeyReads
-use Rattle.places.proofs.ask as Ask
-use Rattle.places.proofs.ask.Reads as AskReads
-use Rattle.places.proofs.empty_from as EmptyFrom
-use Rattle.places.proofs.empty_from.Reads as EmptyFromReads
-use Rattle.reader.proofs.feed_lent as FeedLent
-use Rattle.reader.proofs.feed_lent.Reads as FeedLentReads
-use Rattle.stream.proofs.whole as Whole
-use Rattle.stream.proofs.whole.Reads as WholeReads
-use Rattle.stream.proofs.feed as Feed
-use Rattle.stream.proofs.feed.Reads as FeedReads
+use Rattle.stream_places.proofs.ask as Ask
+use Rattle.stream_places.proofs.ask.Reads as AskReads
+use Rattle.stream_places.proofs.empty_from as EmptyFrom
+use Rattle.stream_places.proofs.empty_from.Reads as EmptyFromReads
+use Rattle.stream.proofs.feed_lent as FeedLent
+use Rattle.stream.proofs.feed_lent.Reads as FeedLentReads
+use Rattle.stream_by_value.proofs.whole as Whole
+use Rattle.stream_by_value.proofs.whole.Reads as WholeReads
+use Rattle.stream_by_value.proofs.feed as Feed
+use Rattle.stream_by_value.proofs.feed.Reads as FeedReads
 use Rattle.measure.specs.Mark.{markOf}
 use Rattle.measure.specs.Calls.{fedInCalls, answersInCalls, goodOnes}
 use Rattle.measure.proofs.measure_one_call as OneCall
@@ -96,29 +96,29 @@ use Rattle.measure.proofs.measure_short_calls as ShortCalls
 use Rattle.measure.proofs.measure_short_calls.Reads as ShortCallsReads
 use Rattle.measure.proofs.measure_range_checks as RangeChecks
 use Rattle.measure.proofs.measure_range_checks.Reads as RangeChecksReads
-use Rattle.keying.proofs.all_listed as AllListed
-use Rattle.keying.proofs.all_listed.Reads as AllListedReads
-use Rattle.keying.proofs.take_entry as TakeEntry
-use Rattle.keying.proofs.take_entry.Reads as TakeEntryReads
-use Rattle.keys.proofs.take_log as TakeLog
-use Rattle.keys.proofs.take_log.Reads as TakeLogReads
-use Rattle.light.proofs.second as Second
-use Rattle.light.proofs.second.Reads as SecondReads
-use Rattle.light.proofs.second_in_place as SecondInPlace
-use Rattle.panels.proofs.sms_panel as SmsPanelOf
-use Rattle.panels.proofs.sms_panel.Reads as SmsPanelOfReads
-use Rattle.panels.proofs.volume_panel as VolumePanelOf
-use Rattle.panels.proofs.volume_panel.Reads as VolumePanelOfReads
+use Rattle.key_entry.proofs.all_listed as AllListed
+use Rattle.key_entry.proofs.all_listed.Reads as AllListedReads
+use Rattle.key_entry.proofs.take_entry as TakeEntry
+use Rattle.key_entry.proofs.take_entry.Reads as TakeEntryReads
+use Rattle.key_log.proofs.take_log as TakeLog
+use Rattle.key_log.proofs.take_log.Reads as TakeLogReads
+use Rattle.seconds.proofs.second as Second
+use Rattle.seconds.proofs.second.Reads as SecondReads
+use Rattle.seconds.proofs.second_in_place as SecondInPlace
+use Rattle.seen_panels.proofs.sms_panel as SmsPanelOf
+use Rattle.seen_panels.proofs.sms_panel.Reads as SmsPanelOfReads
+use Rattle.seen_panels.proofs.volume_panel as VolumePanelOf
+use Rattle.seen_panels.proofs.volume_panel.Reads as VolumePanelOfReads
 use Rattle.seen.proofs.row_seen as RowSeen
 use Rattle.seen.proofs.row_seen.Reads as RowSeenReads
 use Rattle.seen.proofs.sms_seen as SmsSeen
 use Rattle.seen.proofs.sms_seen.Reads as SmsSeenReads
 use Rattle.seen.proofs.volume_seen as VolumeSeen
 use Rattle.seen.proofs.volume_seen.Reads as VolumeSeenReads
-use Rattle.fitting.proofs.label_in_range as LabelInRange
-use Rattle.fitting.proofs.label_in_range.Reads as LabelInRangeReads
-use Rattle.fitting.proofs.row_in_range as RowInRange
-use Rattle.fitting.proofs.row_in_range.Reads as RowInRangeReads
+use Rattle.writer_ranges.proofs.label_in_range as LabelInRange
+use Rattle.writer_ranges.proofs.label_in_range.Reads as LabelInRangeReads
+use Rattle.writer_ranges.proofs.row_in_range as RowInRange
+use Rattle.writer_ranges.proofs.row_in_range.Reads as RowInRangeReads
 use Rattle.writer.proofs.write_command as WriteCommand
 use Rattle.writer.proofs.write_command.Reads as WriteCommandReads
 use Rattle.writer.proofs.write_label as WriteLabel
@@ -152,17 +152,17 @@ SaysFive t ensures first second third fourth fifth =
     ≡ sep (w .𝓤) (fact (w .𝓤) (first κs a q e))
     (sep (w .𝓤) (fact (w .𝓤) (second κs a q e)) (sep (w .𝓤) (fact (w .𝓤) (third κs a q e)) (sep (w .𝓤) (fact (w .𝓤) (fourth κs a q e)) (fact (w .𝓤) (fifth κs a q e)))))
 
--- record::number
-pub number-says : Says Number.ended NumberReads.ensures (λ κs a q e. q ≡ numberOf (a .0))
-number-says κs a q e w = refl
+-- record::paper_number
+pub paper-number-says : Says PaperNumber.ended PaperNumberReads.ensures (λ κs a q e. q ≡ paperNumber (a .0))
+paper-number-says κs a q e w = refl
 
 -- record::rows
 pub rows-says : Says Rows.ended RowsReads.ensures (λ κs a q e. q ≡ rowsOf (a .0))
 rows-says κs a q e w = refl
 
--- record::last_column
-pub last-column-says : Says LastColumn.ended LastColumnReads.ensures (λ κs a q e. q ≡ lastColumnOf (a .0))
-last-column-says κs a q e w = refl
+-- record::row_end
+pub row-end-says : Says RowEnd.ended RowEndReads.ensures (λ κs a q e. q ≡ rowEndOf (a .0))
+row-end-says κs a q e w = refl
 
 -- record::Times::power_on
 pub times-power-on-says : Says TimesPowerOn.ended TimesPowerOnReads.ensures (λ κs a q e. q ≡ timesAtPowerOn)
@@ -176,24 +176,24 @@ record-starting-with-says κs a q e w = refl
 pub record-power-on-says : Says PowerOn.ended PowerOnReads.ensures (λ κs a q e. q ≡ powerOn)
 record-power-on-says κs a q e w = refl
 
--- small_ranges::backlight_in_range
+-- record_small_ranges::backlight_in_range
 pub backlight-in-range-says : Says BacklightInRange.ended BacklightInRangeReads.ensures (λ κs a q e. q ≡ backlightInRange (a .0))
 backlight-in-range-says κs a q e w = refl
 
--- small_ranges::small_in_range
+-- record_small_ranges::small_in_range
 pub small-in-range-says : Says SmallInRange.ended SmallInRangeReads.ensures (λ κs a q e. q ≡ smallInRange (a .0) (a .1 .0))
 small-in-range-says κs a q e w = refl
 
--- ranges::in_range
+-- record_ranges::in_range
 pub record-in-range-says : Says RecordInRange.ended RecordInRangeReads.ensures (λ κs a q e. q ≡ inRange (a .0))
 record-in-range-says κs a q e w = refl
 
--- ranges::in_range_lent
+-- record_ranges::in_range_lent
 pub in-range-lent-says : Says InRangeLent.ended InRangeLentReads.ensures
     (λ κs a q e. q ≡ inRange (joined (a .0) (now (a .1 .0)) (now (a .1 .1 .0)) (a .1 .1 .1 .0) (a .1 .1 .1 .1 .0) (a .1 .1 .1 .1 .1 .0) (now (a .1 .1 .1 .1 .1 .1 .0))))
 in-range-lent-says κs a q e w = refl
 
--- fields::with_field
+-- record_fields::with_field
 pub with-field-says : Says WithField.ended WithFieldReads.ensures (λ κs a q e. q ≡ withField (a .0) (a .1 .0) (a .1 .1 .0) (a .1 .1 .1 .0))
 with-field-says κs a q e w = refl
 
@@ -209,11 +209,11 @@ digits-of-says κs a q e w = refl
 pub read-data-says : Says ReadData.ended ReadDataReads.ensures (λ κs a q e. q ≡ columnsRead (now (a .0)))
 read-data-says κs a q e w = refl
 
--- encoding::write_data
+-- picture_writer::write_data
 pub write-data-says : Says WriteData.ended WriteDataReads.ensures (λ κs a q e. q ≡ dataWritten (now (a .0)))
 write-data-says κs a q e w = refl
 
--- limits::in_range
+-- command_ranges::in_range
 pub command-in-range-says : Says CommandInRange.ended CommandInRangeReads.ensures (λ κs a q e. q ≡ commandInRange (a .1 .0) (a .0))
 command-in-range-says κs a q e w = refl
 
@@ -221,35 +221,35 @@ command-in-range-says κs a q e w = refl
 pub read-command-says : Says ReadCommand.ended ReadCommandReads.ensures (λ κs a q e. q ≡ readOf (now (a .0)))
 read-command-says κs a q e w = refl
 
--- drawing::opens_picture
+-- picture_frame::opens_picture
 pub opens-picture-says : Says OpensPicture.ended OpensPictureReads.ensures (λ κs a q e. q ≡ opensPicture (now (a .0)))
 opens-picture-says κs a q e w = refl
 
--- drawing::read_picture
+-- picture_frame::read_picture
 pub read-picture-says : Says ReadPicture.ended ReadPictureReads.ensures (λ κs a q e. q ≡ pictureOf (now (a .0)))
 read-picture-says κs a q e w = refl
 
--- settings::to_mode
+-- effect_modes::to_mode
 pub to-mode-says : Says ToMode.ended ToModeReads.ensures (λ κs a q e. q ≡ toMode (a .0) (a .1 .0))
 to-mode-says κs a q e w = refl
 
--- settings::at_level
+-- effect_modes::at_level
 pub at-level-says : Says AtLevel.ended AtLevelReads.ensures (λ κs a q e. q ≡ atLevel (a .0) (a .1 .0) (a .1 .1 .0))
 at-level-says κs a q e w = refl
 
 -- effect::obey
-pub obey-says : Says Obey.ended ObeyReads.ensures (λ κs a q e. Obeys (now (a .1 .1 .1 .0)) (core (a .0) (now (a .1 .0)) (now (a .1 .1 .0))) q (core (q .panel) (now (e .1 .0)) (now (e .1 .1 .0))))
+pub obey-says : Says Obey.ended ObeyReads.ensures (λ κs a q e. Obeys (now (a .1 .1 .1 .0)) (core (a .0) (now (a .1 .0)) (now (a .1 .1 .0))) q (core (q .settings) (now (e .1 .0)) (now (e .1 .1 .0))))
 obey-says κs a q e w = refl
 
--- places::ask
+-- stream_places::ask
 pub ask-says : SaysBoth Ask.ended AskReads.ensures (λ κs a q e. q ≡ countAfter (length (now (a .0))) (a .1 .0)) (λ κs a q e. now (e .0) ≡ asked (now (a .0)) (a .1 .0))
 ask-says κs a q e w = refl
 
--- places::empty_from
+-- stream_places::empty_from
 pub empty-from-says : Says EmptyFrom.ended EmptyFromReads.ensures (λ κs a q e. now (e .0) ≡ emptied (now (a .0)) (a .1 .0))
 empty-from-says κs a q e w = refl
 
--- reader::feed_lent: the same call, of the record that the small fields and the lent arrays make
+-- stream::feed_lent: the same call, of the record that the small fields and the lent arrays make
 abbrev given : (κs : Lfts (FeedLent.ended .signature .lifetimes)) → ArgsD (FeedLent.ended .signature) κs → Record
 given κs a = together (a .0) (now (a .1 .0)) (now (a .1 .1 .0)) (now (a .1 .1 .1 .0))
 
@@ -264,45 +264,45 @@ pub feed-lent-says : SaysFive FeedLent.ended FeedLentReads.ensures
     (λ κs a q e. now (e .1 .1 .1 .1 .1 .0) ≡ answersAfter (given κs a) (now (a .1 .1 .1 .1 .0)) (now (a .1 .1 .1 .1 .1 .0)))
 feed-lent-says κs a q e w = refl
 
--- stream::whole
+-- stream_by_value::whole
 pub whole-says : Says Whole.ended WholeReads.ensures (λ κs a q e. q ≡ together (a .0) (a .1 .0) (a .1 .1 .0) (a .1 .1 .1 .0))
 whole-says κs a q e w = refl
 
--- stream::feed
+-- stream_by_value::feed
 pub feed-says : SaysBoth Feed.ended FeedReads.ensures
     (λ κs a q e. q ≡ fedOf (a .0) (now (a .1 .0)) (length (now (a .1 .1 .0))))
     (λ κs a q e. now (e .1 .1 .0) ≡ answersAfter (a .0) (now (a .1 .0)) (now (a .1 .1 .0)))
 feed-says κs a q e w = refl
 
--- keying::all_listed
+-- key_entry::all_listed
 pub all-listed-says : Says AllListed.ended AllListedReads.ensures (λ κs a q e. q ≡ every listed (now (a .0)))
 all-listed-says κs a q e w = refl
 
--- keying::take_entry
+-- key_entry::take_entry
 pub take-entry-says : Says TakeEntry.ended TakeEntryReads.ensures (λ κs a q e. q ≡ keyed (a .0) (a .1 .0) (a .1 .1 .0) (a .1 .1 .1 .0) (a .1 .1 .1 .1 .0))
 take-entry-says κs a q e w = refl
 
--- keys::take_log
+-- key_log::take_log
 pub take-log-says : SaysBoth TakeLog.ended TakeLogReads.ensures
     (λ κs a q e. q ≡ handedBack (outcome (a .0) (now (a .1 .0)) (now (a .1 .1 .0)) (length (now (a .1 .1 .1 .0)))))
     (λ κs a q e. now (e .1 .1 .1 .0) ≡ bufferAfter (outcome (a .0) (now (a .1 .0)) (now (a .1 .1 .0)) (length (now (a .1 .1 .1 .0)))) (now (a .1 .1 .1 .0)))
 take-log-says κs a q e w = refl
 
--- light::second
+-- seconds::second
 pub second-says : Says Second.ended SecondReads.ensures (λ κs a q e. q ≡ passed (a .0))
 second-says κs a q e w = refl
 
--- light::second_in_place: its clause is named by the contract itself
+-- seconds::second_in_place: its clause is named by the contract itself
 pub second-in-place-says : Says SecondInPlace.ended
     (λ κs a g q e w. SecondInPlace.clauses (w .𝓤) (w .H) (w .𝓖 .A) (w .𝓜 .mem) (w .𝓡 .run) κs a .ensures g q e)
-    (λ κs a q e. (q ≡ lightPassed (now (a .0)) .answer) × (now (e .0) ≡ lightPassed (now (a .0)) .backlight))
+    (λ κs a q e. (q ≡ lightPassed (now (a .0)) .number) × (now (e .0) ≡ lightPassed (now (a .0)) .backlight))
 second-in-place-says κs a q e w = refl
 
--- panels::sms_panel
+-- seen_panels::sms_panel
 pub sms-panel-says : Says SmsPanelOf.ended SmsPanelOfReads.ensures (λ κs a q e. q ≡ smsPanel (a .0))
 sms-panel-says κs a q e w = refl
 
--- panels::volume_panel
+-- seen_panels::volume_panel
 pub volume-panel-says : Says VolumePanelOf.ended VolumePanelOfReads.ensures (λ κs a q e. q ≡ volumePanel (a .0))
 volume-panel-says κs a q e w = refl
 
@@ -318,11 +318,11 @@ sms-seen-says κs a q e w = refl
 pub volume-seen-says : Says VolumeSeen.ended VolumeSeenReads.ensures (λ κs a q e. q ≡ volumeSeen (a .0))
 volume-seen-says κs a q e w = refl
 
--- fitting::label_in_range
+-- writer_ranges::label_in_range
 pub label-in-range-says : Says LabelInRange.ended LabelInRangeReads.ensures (λ κs a q e. q ≡ isLabel (now (a .0)))
 label-in-range-says κs a q e w = refl
 
--- fitting::row_in_range
+-- writer_ranges::row_in_range
 pub row-in-range-says : Says RowInRange.ended RowInRangeReads.ensures (λ κs a q e. q ≡ isRow (a .0) (now (a .1 .0)))
 row-in-range-says κs a q e w = refl
 

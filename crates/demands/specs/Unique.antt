@@ -8,90 +8,90 @@ use contract.Lifetimes.{Lfts}
 use denote.Ref.{now}
 use denote.Triple.Clauses.{Ended, AtExit}
 use borrow.Fn.World.{ArgsD, ResD}
-use Rattle.light.specs.Seconds.{lightPassed}
-use Rattle.record.proofs.number as Number
-use Rattle.record.proofs.number.Reads as NumberReads
+use Rattle.seconds.specs.Seconds.{lightPassed}
+use Rattle.record.proofs.paper_number as PaperNumber
+use Rattle.record.proofs.paper_number.Reads as PaperNumberReads
 use Rattle.record.proofs.rows as Rows
 use Rattle.record.proofs.rows.Reads as RowsReads
-use Rattle.record.proofs.last_column as LastColumn
-use Rattle.record.proofs.last_column.Reads as LastColumnReads
+use Rattle.record.proofs.row_end as RowEnd
+use Rattle.record.proofs.row_end.Reads as RowEndReads
 use Rattle.record.proofs.Times.power_on as TimesPowerOn
 use Rattle.record.proofs.Times.power_on.Reads as TimesPowerOnReads
 use Rattle.record.proofs.Record.starting_with as StartingWith
 use Rattle.record.proofs.Record.starting_with.Reads as StartingWithReads
 use Rattle.record.proofs.Record.power_on as PowerOn
 use Rattle.record.proofs.Record.power_on.Reads as PowerOnReads
-use Rattle.small_ranges.proofs.backlight_in_range as BacklightInRange
-use Rattle.small_ranges.proofs.backlight_in_range.Reads as BacklightInRangeReads
-use Rattle.small_ranges.proofs.small_in_range as SmallInRange
-use Rattle.small_ranges.proofs.small_in_range.Reads as SmallInRangeReads
-use Rattle.ranges.proofs.in_range as RecordInRange
-use Rattle.ranges.proofs.in_range.Reads as RecordInRangeReads
-use Rattle.ranges.proofs.in_range_lent as InRangeLent
-use Rattle.ranges.proofs.in_range_lent.Reads as InRangeLentReads
-use Rattle.fields.proofs.with_field as WithField
-use Rattle.fields.proofs.with_field.Reads as WithFieldReads
+use Rattle.record_small_ranges.proofs.backlight_in_range as BacklightInRange
+use Rattle.record_small_ranges.proofs.backlight_in_range.Reads as BacklightInRangeReads
+use Rattle.record_small_ranges.proofs.small_in_range as SmallInRange
+use Rattle.record_small_ranges.proofs.small_in_range.Reads as SmallInRangeReads
+use Rattle.record_ranges.proofs.in_range as RecordInRange
+use Rattle.record_ranges.proofs.in_range.Reads as RecordInRangeReads
+use Rattle.record_ranges.proofs.in_range_lent as InRangeLent
+use Rattle.record_ranges.proofs.in_range_lent.Reads as InRangeLentReads
+use Rattle.record_fields.proofs.with_field as WithField
+use Rattle.record_fields.proofs.with_field.Reads as WithFieldReads
 use Rattle.numeral.proofs.read_number as ReadNumber
 use Rattle.numeral.proofs.read_number.Reads as ReadNumberReads
 use Rattle.numeral.proofs.digits_of as DigitsOf
 use Rattle.numeral.proofs.digits_of.Reads as DigitsOfReads
 use Rattle.picture.proofs.read_data as ReadData
 use Rattle.picture.proofs.read_data.Reads as ReadDataReads
-use Rattle.encoding.proofs.write_data as WriteData
-use Rattle.encoding.proofs.write_data.Reads as WriteDataReads
-use Rattle.limits.proofs.in_range as CommandInRange
-use Rattle.limits.proofs.in_range.Reads as CommandInRangeReads
+use Rattle.picture_writer.proofs.write_data as WriteData
+use Rattle.picture_writer.proofs.write_data.Reads as WriteDataReads
+use Rattle.command_ranges.proofs.in_range as CommandInRange
+use Rattle.command_ranges.proofs.in_range.Reads as CommandInRangeReads
 use Rattle.command.proofs.read_command as ReadCommand
 use Rattle.command.proofs.read_command.Reads as ReadCommandReads
-use Rattle.drawing.proofs.opens_picture as OpensPicture
-use Rattle.drawing.proofs.opens_picture.Reads as OpensPictureReads
-use Rattle.drawing.proofs.read_picture as ReadPicture
-use Rattle.drawing.proofs.read_picture.Reads as ReadPictureReads
-use Rattle.settings.proofs.to_mode as ToMode
-use Rattle.settings.proofs.to_mode.Reads as ToModeReads
-use Rattle.settings.proofs.at_level as AtLevel
-use Rattle.settings.proofs.at_level.Reads as AtLevelReads
+use Rattle.picture_frame.proofs.opens_picture as OpensPicture
+use Rattle.picture_frame.proofs.opens_picture.Reads as OpensPictureReads
+use Rattle.picture_frame.proofs.read_picture as ReadPicture
+use Rattle.picture_frame.proofs.read_picture.Reads as ReadPictureReads
+use Rattle.effect_modes.proofs.to_mode as ToMode
+use Rattle.effect_modes.proofs.to_mode.Reads as ToModeReads
+use Rattle.effect_modes.proofs.at_level as AtLevel
+use Rattle.effect_modes.proofs.at_level.Reads as AtLevelReads
 use Rattle.effect.proofs.obey as Obey
 use Rattle.effect.proofs.obey.Reads as ObeyReads
-use Rattle.places.proofs.ask as Ask
-use Rattle.places.proofs.ask.Reads as AskReads
-use Rattle.places.proofs.empty_from as EmptyFrom
-use Rattle.places.proofs.empty_from.Reads as EmptyFromReads
-use Rattle.reader.proofs.feed_lent as FeedLent
-use Rattle.reader.proofs.feed_lent.Reads as FeedLentReads
-use Rattle.stream.proofs.whole as Whole
-use Rattle.stream.proofs.whole.Reads as WholeReads
-use Rattle.stream.proofs.feed as Feed
-use Rattle.stream.proofs.feed.Reads as FeedReads
+use Rattle.stream_places.proofs.ask as Ask
+use Rattle.stream_places.proofs.ask.Reads as AskReads
+use Rattle.stream_places.proofs.empty_from as EmptyFrom
+use Rattle.stream_places.proofs.empty_from.Reads as EmptyFromReads
+use Rattle.stream.proofs.feed_lent as FeedLent
+use Rattle.stream.proofs.feed_lent.Reads as FeedLentReads
+use Rattle.stream_by_value.proofs.whole as Whole
+use Rattle.stream_by_value.proofs.whole.Reads as WholeReads
+use Rattle.stream_by_value.proofs.feed as Feed
+use Rattle.stream_by_value.proofs.feed.Reads as FeedReads
 use Rattle.measure.proofs.measure_one_call as OneCall
 use Rattle.measure.proofs.measure_one_call.Reads as OneCallReads
 use Rattle.measure.proofs.measure_short_calls as ShortCalls
 use Rattle.measure.proofs.measure_short_calls.Reads as ShortCallsReads
 use Rattle.measure.proofs.measure_range_checks as RangeChecks
 use Rattle.measure.proofs.measure_range_checks.Reads as RangeChecksReads
-use Rattle.keying.proofs.all_listed as AllListed
-use Rattle.keying.proofs.all_listed.Reads as AllListedReads
-use Rattle.keying.proofs.take_entry as TakeEntry
-use Rattle.keying.proofs.take_entry.Reads as TakeEntryReads
-use Rattle.keys.proofs.take_log as TakeLog
-use Rattle.keys.proofs.take_log.Reads as TakeLogReads
-use Rattle.light.proofs.second as Second
-use Rattle.light.proofs.second.Reads as SecondReads
-use Rattle.light.proofs.second_in_place as SecondInPlace
-use Rattle.panels.proofs.sms_panel as SmsPanelOf
-use Rattle.panels.proofs.sms_panel.Reads as SmsPanelOfReads
-use Rattle.panels.proofs.volume_panel as VolumePanelOf
-use Rattle.panels.proofs.volume_panel.Reads as VolumePanelOfReads
+use Rattle.key_entry.proofs.all_listed as AllListed
+use Rattle.key_entry.proofs.all_listed.Reads as AllListedReads
+use Rattle.key_entry.proofs.take_entry as TakeEntry
+use Rattle.key_entry.proofs.take_entry.Reads as TakeEntryReads
+use Rattle.key_log.proofs.take_log as TakeLog
+use Rattle.key_log.proofs.take_log.Reads as TakeLogReads
+use Rattle.seconds.proofs.second as Second
+use Rattle.seconds.proofs.second.Reads as SecondReads
+use Rattle.seconds.proofs.second_in_place as SecondInPlace
+use Rattle.seen_panels.proofs.sms_panel as SmsPanelOf
+use Rattle.seen_panels.proofs.sms_panel.Reads as SmsPanelOfReads
+use Rattle.seen_panels.proofs.volume_panel as VolumePanelOf
+use Rattle.seen_panels.proofs.volume_panel.Reads as VolumePanelOfReads
 use Rattle.seen.proofs.row_seen as RowSeen
 use Rattle.seen.proofs.row_seen.Reads as RowSeenReads
 use Rattle.seen.proofs.sms_seen as SmsSeen
 use Rattle.seen.proofs.sms_seen.Reads as SmsSeenReads
 use Rattle.seen.proofs.volume_seen as VolumeSeen
 use Rattle.seen.proofs.volume_seen.Reads as VolumeSeenReads
-use Rattle.fitting.proofs.label_in_range as LabelInRange
-use Rattle.fitting.proofs.label_in_range.Reads as LabelInRangeReads
-use Rattle.fitting.proofs.row_in_range as RowInRange
-use Rattle.fitting.proofs.row_in_range.Reads as RowInRangeReads
+use Rattle.writer_ranges.proofs.label_in_range as LabelInRange
+use Rattle.writer_ranges.proofs.label_in_range.Reads as LabelInRangeReads
+use Rattle.writer_ranges.proofs.row_in_range as RowInRange
+use Rattle.writer_ranges.proofs.row_in_range.Reads as RowInRangeReads
 use Rattle.writer.proofs.write_command as WriteCommand
 use Rattle.writer.proofs.write_command.Reads as WriteCommandReads
 use Rattle.writer.proofs.write_label as WriteLabel
@@ -119,17 +119,17 @@ OneEnd t L allows left =
     (κs : Lfts (t .signature .lifetimes)) (a : ArgsD (t .signature) κs) (q q′ : ResD (t .signature) κs) (e e′ : AtExit t κs)
     → allows κs a q e → allows κs a q′ e′ → (q ≡ q′) × (left κs e ≡ left κs e′)
 
--- record::number
-pub number-one : OneResult Number.ended NumberReads.Learnt
-number-one κs a q q′ e e′ p p′ = two-equal p p′
+-- record::paper_number
+pub paper-number-one : OneResult PaperNumber.ended PaperNumberReads.Learnt
+paper-number-one κs a q q′ e e′ p p′ = two-equal p p′
 
 -- record::rows
 pub rows-one : OneResult Rows.ended RowsReads.Learnt
 rows-one κs a q q′ e e′ p p′ = two-equal p p′
 
--- record::last_column
-pub last-column-one : OneResult LastColumn.ended LastColumnReads.Learnt
-last-column-one κs a q q′ e e′ p p′ = two-equal p p′
+-- record::row_end
+pub row-end-one : OneResult RowEnd.ended RowEndReads.Learnt
+row-end-one κs a q q′ e e′ p p′ = two-equal p p′
 
 -- record::Times::power_on
 pub times-power-on-one : OneResult TimesPowerOn.ended TimesPowerOnReads.Learnt
@@ -143,23 +143,23 @@ record-starting-with-one κs a q q′ e e′ p p′ = two-equal p p′
 pub record-power-on-one : OneResult PowerOn.ended PowerOnReads.Learnt
 record-power-on-one κs a q q′ e e′ p p′ = two-equal p p′
 
--- small_ranges::backlight_in_range
+-- record_small_ranges::backlight_in_range
 pub backlight-in-range-one : OneResult BacklightInRange.ended BacklightInRangeReads.Learnt
 backlight-in-range-one κs a q q′ e e′ p p′ = two-equal p p′
 
--- small_ranges::small_in_range
+-- record_small_ranges::small_in_range
 pub small-in-range-one : OneResult SmallInRange.ended SmallInRangeReads.Learnt
 small-in-range-one κs a q q′ e e′ p p′ = two-equal p p′
 
--- ranges::in_range
+-- record_ranges::in_range
 pub record-in-range-one : OneResult RecordInRange.ended RecordInRangeReads.Learnt
 record-in-range-one κs a q q′ e e′ p p′ = two-equal p p′
 
--- ranges::in_range_lent
+-- record_ranges::in_range_lent
 pub in-range-lent-one : OneResult InRangeLent.ended InRangeLentReads.Learnt
 in-range-lent-one κs a q q′ e e′ p p′ = two-equal p p′
 
--- fields::with_field
+-- record_fields::with_field
 pub with-field-one : OneResult WithField.ended WithFieldReads.Learnt
 with-field-one κs a q q′ e e′ p p′ = two-equal p p′
 
@@ -175,11 +175,11 @@ digits-of-one κs a q q′ e e′ p p′ = two-equal p p′
 pub read-data-one : OneResult ReadData.ended ReadDataReads.Learnt
 read-data-one κs a q q′ e e′ p p′ = two-equal p p′
 
--- encoding::write_data
+-- picture_writer::write_data
 pub write-data-one : OneResult WriteData.ended WriteDataReads.Learnt
 write-data-one κs a q q′ e e′ p p′ = two-equal p p′
 
--- limits::in_range
+-- command_ranges::in_range
 pub command-in-range-one : OneResult CommandInRange.ended CommandInRangeReads.Learnt
 command-in-range-one κs a q q′ e e′ p p′ = two-equal p p′
 
@@ -187,64 +187,64 @@ command-in-range-one κs a q q′ e e′ p p′ = two-equal p p′
 pub read-command-one : OneResult ReadCommand.ended ReadCommandReads.Learnt
 read-command-one κs a q q′ e e′ p p′ = two-equal p p′
 
--- drawing::opens_picture
+-- picture_frame::opens_picture
 pub opens-picture-one : OneResult OpensPicture.ended OpensPictureReads.Learnt
 opens-picture-one κs a q q′ e e′ p p′ = two-equal p p′
 
--- drawing::read_picture
+-- picture_frame::read_picture
 pub read-picture-one : OneResult ReadPicture.ended ReadPictureReads.Learnt
 read-picture-one κs a q q′ e e′ p p′ = two-equal p p′
 
--- places::ask
+-- stream_places::ask
 pub ask-one : OneEnd Ask.ended (List ℕ) AskReads.Learnt (λ κs e. now (e .0))
 ask-one κs a q q′ e e′ p p′ = (two-equal (p .0) (p′ .0), two-equal (p .1) (p′ .1))
 
--- places::empty_from
+-- stream_places::empty_from
 pub empty-from-one : OneEnd EmptyFrom.ended (List ℕ) EmptyFromReads.Learnt (λ κs e. now (e .0))
 empty-from-one κs a q q′ e e′ p p′ = (refl, two-equal p p′)
 
--- reader::feed_lent: text, picture, the frame's bytes and the answers
+-- stream::feed_lent: text, picture, the frame's bytes and the answers
 pub feed-lent-one : OneEnd FeedLent.ended (List ℕ × List ℕ × List ℕ × List ℕ) FeedLentReads.Learnt (λ κs e. (now (e .1 .0), now (e .1 .1 .0), now (e .1 .1 .1 .0), now (e .1 .1 .1 .1 .1 .0)))
 feed-lent-one κs a q q′ e e′ p p′ = (
   two-equal (p .0) (p′ .0),
   λ j. (two-equal (p .1 .0) (p′ .1 .0) j, two-equal (p .1 .1 .0) (p′ .1 .1 .0) j, two-equal (p .1 .1 .1 .0) (p′ .1 .1 .1 .0) j, two-equal (p .1 .1 .1 .1) (p′ .1 .1 .1 .1) j),
 )
 
--- stream::whole
+-- stream_by_value::whole
 pub whole-one : OneResult Whole.ended WholeReads.Learnt
 whole-one κs a q q′ e e′ p p′ = two-equal p p′
 
--- stream::feed
+-- stream_by_value::feed
 pub feed-one : OneEnd Feed.ended (List ℕ) FeedReads.Learnt (λ κs e. now (e .1 .1 .0))
 feed-one κs a q q′ e e′ p p′ = (two-equal (p .0) (p′ .0), two-equal (p .1) (p′ .1))
 
--- keying::all_listed
+-- key_entry::all_listed
 pub all-listed-one : OneResult AllListed.ended AllListedReads.Learnt
 all-listed-one κs a q q′ e e′ p p′ = two-equal p p′
 
--- keying::take_entry
+-- key_entry::take_entry
 pub take-entry-one : OneResult TakeEntry.ended TakeEntryReads.Learnt
 take-entry-one κs a q q′ e e′ p p′ = two-equal p p′
 
--- keys::take_log
+-- key_log::take_log
 pub take-log-one : OneEnd TakeLog.ended (List ℕ) TakeLogReads.Learnt (λ κs e. now (e .1 .1 .1 .0))
 take-log-one κs a q q′ e e′ p p′ = (two-equal (p .0) (p′ .0), two-equal (p .1) (p′ .1))
 
--- light::second
+-- seconds::second
 pub second-one : OneResult Second.ended SecondReads.Learnt
 second-one κs a q q′ e e′ p p′ = two-equal p p′
 
--- light::second_in_place: what its clause claims (Tie, second-in-place-says)
+-- seconds::second_in_place: what its clause claims (Tie, second-in-place-says)
 pub second-in-place-one : OneEnd SecondInPlace.ended Backlight
-    (λ κs a q e. (q ≡ lightPassed (now (a .0)) .answer) × (now (e .0) ≡ lightPassed (now (a .0)) .backlight))
+    (λ κs a q e. (q ≡ lightPassed (now (a .0)) .number) × (now (e .0) ≡ lightPassed (now (a .0)) .backlight))
     (λ κs e. now (e .0))
 second-in-place-one κs a q q′ e e′ p p′ = (two-equal (p .0) (p′ .0), two-equal (p .1) (p′ .1))
 
--- panels::sms_panel
+-- seen_panels::sms_panel
 pub sms-panel-one : OneResult SmsPanelOf.ended SmsPanelOfReads.Learnt
 sms-panel-one κs a q q′ e e′ p p′ = two-equal p p′
 
--- panels::volume_panel
+-- seen_panels::volume_panel
 pub volume-panel-one : OneResult VolumePanelOf.ended VolumePanelOfReads.Learnt
 volume-panel-one κs a q q′ e e′ p p′ = two-equal p p′
 
@@ -260,11 +260,11 @@ sms-seen-one κs a q q′ e e′ p p′ = two-equal p p′
 pub volume-seen-one : OneResult VolumeSeen.ended VolumeSeenReads.Learnt
 volume-seen-one κs a q q′ e e′ p p′ = two-equal p p′
 
--- fitting::label_in_range
+-- writer_ranges::label_in_range
 pub label-in-range-one : OneResult LabelInRange.ended LabelInRangeReads.Learnt
 label-in-range-one κs a q q′ e e′ p p′ = two-equal p p′
 
--- fitting::row_in_range
+-- writer_ranges::row_in_range
 pub row-in-range-one : OneResult RowInRange.ended RowInRangeReads.Learnt
 row-in-range-one κs a q q′ e e′ p p′ = two-equal p p′
 
@@ -280,22 +280,22 @@ write-label-one κs a q q′ e e′ p p′ = (two-equal (p .0) (p′ .0), two-eq
 pub write-picture-row-one : OneEnd WritePictureRow.ended (List ℕ) WritePictureRowReads.Learnt (λ κs e. now (e .1 .1 .0))
 write-picture-row-one κs a q q′ e e′ p p′ = (two-equal (p .0) (p′ .0), two-equal (p .1) (p′ .1))
 
--- settings::to_mode
+-- effect_modes::to_mode
 pub to-mode-one : OneResult ToMode.ended ToModeReads.Learnt
 to-mode-one κs a q q′ e e′ p p′ = two-equal p p′
 
--- settings::at_level
+-- effect_modes::at_level
 pub at-level-one : OneResult AtLevel.ended AtLevelReads.Learnt
 at-level-one κs a q q′ e e′ p p′ = two-equal p p′
 
--- effect::obey: whether the frame is good, and the panel, text and picture as they are afterwards
+-- effect::obey: whether the frame is good, and the settings, text and picture as they are afterwards
 pub obey-one : (κs : Lfts (Obey.ended .signature .lifetimes)) (a : ArgsD (Obey.ended .signature) κs) (q q′ : ResD (Obey.ended .signature) κs) (e e′ : AtExit Obey.ended κs)
     → ObeyReads.Learnt κs a q e → ObeyReads.Learnt κs a q′ e′
     → (q ≡ q′) × (now (e .1 .0) ≡ now (e′ .1 .0)) × (now (e .1 .1 .0) ≡ now (e′ .1 .1 .0))
 obey-one κs a q q′ e e′ p p′ =
     let same = two-equal (p .same) (p′ .same) in
     let good = two-equal (p .good) (p′ .good) in
-    (λ j. record { good = good j; panel = same j .panel }, λ j. same j .text, λ j. same j .picture)
+    (λ j. record { good = good j; settings = same j .settings }, λ j. same j .text, λ j. same j .picture)
 
 -- measure::measure_one_call
 pub one-call-one : OneEnd OneCall.ended (List ℕ) OneCallReads.Learnt (λ κs e. now (e .1 .0))

@@ -1,10 +1,10 @@
-// A driver over the handset's libraries: it reads a script of calls from standard input and prints what each call answered.
+// A driver over the handset's libraries: it reads a script of calls from standard input and prints what each call handed back.
 //
 // It keeps one record, at first the power-on record. A script has one call a line: a letter alone, or a letter, one blank and
 // bytes as pairs of hexadecimal digits, of either case, with nothing between them; a blank with no bytes behind it does no harm.
 // A number is two bytes, its high byte first, unless it is said to be one byte. A line that breaks this, lacks bytes that its
-// call needs, has bytes too many or breaks a limit is answered by the line "what" and changes nothing; an empty line is passed
-// over without an answer. The last line needs no line feed.
+// call needs, has bytes too many or breaks a limit gets the line "what" and changes nothing; an empty line is passed
+// over without a line. The last line needs no line feed.
 //
 //   P                           the power-on record
 //   S FIELD PLACE VALUE         sets a place of a field to any value, in range or not; FIELD is one byte
@@ -25,7 +25,7 @@
 // so many places are lent to the call, and place i holds (i * 7 + 3) mod 256 before it. A line has at most 4,096 stream bytes,
 // 1,024 ticks and 1,024 edges, 300 codes or 300 columns.
 //
-// Answers. A line is a word and bytes, in upper case; one with no bytes is the word alone. NUMBER is document 01's, a byte; a flag
+// What it prints. A line is a word and bytes, in upper case; one with no bytes is the word alone. NUMBER is document 01's, a byte; a flag
 // is 0 or 1. USED and WRITTEN are two bytes, and so is TICK; all else is one, but for arrays.
 //
 //   P and S          the letter and 00
@@ -72,24 +72,24 @@
 ghost use mathlib.Core.Path.{_≡_};
 ghost use Prim.Native.Nat.{_<_, _≤_, _*_};
 ghost use lib.ListN.{length};
-ghost use Rattle.light.specs.Seconds.{lightPassed};
+ghost use Rattle.seconds.specs.Seconds.{lightPassed};
 use command::Command;
 use command::Side;
-use fields::Field;
 use libc::STDIN_FILENO;
 use libc::STDOUT_FILENO;
-use light::LightPassed;
-use record::Answer;
 use record::Backlight;
 use record::Held;
 use record::Hundredths;
 use record::Icons;
 use record::Label;
-use record::Panel;
+use record::Number;
 use record::Record;
 use record::Screen;
+use record::Settings;
 use record::Times;
 use record::Volume;
+use record_fields::Field;
+use seconds::LightPassed;
 use seen::Bar;
 use seen::Labels;
 use seen::Owner;
@@ -135,7 +135,7 @@ const MOST_PRINTED: usize = 1400;
 const TOO_LONG: usize = 16384;
 
 // Printing. A line is gathered in `out`, where every line has room, and written at once; `at` is how much of it is taken, and
-// each of these functions answers how much is then.
+// each of these functions tells how much is then.
 
 fn put_byte(out: &mut [u8], at: usize, b: u8) -> usize {
     if at < out.len() {
@@ -194,8 +194,8 @@ fn say_what() {
 }
 
 // A call's letter and its number.
-fn say_answer(letter: u8, answer: Answer) {
-    let n = record::number(answer);
+fn say_number(letter: u8, number: Number) {
+    let n = record::paper_number(number);
     say(&[letter], &[n]);
 }
 
@@ -209,9 +209,9 @@ fn low(n: usize) -> u8 {
     (n % 256) as u8
 }
 
-// What a call answers that was lent a buffer.
-fn say_lent(letter: u8, answer: Answer, used: usize, written: usize, buffer: &[u8]) {
-    let n = record::number(answer);
+// What a call that was lent a buffer hands back.
+fn say_lent(letter: u8, number: Number, used: usize, written: usize, buffer: &[u8]) {
+    let n = record::paper_number(number);
     let numbers = [n, high(used), low(used), high(written), low(written)];
     say(&[letter], &numbers);
     say(b"buffer", buffer);
@@ -265,7 +265,7 @@ fn say_light(b: Backlight) {
     );
 }
 
-fn say_panel(p: Panel) {
+fn say_settings(p: Settings) {
     say_screen(p.screen, p.shown);
     say_labels(p.left, p.right);
     say_icons(p.icons, p.volume, p.buzzer);
@@ -302,8 +302,8 @@ fn say_arrays<'a>(text: &'a [u8], picture: &'a [u8]) {
 fn shown(r: Record) -> Record {
     let state = r.frame.state;
     let len = r.frame.len;
-    say_panel(r.panel);
-    say_keys(r.held, r.panel.times);
+    say_settings(r.settings);
+    say_keys(r.held, r.settings.times);
     say_frame(state, len, &r.frame.bytes);
     say_arrays(&r.text, &r.picture);
     r
@@ -338,18 +338,18 @@ fn volume_level(panel: VolumePanel) -> u8 {
 }
 
 fn say_sms(seen: SmsSeen) {
-    let answer = seen.answer;
+    let number = seen.number;
     let panel = seen.panel;
-    say(b"M", &[record::number(answer), sms_number(panel)]);
+    say(b"M", &[record::paper_number(number), sms_number(panel)]);
 }
 
 fn say_volume(seen: VolumeSeen) {
-    let answer = seen.answer;
+    let number = seen.number;
     let panel = seen.panel;
     say(
         b"V",
         &[
-            record::number(answer),
+            record::paper_number(number),
             volume_number(panel),
             volume_level(panel),
         ],
@@ -596,24 +596,24 @@ fn is_call(letter: u8, args: &[u8]) -> bool {
     }
 }
 
-// Calls that may change the record. Each answers the record.
+// Calls that may change the record. Each hands the record back.
 
 fn power_on_call() -> Record {
-    say_answer(b'P', Answer::Done);
+    say_number(b'P', Number::Done);
     shown(Record::power_on())
 }
 
 fn set_call(r: Record, args: &[u8]) -> Record {
     let field = field_of(byte_at(args, 0));
     let place = number_at(args, 1, 2) as usize;
-    say_answer(b'S', Answer::Done);
-    shown(fields::with_field(r, field, place, number_at(args, 3, 4)))
+    say_number(b'S', Number::Done);
+    shown(record_fields::with_field(r, field, place, number_at(args, 3, 4)))
 }
 
 fn stream_call(r: Record, bytes: &[u8], buffer: &mut [u8]) -> Record {
-    let fed = stream::feed(r, bytes, buffer);
-    let answer = fed.answer;
-    say_lent(b'F', answer, fed.used, fed.written, buffer);
+    let fed = stream_by_value::feed(r, bytes, buffer);
+    let number = fed.number;
+    say_lent(b'F', number, fed.used, fed.written, buffer);
     shown(fed.record)
 }
 
@@ -632,9 +632,9 @@ fn ticks_into(args: &[u8], to: &mut [u16]) -> usize
 }
 
 fn log_into(r: Record, ticks: &[u16], edges: &[u8], buffer: &mut [u8]) -> Record {
-    let logged = keys::take_log(r, ticks, edges, buffer);
-    let answer = logged.answer;
-    say_lent(b'K', answer, logged.used, logged.written, buffer);
+    let logged = key_log::take_log(r, ticks, edges, buffer);
+    let number = logged.number;
+    say_lent(b'K', number, logged.used, logged.written, buffer);
     shown(logged.record)
 }
 
@@ -645,16 +645,16 @@ fn log_call(r: Record, args: &[u8], buffer: &mut [u8]) -> Record {
 }
 
 fn second_call(r: Record) -> Record {
-    let passed = light::second(r);
-    let answer = passed.answer;
-    say_answer(b'C', answer);
+    let passed = seconds::second(r);
+    let number = passed.number;
+    say_number(b'C', number);
     shown(passed.after)
 }
 
 // Calls that leave the record as it is.
 
 fn range_call(r: Record) {
-    say(b"R", &[ranges::in_range(r) as u8]);
+    say(b"R", &[record_ranges::in_range(r) as u8]);
 }
 
 // The entry in place, on a copy.
@@ -662,24 +662,24 @@ fn second_of(b: Backlight) -> LightPassed
     ensures { λ q. ⌜ q ≡ lightPassed b ⌝ }
 {
     let mut lent = b;
-    let answer = light::second_in_place(&mut lent);
+    let number = seconds::second_in_place(&mut lent);
     LightPassed {
-        answer: answer,
+        number: number,
         backlight: lent,
     }
 }
 
 fn light_call(b: Backlight) {
     let passed = second_of(b);
-    let answer = passed.answer;
-    say_answer(b'B', answer);
+    let number = passed.number;
+    say_number(b'B', number);
     say_light(passed.backlight);
 }
 
 fn row_call(r: Record, row: u8) {
     let seen = seen::row_seen(r, row);
-    let answer = seen.answer;
-    say_answer(b'Q', answer);
+    let number = seen.number;
+    say_number(b'Q', number);
     say_row(seen);
 }
 
@@ -712,14 +712,14 @@ fn written(letter: u8, args: &[u8], buffer: &mut [u8]) -> Written {
 
 fn writer_call(letter: u8, args: &[u8], buffer: &mut [u8]) {
     let w = written(letter, args, buffer);
-    let answer = w.answer;
-    say_lent(letter, answer, 0, w.count, buffer);
+    let number = w.number;
+    say_lent(letter, number, 0, w.count, buffer);
 }
 
 fn question(r: Record, letter: u8, args: &[u8], buffer: &mut [u8]) {
     match letter {
         b'R' => range_call(r),
-        b'B' => light_call(r.panel.backlight),
+        b'B' => light_call(r.settings.backlight),
         b'M' => say_sms(seen::sms_seen(r)),
         b'V' => say_volume(seen::volume_seen(r)),
         b'Q' => row_call(r, byte_at(args, 0)),

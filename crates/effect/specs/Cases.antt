@@ -10,7 +10,7 @@ use Rattle.lists.specs.Padded.{padded}
 use Rattle.numeral.specs.Numeral.{digitOf}
 use Rattle.picture.specs.Reading.{hexOf, timesOf, items, columnsOf}
 use Rattle.record.specs.PowerOn.{powerOn}
-use Rattle.command.specs.Reading.{twoNumbers, withNumber, numberFrame, displayOf, lightOf, isText, labelOf, afterI, cursorSign, positionOf, readOf, opensPicture, rowOf, drawnRow, pictureOf, orderOf}
+use Rattle.command.specs.Reading.{twoNumbers, withNumber, numberFrame, displayOf, lightOf, isText, labelRead, afterI, cursorSign, positionOf, readOf, opensPicture, rowAndData, drawnRow, pictureOf, orderOf}
 use Rattle.effect.specs.Core.{Core, coreOf}
 use Rattle.effect.specs.Effect.{blanks, drawn, carryOut, storeText}
 use Rattle.effect.specs.Obey.{obeyOrder}
@@ -33,22 +33,22 @@ bit b = cond b 1 0
 
 -- display, text mode, overlay, cursor row and column
 abbrev screen : Core → List ℕ
-screen c = let s = c .panel .screen in bit (s .display) ∷ s .mode ∷ s .overlay ∷ s .row ∷ s .column ∷ []
+screen c = let s = c .settings .screen in bit (s .display) ∷ s .mode ∷ s .overlay ∷ s .row ∷ s .column ∷ []
 
 -- which, level, mute, hidden
 abbrev volume : Core → List ℕ
-volume c = let v = c .panel .volume in v .which ∷ v .level ∷ bit (v .mute) ∷ bit (v .hidden) ∷ []
+volume c = let v = c .settings .volume in v .which ∷ v .level ∷ bit (v .mute) ∷ bit (v .hidden) ∷ []
 
 -- mode, duration, seconds left, keypad flag
 abbrev backlight : Core → List ℕ
-backlight c = let b = c .panel .backlight in b .mode ∷ b .duration .0 ∷ b .left .0 ∷ bit (b .keypad) ∷ []
+backlight c = let b = c .settings .backlight in b .mode ∷ b .duration .0 ∷ b .left .0 ∷ bit (b .keypad) ∷ []
 
 -- the icons in the order S U F R P W
 abbrev icons : Core → List ℕ
-icons c = let i = c .panel .icons in i .s ∷ i .u ∷ i .f ∷ i .r ∷ i .p ∷ i .w ∷ []
+icons c = let i = c .settings .icons in i .s ∷ i .u ∷ i .f ∷ i .r ∷ i .p ∷ i .w ∷ []
 
 abbrev times : Core → List ℕ
-times c = c .panel .times .time1 .0 ∷ c .panel .times .time2 .0 ∷ []
+times c = c .settings .times .time1 .0 ∷ c .settings .times .time2 .0 ∷ []
 
 -- the first columns of a picture row
 abbrev columns : ℕ → ℕ → Core → List ℕ
@@ -105,11 +105,11 @@ table =
     ∷ (times (after (ascii "IT20;3" ∷ [])), 12 ∷ 12 ∷ [])
     ∷ (times (after (ascii "IT20;0" ∷ [])), 20 ∷ 0 ∷ [])
     -- labels; the places past a label are zero
-    ∷ (after (ascii "IK1Keep" ∷ []) .panel .left .codes, ascii "Keep" ++ replicate 3 0)
-    ∷ (after (ascii "IK2Keep" ∷ ascii "IK2No" ∷ []) .panel .right .codes, ascii "No" ++ replicate 5 0)
-    ∷ (after (ascii "IK1Keep" ∷ ascii "IK0" ∷ []) .panel .left .codes, replicate 7 0)
+    ∷ (after (ascii "IK1Keep" ∷ []) .settings .left .codes, ascii "Keep" ++ replicate 3 0)
+    ∷ (after (ascii "IK2Keep" ∷ ascii "IK2No" ∷ []) .settings .right .codes, ascii "No" ++ replicate 5 0)
+    ∷ (after (ascii "IK1Keep" ∷ ascii "IK0" ∷ []) .settings .left .codes, replicate 7 0)
     ∷ []
 
 pub cases : map (λ (c : List ℕ × List ℕ). c .0) table ≡ map (λ (c : List ℕ × List ℕ). c .1) table
-unfolding digitOf padded hexOf timesOf items columnsOf twoNumbers withNumber numberFrame displayOf lightOf isText labelOf afterI cursorSign positionOf readOf opensPicture rowOf drawnRow pictureOf orderOf blanks drawn carryOut storeText
+unfolding digitOf padded hexOf timesOf items columnsOf twoNumbers withNumber numberFrame displayOf lightOf isText labelRead afterI cursorSign positionOf readOf opensPicture rowAndData drawnRow pictureOf orderOf blanks drawn carryOut storeText
 cases = refl

@@ -1,7 +1,7 @@
 -- What a stream can change of the record: all but its held key and its frame. Assumes nothing.
 use mathlib.Core.List.{List}
 use Prim.Native.Nat.{ℕ}
-use Rattle.record.specs.declared.Panel.{Panel}
+use Rattle.record.specs.declared.Settings.{Settings}
 use Rattle.record.specs.declared.Screen.{Screen}
 use Rattle.record.specs.declared.Icons.{Icons}
 use Rattle.record.specs.declared.Volume.{Volume}
@@ -10,31 +10,31 @@ use Rattle.record.specs.declared.Record.{Record}
 use Rattle.record.specs.With.{withScreen, withIcons, withVolume, withBacklight}
 
 pub record Core : Type 0 where
-  pub panel : Panel
+  pub settings : Settings
   pub text : List ℕ
   pub picture : List ℕ
 
 abbrev pub coreOf : Record → Core
-coreOf r = record { panel = r .panel; text = r .text; picture = r .picture }
+coreOf r = record { settings = r .settings; text = r .text; picture = r .picture }
 
 -- the core with one part of it changed
-abbrev pub onPanel : Core → Panel → Core
-onPanel c new = record { panel = new; text = c .text; picture = c .picture }
+abbrev pub onSettings : Core → Settings → Core
+onSettings c new = record { settings = new; text = c .text; picture = c .picture }
 
 abbrev pub onText : Core → List ℕ → Core
-onText c new = record { panel = c .panel; text = new; picture = c .picture }
+onText c new = record { settings = c .settings; text = new; picture = c .picture }
 
 abbrev pub onPicture : Core → List ℕ → Core
-onPicture c new = record { panel = c .panel; text = c .text; picture = new }
+onPicture c new = record { settings = c .settings; text = c .text; picture = new }
 
 abbrev pub onScreen : Core → Screen → Core
-onScreen c new = onPanel c (withScreen (c .panel) new)
+onScreen c new = onSettings c (withScreen (c .settings) new)
 
 abbrev pub onIcons : Core → Icons → Core
-onIcons c new = onPanel c (withIcons (c .panel) new)
+onIcons c new = onSettings c (withIcons (c .settings) new)
 
 abbrev pub onVolume : Core → Volume → Core
-onVolume c new = onPanel c (withVolume (c .panel) new)
+onVolume c new = onSettings c (withVolume (c .settings) new)
 
 abbrev pub onBacklight : Core → Backlight → Core
-onBacklight c new = onPanel c (withBacklight (c .panel) new)
+onBacklight c new = onSettings c (withBacklight (c .settings) new)

@@ -11,14 +11,14 @@ use Rattle.lists.specs.Padded.{padded}
 use Rattle.record.specs.declared.Label.{Label}
 use Rattle.record.specs.declared.Volume.{Volume}
 use Rattle.record.specs.declared.Backlight.{Backlight}
-use Rattle.record.specs.Range.{lastColumnOf, off, on, auto}
+use Rattle.record.specs.Range.{rowEndOf, off, on, auto}
 use Rattle.record.specs.With.{withShown, withLeft, withRight, withTimes, withBuzzer, withDisplay, withColumn, withIconS, withIconU, withIconF, withIconR, withIconP, withIconW, withMute, withHidden, withLight, withDuration, withSecondsLeft, withKeypad}
 use Rattle.command.specs.Order.{Order, plain, label, draw}
 use Rattle.command.specs.InRange.{inRangeInMode}
 use Rattle.command.specs.declared.Command.the-variants.{DisplayOff, DisplayOn, Mode, CursorShown, CursorHidden, Clear, Position, LabelsEmpty, IconS, IconU, IconF, IconR, IconP, IconW, Private, Handsfree, HandsfreeOfNote, Mute, KeyTimes, Buzzer, Light, LightOn, LightAutoStart, LightAuto, DefaultDuration, KeypadSet, KeypadCleared}
 use Rattle.command.specs.declared.Side.the-variants.{Left, Right}
-use Rattle.settings.specs.Settings.{at, toMode, atLevel}
-use Rattle.effect.specs.Core.{Core, onPanel, onText, onPicture, onScreen, onIcons, onVolume, onBacklight}
+use Rattle.effect_modes.specs.Modes.{at, toMode, atLevel}
+use Rattle.effect.specs.Core.{Core, onSettings, onText, onPicture, onScreen, onIcons, onVolume, onBacklight}
 
 -- Parts of a line -------------------------------------------------------------------------------------------------
 
@@ -52,43 +52,43 @@ drawn picture row columns = sets picture (row * 96) (map (keptIn row) columns)
 -- The table -------------------------------------------------------------------------------------------------------
 
 abbrev pub effect : Order → Core → Core
-effect (plain DisplayOff) c = onScreen c (withDisplay (c .panel .screen) false)
-effect (plain DisplayOn) c = onScreen c (withDisplay (c .panel .screen) true)
-effect (plain (Mode n)) c = onScreen c (toMode (c .panel .screen) n)
-effect (plain CursorShown) c = onPanel c (withShown (c .panel) true)
-effect (plain CursorHidden) c = onPanel c (withShown (c .panel) false)
-effect (plain Clear) c = onText (onScreen c (at (c .panel .screen) 0 0)) blanks
-effect (plain (Position row column)) c = onScreen c (at (c .panel .screen) row column)
-effect (plain LabelsEmpty) c = onPanel c (withRight (withLeft (c .panel) (labelOf [])) (labelOf []))
-effect (label Left t) c = onPanel c (withLeft (c .panel) (labelOf t))
-effect (label Right t) c = onPanel c (withRight (c .panel) (labelOf t))
-effect (plain (IconS n)) c = onIcons c (withIconS (c .panel .icons) n)
-effect (plain (IconU n)) c = onIcons c (withIconU (c .panel .icons) n)
-effect (plain (IconF n)) c = onIcons c (withIconF (c .panel .icons) n)
-effect (plain (IconR n)) c = onIcons c (withIconR (c .panel .icons) n)
-effect (plain (IconP n)) c = onIcons c (withIconP (c .panel .icons) n)
-effect (plain (IconW n)) c = onIcons c (withIconW (c .panel .icons) n)
-effect (plain (Private n)) c = onVolume c (atLevel (c .panel .volume) 1 n)
-effect (plain (Handsfree n)) c = onVolume c (atLevel (c .panel .volume) 2 n)
-effect (plain (HandsfreeOfNote n)) c = onVolume c (atLevel (c .panel .volume) 2 n)
-effect (plain (Mute n)) c = onVolume c (muted (c .panel .volume) n)
-effect (plain (KeyTimes time1 time2)) c = onPanel c (withTimes (c .panel) (record { time1 = record { 0 = time1 }; time2 = record { 0 = time2 } }))
-effect (plain (Buzzer n)) c = onPanel c (withBuzzer (c .panel) (record { 0 = n }))
-effect (plain (Light n)) c = onBacklight c (lightAt (c .panel .backlight) n)
-effect (plain LightOn) c = onBacklight c (noSeconds (withLight (c .panel .backlight) on))
-effect (plain LightAutoStart) c = onBacklight c (withSecondsLeft (withLight (c .panel .backlight) auto) (c .panel .backlight .duration))
-effect (plain LightAuto) c = onBacklight c (withLight (c .panel .backlight) auto)
-effect (plain DefaultDuration) c = onBacklight c (withDuration (c .panel .backlight) (record { 0 = 30 }))
-effect (plain KeypadSet) c = onBacklight c (withKeypad (c .panel .backlight) true)
-effect (plain KeypadCleared) c = onBacklight c (withKeypad (c .panel .backlight) false)
+effect (plain DisplayOff) c = onScreen c (withDisplay (c .settings .screen) false)
+effect (plain DisplayOn) c = onScreen c (withDisplay (c .settings .screen) true)
+effect (plain (Mode n)) c = onScreen c (toMode (c .settings .screen) n)
+effect (plain CursorShown) c = onSettings c (withShown (c .settings) true)
+effect (plain CursorHidden) c = onSettings c (withShown (c .settings) false)
+effect (plain Clear) c = onText (onScreen c (at (c .settings .screen) 0 0)) blanks
+effect (plain (Position row column)) c = onScreen c (at (c .settings .screen) row column)
+effect (plain LabelsEmpty) c = onSettings c (withRight (withLeft (c .settings) (labelOf [])) (labelOf []))
+effect (label Left t) c = onSettings c (withLeft (c .settings) (labelOf t))
+effect (label Right t) c = onSettings c (withRight (c .settings) (labelOf t))
+effect (plain (IconS n)) c = onIcons c (withIconS (c .settings .icons) n)
+effect (plain (IconU n)) c = onIcons c (withIconU (c .settings .icons) n)
+effect (plain (IconF n)) c = onIcons c (withIconF (c .settings .icons) n)
+effect (plain (IconR n)) c = onIcons c (withIconR (c .settings .icons) n)
+effect (plain (IconP n)) c = onIcons c (withIconP (c .settings .icons) n)
+effect (plain (IconW n)) c = onIcons c (withIconW (c .settings .icons) n)
+effect (plain (Private n)) c = onVolume c (atLevel (c .settings .volume) 1 n)
+effect (plain (Handsfree n)) c = onVolume c (atLevel (c .settings .volume) 2 n)
+effect (plain (HandsfreeOfNote n)) c = onVolume c (atLevel (c .settings .volume) 2 n)
+effect (plain (Mute n)) c = onVolume c (muted (c .settings .volume) n)
+effect (plain (KeyTimes time1 time2)) c = onSettings c (withTimes (c .settings) (record { time1 = record { 0 = time1 }; time2 = record { 0 = time2 } }))
+effect (plain (Buzzer n)) c = onSettings c (withBuzzer (c .settings) (record { 0 = n }))
+effect (plain (Light n)) c = onBacklight c (lightAt (c .settings .backlight) n)
+effect (plain LightOn) c = onBacklight c (noSeconds (withLight (c .settings .backlight) on))
+effect (plain LightAutoStart) c = onBacklight c (withSecondsLeft (withLight (c .settings .backlight) auto) (c .settings .backlight .duration))
+effect (plain LightAuto) c = onBacklight c (withLight (c .settings .backlight) auto)
+effect (plain DefaultDuration) c = onBacklight c (withDuration (c .settings .backlight) (record { 0 = 30 }))
+effect (plain KeypadSet) c = onBacklight c (withKeypad (c .settings .backlight) true)
+effect (plain KeypadCleared) c = onBacklight c (withKeypad (c .settings .backlight) false)
 effect (draw row columns) c = onPicture c (drawn (c .picture) row columns)
 
 -- with a number out of range an order is passed over, else obeyed
 unfoldable pub carryOut : Order → Core → Core
-carryOut order c = cond (inRangeInMode (c .panel .screen .mode) order) (effect order c) c
+carryOut order c = cond (inRangeInMode (c .settings .screen .mode) order) (effect order c) c
 
 -- a text byte is stored at the cursor and the column rises by one; at column 16 it is dropped
 unfoldable pub storeText : Core → ℕ → Core
 storeText c b =
-    let s = c .panel .screen in
-    cond (ltb (s .column) (lastColumnOf (s .mode))) (onText (onScreen c (withColumn s (s .column + 1))) (set (c .text) (s .row * 16 + s .column) b)) c
+    let s = c .settings .screen in
+    cond (ltb (s .column) (rowEndOf (s .mode))) (onText (onScreen c (withColumn s (s .column + 1))) (set (c .text) (s .row * 16 + s .column) b)) c

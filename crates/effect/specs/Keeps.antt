@@ -14,7 +14,7 @@ use Rattle.lists.specs.Both.{both, and-both}
 use Rattle.lists.specs.Every.{every}
 use Rattle.lists.specs.Padded.{padded, held, length-padded}
 use Rattle.record.specs.declared.Record.{Record}
-use Rattle.record.specs.declared.Panel.{Panel}
+use Rattle.record.specs.declared.Settings.{Settings}
 use Rattle.record.specs.declared.Screen.{Screen}
 use Rattle.record.specs.declared.Icons.{Icons}
 use Rattle.record.specs.declared.Volume.{Volume}
@@ -23,7 +23,7 @@ use Rattle.record.specs.declared.Label.{Label}
 use Rattle.record.specs.declared.Held.{Held}
 use Rattle.record.specs.declared.Frame.{Frame}
 use Rattle.record.specs.Laws.{Ranges}
-use Rattle.record.specs.Range.{rowsOf, lastColumnOf, isCode, isLowColumn, isUnused, modeInRange, overlayInRange, cursorInRange, textInRange, labelInRange, pictureInRange, iconSInRange, iconUInRange, iconFInRange, iconRInRange, iconPInRange, iconWInRange, iconsInRange, whichInRange, levelInRange, volumeInRange, timesInRange, buzzerInRange, durationInRange, backlightInRange, heldInRange, frameInRange}
+use Rattle.record.specs.Range.{rowsOf, rowEndOf, isCode, isLowColumn, isUnused, modeInRange, overlayInRange, cursorInRange, textInRange, labelInRange, pictureInRange, iconSInRange, iconUInRange, iconFInRange, iconRInRange, iconPInRange, iconWInRange, iconsInRange, whichInRange, levelInRange, volumeInRange, timesInRange, buzzerInRange, durationInRange, backlightInRange, heldInRange, frameInRange}
 use Rattle.record.specs.With.{withLeft, withRight, withShown, withIconS, withIconU, withIconF, withIconR, withIconP, withIconW}
 use Rattle.command.specs.Order.{Order, plain, label, draw}
 use Rattle.command.specs.InRange.{isOverlay, inRangeInMode}
@@ -33,26 +33,26 @@ use Rattle.command.specs.Sound.{sound}
 use Rattle.command.specs.Facts.{LabelText, PictureRow, read-label, read-row}
 use Rattle.command.specs.declared.Command.the-variants.{DisplayOff, DisplayOn, Mode, CursorShown, CursorHidden, Clear, Position, LabelsEmpty, IconS, IconU, IconF, IconR, IconP, IconW, Private, Handsfree, HandsfreeOfNote, Mute, KeyTimes, Buzzer, Light, LightOn, LightAutoStart, LightAuto, DefaultDuration, KeypadSet, KeypadCleared}
 use Rattle.command.specs.declared.Side.the-variants.{Left, Right}
-use Rattle.effect.specs.Core.{Core, coreOf, onPanel, onText, onPicture, onScreen, onIcons, onVolume, onBacklight}
-use Rattle.settings.specs.Settings.{at, inMode, atLevel}
+use Rattle.effect.specs.Core.{Core, coreOf, onSettings, onText, onPicture, onScreen, onIcons, onVolume, onBacklight}
+use Rattle.effect_modes.specs.Modes.{at, inMode, atLevel}
 use Rattle.effect.specs.Effect.{blanks, labelOf, muted, lightAt, keptIn, drawn, effect, carryOut, storeText}
 use Rattle.effect.specs.Obey.{obeyOrder}
 use Rattle.effect.specs.Sets.{every-set, every-replicate, sets-keep}
 
 -- The rows of document 01's table that a core has.
 pub record CoreInRange (c : Core) : Type 0 where
-  pub mode : modeInRange (c .panel .screen .mode) ≡ true
-  pub overlay : overlayInRange (c .panel .screen .overlay) ≡ true
-  pub cursor : cursorInRange (c .panel .screen) ≡ true
+  pub mode : modeInRange (c .settings .screen .mode) ≡ true
+  pub overlay : overlayInRange (c .settings .screen .overlay) ≡ true
+  pub cursor : cursorInRange (c .settings .screen) ≡ true
   pub text : textInRange (c .text) ≡ true
-  pub left : labelInRange (c .panel .left) ≡ true
-  pub right : labelInRange (c .panel .right) ≡ true
+  pub left : labelInRange (c .settings .left) ≡ true
+  pub right : labelInRange (c .settings .right) ≡ true
   pub picture : pictureInRange (c .picture) ≡ true
-  pub icons : iconsInRange (c .panel .icons) ≡ true
-  pub volume : volumeInRange (c .panel .volume) ≡ true
-  pub times : timesInRange (c .panel .times) ≡ true
-  pub buzzer : buzzerInRange (c .panel .buzzer .0) ≡ true
-  pub backlight : backlightInRange (c .panel .backlight) ≡ true
+  pub icons : iconsInRange (c .settings .icons) ≡ true
+  pub volume : volumeInRange (c .settings .volume) ≡ true
+  pub times : timesInRange (c .settings .times) ≡ true
+  pub buzzer : buzzerInRange (c .settings .buzzer .0) ≡ true
+  pub backlight : backlightInRange (c .settings .backlight) ≡ true
 
 -- A record in range has its core in range; a core, a held key and a frame in range make a record in range.
 pub core-of-record : (r : Record) → Ranges r → CoreInRange (coreOf r)
@@ -60,7 +60,7 @@ core-of-record r k =
     record { mode = k .mode; overlay = k .overlay; cursor = k .cursor; text = k .text; left = k .left; right = k .right; picture = k .picture; icons = k .icons; volume = k .volume; times = k .times; buzzer = k .buzzer; backlight = k .backlight }
 
 abbrev pub recordOf : Core → Held → Frame → Record
-recordOf c held frame = record { panel = c .panel; text = c .text; picture = c .picture; held = held; frame = frame }
+recordOf c held frame = record { settings = c .settings; text = c .text; picture = c .picture; held = held; frame = frame }
 
 pub record-of-core : (c : Core) (held : Held) (frame : Frame) → CoreInRange c → heldInRange held ≡ true → frameInRange frame ≡ true → Ranges (recordOf c held frame)
 record-of-core c held frame k h f =
@@ -73,11 +73,11 @@ module _ (c : Core) (k : CoreInRange c) where
   on-screen s m o p =
       record { mode = m; overlay = o; cursor = p; text = k .text; left = k .left; right = k .right; picture = k .picture; icons = k .icons; volume = k .volume; times = k .times; buzzer = k .buzzer; backlight = k .backlight }
 
-  on-shown : (b : Bool) → CoreInRange (onPanel c (withShown (c .panel) b))
+  on-shown : (b : Bool) → CoreInRange (onSettings c (withShown (c .settings) b))
   on-shown b =
       record { mode = k .mode; overlay = k .overlay; cursor = k .cursor; text = k .text; left = k .left; right = k .right; picture = k .picture; icons = k .icons; volume = k .volume; times = k .times; buzzer = k .buzzer; backlight = k .backlight }
 
-  on-labels : (l r : Label) → labelInRange l ≡ true → labelInRange r ≡ true → CoreInRange (onPanel c (withRight (withLeft (c .panel) l) r))
+  on-labels : (l r : Label) → labelInRange l ≡ true → labelInRange r ≡ true → CoreInRange (onSettings c (withRight (withLeft (c .settings) l) r))
   on-labels l r h g =
       record { mode = k .mode; overlay = k .overlay; cursor = k .cursor; text = k .text; left = h; right = g; picture = k .picture; icons = k .icons; volume = k .volume; times = k .times; buzzer = k .buzzer; backlight = k .backlight }
 
@@ -117,7 +117,7 @@ or-true true = refl
 or-true false = refl
 
 -- position 0,0 is in every mode
-home : (mode : ℕ) → (ltb 0 (rowsOf mode) && leb 0 (lastColumnOf mode)) ≡ true
+home : (mode : ℕ) → (ltb 0 (rowsOf mode) && leb 0 (rowEndOf mode)) ≡ true
 home mode = cases (leb mode 1)
   where
     cases : (b : Bool) → (ltb 0 (cond b 4 5) && leb 0 16) ≡ true
@@ -127,9 +127,9 @@ home mode = cases (leb mode 1)
 mode-keeps : (c : Core) (n : ℕ) → CoreInRange c → (modeInRange n || isOverlay n) ≡ true → CoreInRange (effect (plain (Mode n)) c)
 mode-keeps c n k h = cases (isOverlay n) refl
   where
-    cases : (b : Bool) → isOverlay n ≡ b → CoreInRange (onScreen c (cond b (record { display = c .panel .screen .display; mode = c .panel .screen .mode; overlay = n; row = c .panel .screen .row; column = c .panel .screen .column }) (inMode (c .panel .screen) n)))
+    cases : (b : Bool) → isOverlay n ≡ b → CoreInRange (onScreen c (cond b (record { display = c .settings .screen .display; mode = c .settings .screen .mode; overlay = n; row = c .settings .screen .row; column = c .settings .screen .column }) (inMode (c .settings .screen) n)))
     cases true e = on-screen c k _ (k .mode) (both {a = overlayInRange n} e .0) (k .cursor)
-    cases false e = on-screen c k (inMode (c .panel .screen) n) (or-left h e) refl (home n)
+    cases false e = on-screen c k (inMode (c .settings .screen) n) (or-left h e) refl (home n)
 
 unused-codes : (t : List ℕ) → every isUnused (drop (length t) (padded 7 t)) ≡ true
 unfolding padded
@@ -171,25 +171,25 @@ each-icon i h =
 all-icons : (i : Icons) → EachIcon i → iconsInRange i ≡ true
 all-icons i e = and-both (and-both (and-both (and-both (and-both (e .s) (e .u)) (e .f)) (e .r)) (e .p)) (e .w)
 
-icon-keeps : (c : Core) → CoreInRange c → (i : Icons) → (EachIcon (c .panel .icons) → EachIcon i) → CoreInRange (onIcons c i)
-icon-keeps c k i step = on-icons c k i (all-icons i (step (each-icon (c .panel .icons) (k .icons))))
+icon-keeps : (c : Core) → CoreInRange c → (i : Icons) → (EachIcon (c .settings .icons) → EachIcon i) → CoreInRange (onIcons c i)
+icon-keeps c k i step = on-icons c k i (all-icons i (step (each-icon (c .settings .icons) (k .icons))))
 
 -- a volume at a level
-level-keeps : (c : Core) (which n : ℕ) → CoreInRange c → leb which 2 ≡ true → eqb which 0 ≡ false → leb n 10 ≡ true → CoreInRange (onVolume c (atLevel (c .panel .volume) which n))
+level-keeps : (c : Core) (which n : ℕ) → CoreInRange c → leb which 2 ≡ true → eqb which 0 ≡ false → leb n 10 ≡ true → CoreInRange (onVolume c (atLevel (c .settings .volume) which n))
 level-keeps c which n k w z h = cases (eqb n 0) refl
   where
-    cases : (b : Bool) → eqb n 0 ≡ b → CoreInRange (onVolume c (cond b (record { which = 0; level = 0; mute = c .panel .volume .mute; hidden = true }) (record { which = which; level = n; mute = c .panel .volume .mute; hidden = false })))
+    cases : (b : Bool) → eqb n 0 ≡ b → CoreInRange (onVolume c (cond b (record { which = 0; level = 0; mute = c .settings .volume .mute; hidden = true }) (record { which = which; level = n; mute = c .settings .volume .mute; hidden = false })))
     cases true e = on-volume c k _ refl
     cases false e = on-volume c k _ (rw (w, z, le-leb 1 n (omega (arith, eqb-false n 0 e)), h))
 
-mute-keeps : (c : Core) (n : ℕ) → CoreInRange c → CoreInRange (onVolume c (muted (c .panel .volume) n))
+mute-keeps : (c : Core) (n : ℕ) → CoreInRange c → CoreInRange (onVolume c (muted (c .settings .volume) n))
 mute-keeps c n k = cases (eqb n 0)
   where
-    cases : (b : Bool) → CoreInRange (onVolume c (cond b (record { which = c .panel .volume .which; level = c .panel .volume .level; mute = false; hidden = c .panel .volume .hidden }) (record { which = c .panel .volume .which; level = c .panel .volume .level; mute = true; hidden = false })))
+    cases : (b : Bool) → CoreInRange (onVolume c (cond b (record { which = c .settings .volume .which; level = c .settings .volume .level; mute = false; hidden = c .settings .volume .hidden }) (record { which = c .settings .volume .which; level = c .settings .volume .level; mute = true; hidden = false })))
     cases true = on-volume c k _ (k .volume)
     cases false =
         on-volume c k _
-        (and-both (both {a = whichInRange (c .panel .volume .which) && levelInRange (c .panel .volume .which) (c .panel .volume .level)} (k .volume) .0) (or-true (eqb (c .panel .volume .which) 0)))
+        (and-both (both {a = whichInRange (c .settings .volume .which) && levelInRange (c .settings .volume .which) (c .settings .volume .level)} (k .volume) .0) (or-true (eqb (c .settings .volume .which) 0)))
 
 -- a backlight mode and a duration in range, with no seconds left unless in auto
 light-keeps : (c : Core) (b : Backlight) → CoreInRange c → leb (b .mode) 2 ≡ true → durationInRange (b .duration .0) ≡ true → (eqb (b .left .0) 0 || eqb (b .mode) 2) ≡ true → CoreInRange (onBacklight c b)
@@ -204,12 +204,12 @@ mode-of b h = both {a = leb (b .mode) 2} {b = durationInRange (b .duration .0)} 
 left-of : (b : Backlight) → backlightInRange b ≡ true → (eqb (b .left .0) 0 || eqb (b .mode) 2) ≡ true
 left-of b h = both {a = leb (b .mode) 2 && durationInRange (b .duration .0)} h .1
 
-number-keeps : (c : Core) (n : ℕ) → CoreInRange c → (eqb n 0 || durationInRange n) ≡ true → CoreInRange (onBacklight c (lightAt (c .panel .backlight) n))
+number-keeps : (c : Core) (n : ℕ) → CoreInRange c → (eqb n 0 || durationInRange n) ≡ true → CoreInRange (onBacklight c (lightAt (c .settings .backlight) n))
 number-keeps c n k h = cases (eqb n 0) refl
   where
-    cases : (b : Bool) → eqb n 0 ≡ b → CoreInRange (onBacklight c (cond b (record { mode = 0; duration = c .panel .backlight .duration; left = record { 0 = 0 }; keypad = c .panel .backlight .keypad }) (record { mode = c .panel .backlight .mode; duration = record { 0 = n }; left = c .panel .backlight .left; keypad = c .panel .backlight .keypad })))
-    cases true e = light-keeps c _ k refl (duration-of (c .panel .backlight) (k .backlight)) refl
-    cases false e = light-keeps c _ k (mode-of (c .panel .backlight) (k .backlight)) (or-right h e) (left-of (c .panel .backlight) (k .backlight))
+    cases : (b : Bool) → eqb n 0 ≡ b → CoreInRange (onBacklight c (cond b (record { mode = 0; duration = c .settings .backlight .duration; left = record { 0 = 0 }; keypad = c .settings .backlight .keypad }) (record { mode = c .settings .backlight .mode; duration = record { 0 = n }; left = c .settings .backlight .left; keypad = c .settings .backlight .keypad })))
+    cases true e = light-keeps c _ k refl (duration-of (c .settings .backlight) (k .backlight)) refl
+    cases false e = light-keeps c _ k (mode-of (c .settings .backlight) (k .backlight)) (or-right h e) (left-of (c .settings .backlight) (k .backlight))
 
 -- in picture row 6 only low columns are stored, and no other row reaches it
 low-columns : (columns : List ℕ) → every isLowColumn (map (keptIn 6) columns) ≡ true
@@ -241,26 +241,26 @@ carries (plain c) f s = refl
 carries (label side t) f s = read-label side s
 carries (draw row columns) f s = read-row s
 
-effect-keeps : (o : Order) (c : Core) → Carries o → CoreInRange c → inRangeInMode (c .panel .screen .mode) o ≡ true → CoreInRange (effect o c)
+effect-keeps : (o : Order) (c : Core) → Carries o → CoreInRange c → inRangeInMode (c .settings .screen .mode) o ≡ true → CoreInRange (effect o c)
 effect-keeps (plain DisplayOff) c v k h = on-screen c k _ (k .mode) (k .overlay) (k .cursor)
 effect-keeps (plain DisplayOn) c v k h = on-screen c k _ (k .mode) (k .overlay) (k .cursor)
 effect-keeps (plain (Mode n)) c v k h = mode-keeps c n k h
 effect-keeps (plain CursorShown) c v k h = on-shown c k _
 effect-keeps (plain CursorHidden) c v k h = on-shown c k _
 effect-keeps (plain Clear) c v k h =
-    on-text (onScreen c (at (c .panel .screen) 0 0)) (on-screen c k _ (k .mode) (k .overlay) (home (c .panel .screen .mode))) blanks blanks-in-range
+    on-text (onScreen c (at (c .settings .screen) 0 0)) (on-screen c k _ (k .mode) (k .overlay) (home (c .settings .screen .mode))) blanks blanks-in-range
 effect-keeps (plain (Position row column)) c v k h =
-    let b = both {a = ltb row (rowsOf (c .panel .screen .mode))} h in
+    let b = both {a = ltb row (rowsOf (c .settings .screen .mode))} h in
     on-screen c k _ (k .mode) (k .overlay) (and-both (b .0) (le-leb column 16 (omega (arith, leb-true column 15 (b .1)))))
 effect-keeps (plain LabelsEmpty) c v k h = on-labels c k _ _ no-label no-label
-effect-keeps (label Left t) c v k h = on-labels c k (labelOf t) (c .panel .right) (label-keeps t v) (k .right)
-effect-keeps (label Right t) c v k h = on-labels c k (c .panel .left) (labelOf t) (k .left) (label-keeps t v)
-effect-keeps (plain (IconS n)) c v k h = icon-keeps c k (withIconS (c .panel .icons) n) (λ e. record { s = h; u = e .u; f = e .f; r = e .r; p = e .p; w = e .w })
-effect-keeps (plain (IconU n)) c v k h = icon-keeps c k (withIconU (c .panel .icons) n) (λ e. record { s = e .s; u = h; f = e .f; r = e .r; p = e .p; w = e .w })
-effect-keeps (plain (IconF n)) c v k h = icon-keeps c k (withIconF (c .panel .icons) n) (λ e. record { s = e .s; u = e .u; f = h; r = e .r; p = e .p; w = e .w })
-effect-keeps (plain (IconR n)) c v k h = icon-keeps c k (withIconR (c .panel .icons) n) (λ e. record { s = e .s; u = e .u; f = e .f; r = h; p = e .p; w = e .w })
-effect-keeps (plain (IconP n)) c v k h = icon-keeps c k (withIconP (c .panel .icons) n) (λ e. record { s = e .s; u = e .u; f = e .f; r = e .r; p = h; w = e .w })
-effect-keeps (plain (IconW n)) c v k h = icon-keeps c k (withIconW (c .panel .icons) n) (λ e. record { s = e .s; u = e .u; f = e .f; r = e .r; p = e .p; w = h })
+effect-keeps (label Left t) c v k h = on-labels c k (labelOf t) (c .settings .right) (label-keeps t v) (k .right)
+effect-keeps (label Right t) c v k h = on-labels c k (c .settings .left) (labelOf t) (k .left) (label-keeps t v)
+effect-keeps (plain (IconS n)) c v k h = icon-keeps c k (withIconS (c .settings .icons) n) (λ e. record { s = h; u = e .u; f = e .f; r = e .r; p = e .p; w = e .w })
+effect-keeps (plain (IconU n)) c v k h = icon-keeps c k (withIconU (c .settings .icons) n) (λ e. record { s = e .s; u = h; f = e .f; r = e .r; p = e .p; w = e .w })
+effect-keeps (plain (IconF n)) c v k h = icon-keeps c k (withIconF (c .settings .icons) n) (λ e. record { s = e .s; u = e .u; f = h; r = e .r; p = e .p; w = e .w })
+effect-keeps (plain (IconR n)) c v k h = icon-keeps c k (withIconR (c .settings .icons) n) (λ e. record { s = e .s; u = e .u; f = e .f; r = h; p = e .p; w = e .w })
+effect-keeps (plain (IconP n)) c v k h = icon-keeps c k (withIconP (c .settings .icons) n) (λ e. record { s = e .s; u = e .u; f = e .f; r = e .r; p = h; w = e .w })
+effect-keeps (plain (IconW n)) c v k h = icon-keeps c k (withIconW (c .settings .icons) n) (λ e. record { s = e .s; u = e .u; f = e .f; r = e .r; p = e .p; w = h })
 effect-keeps (plain (Private n)) c v k h = level-keeps c 1 n k refl refl h
 effect-keeps (plain (Handsfree n)) c v k h = level-keeps c 2 n k refl refl h
 effect-keeps (plain (HandsfreeOfNote n)) c v k h = level-keeps c 2 n k refl refl h
@@ -270,19 +270,19 @@ effect-keeps (plain (KeyTimes time1 time2)) c v k h =
 effect-keeps (plain (Buzzer n)) c v k h =
     record { mode = k .mode; overlay = k .overlay; cursor = k .cursor; text = k .text; left = k .left; right = k .right; picture = k .picture; icons = k .icons; volume = k .volume; times = k .times; buzzer = h; backlight = k .backlight }
 effect-keeps (plain (Light n)) c v k h = number-keeps c n k h
-effect-keeps (plain LightOn) c v k h = light-keeps c _ k refl (duration-of (c .panel .backlight) (k .backlight)) refl
-effect-keeps (plain LightAutoStart) c v k h = light-keeps c _ k refl (duration-of (c .panel .backlight) (k .backlight)) (or-true (eqb (c .panel .backlight .duration .0) 0))
-effect-keeps (plain LightAuto) c v k h = light-keeps c _ k refl (duration-of (c .panel .backlight) (k .backlight)) (or-true (eqb (c .panel .backlight .left .0) 0))
-effect-keeps (plain DefaultDuration) c v k h = light-keeps c _ k (mode-of (c .panel .backlight) (k .backlight)) refl (left-of (c .panel .backlight) (k .backlight))
+effect-keeps (plain LightOn) c v k h = light-keeps c _ k refl (duration-of (c .settings .backlight) (k .backlight)) refl
+effect-keeps (plain LightAutoStart) c v k h = light-keeps c _ k refl (duration-of (c .settings .backlight) (k .backlight)) (or-true (eqb (c .settings .backlight .duration .0) 0))
+effect-keeps (plain LightAuto) c v k h = light-keeps c _ k refl (duration-of (c .settings .backlight) (k .backlight)) (or-true (eqb (c .settings .backlight .left .0) 0))
+effect-keeps (plain DefaultDuration) c v k h = light-keeps c _ k (mode-of (c .settings .backlight) (k .backlight)) refl (left-of (c .settings .backlight) (k .backlight))
 effect-keeps (plain KeypadSet) c v k h = on-backlight c k _ (k .backlight)
 effect-keeps (plain KeypadCleared) c v k h = on-backlight c k _ (k .backlight)
 effect-keeps (draw row columns) c v k h = on-picture c k _ (picture-keeps (c .picture) row columns (leb-true row 6 h) (v .most) (k .picture))
 
 carry-keeps : (o : Order) (c : Core) → Carries o → CoreInRange c → CoreInRange (carryOut o c)
 unfolding carryOut
-carry-keeps o c v k = cases (inRangeInMode (c .panel .screen .mode) o) refl
+carry-keeps o c v k = cases (inRangeInMode (c .settings .screen .mode) o) refl
   where
-    cases : (b : Bool) → inRangeInMode (c .panel .screen .mode) o ≡ b → CoreInRange (cond b (effect o c) c)
+    cases : (b : Bool) → inRangeInMode (c .settings .screen .mode) o ≡ b → CoreInRange (cond b (effect o c) c)
     cases true e = effect-keeps o c v k e
     cases false e = k
 
@@ -303,18 +303,18 @@ text-stored t i b g h =
 -- Whatever text byte comes, the core stays in range.
 pub store-keeps : (c : Core) (b : ℕ) → CoreInRange c → 0x20 ≤ b → CoreInRange (storeText c b)
 unfolding storeText
-store-keeps c b k h = cases (ltb (c .panel .screen .column) 16) refl
+store-keeps c b k h = cases (ltb (c .settings .screen .column) 16) refl
   where
-    cases : (small : Bool) → ltb (c .panel .screen .column) 16 ≡ small → CoreInRange (cond small (onText (onScreen c (record { display = c .panel .screen .display; mode = c .panel .screen .mode; overlay = c .panel .screen .overlay; row = c .panel .screen .row; column = c .panel .screen .column + 1 })) (set (c .text) (c .panel .screen .row * 16 + c .panel .screen .column) b)) c)
+    cases : (small : Bool) → ltb (c .settings .screen .column) 16 ≡ small → CoreInRange (cond small (onText (onScreen c (record { display = c .settings .screen .display; mode = c .settings .screen .mode; overlay = c .settings .screen .overlay; row = c .settings .screen .row; column = c .settings .screen .column + 1 })) (set (c .text) (c .settings .screen .row * 16 + c .settings .screen .column) b)) c)
     cases true e =
-        let p = both {a = ltb (c .panel .screen .row) (rowsOf (c .panel .screen .mode))} (k .cursor) in
-        on-text _ (on-screen c k _ (k .mode) (k .overlay) (and-both (p .0) (le-leb (c .panel .screen .column + 1) 16 (omega (arith, ltb-true (c .panel .screen .column) 16 e))))) _ (text-stored (c .text) _ b (k .text) h)
+        let p = both {a = ltb (c .settings .screen .row) (rowsOf (c .settings .screen .mode))} (k .cursor) in
+        on-text _ (on-screen c k _ (k .mode) (k .overlay) (and-both (p .0) (le-leb (c .settings .screen .column + 1) 16 (omega (arith, ltb-true (c .settings .screen .column) 16 e))))) _ (text-stored (c .text) _ b (k .text) h)
     cases false e = k
 
 -- A bad frame, and a frame with a number out of range, leave the core as it is.
 pub bad-keeps : (c : Core) (frame : List ℕ) → orderOf frame ≡ none → obeyOrder c (orderOf frame) ≡ c
 bad-keeps c frame e = ap (obeyOrder c) e
 
-pub out-of-range-keeps : (c : Core) (frame : List ℕ) (o : Order) → orderOf frame ≡ some o → inRangeInMode (c .panel .screen .mode) o ≡ false → obeyOrder c (orderOf frame) ≡ c
+pub out-of-range-keeps : (c : Core) (frame : List ℕ) (o : Order) → orderOf frame ≡ some o → inRangeInMode (c .settings .screen .mode) o ≡ false → obeyOrder c (orderOf frame) ≡ c
 unfolding carryOut
 out-of-range-keeps c frame o e h = ap (obeyOrder c) e ∙ rw h

@@ -4,7 +4,7 @@ use mathlib.Core.Bool.{Bool, true, false}
 use mathlib.Core.List.{List}
 use mathlib.Core.Option.{Option, none, some}
 use mathlib.Core.Path.{_≡_}
-use Rattle.record.specs.declared.Panel.{Panel}
+use Rattle.record.specs.declared.Settings.{Settings}
 use Rattle.command.specs.Order.{Order}
 use Rattle.command.specs.Reading.{orderOf}
 use Rattle.effect.specs.declared.Obeyed.{Obeyed}
@@ -21,10 +21,10 @@ abbrev pub isGood : Option Order → Bool
 isGood none = false
 isGood (some order) = true
 
-abbrev pub core : Panel → List ℕ → List ℕ → Core
-core panel text picture = record { panel = panel; text = text; picture = picture }
+abbrev pub core : Settings → List ℕ → List ℕ → Core
+core settings text picture = record { settings = settings; text = text; picture = picture }
 
--- the promise: `before` is the core at entry and `after` the one at exit, made of the panel handed back and the two arrays
+-- the promise: `before` is the core at entry and `after` the one at exit, made of the settings handed back and the two arrays
 pub record Obeys (frame : List ℕ) (before : Core) (obeyed : Obeyed) (after : Core) : Type 0 where
   pub good : obeyed .good ≡ isGood (orderOf frame)
   pub same : after ≡ obeyOrder before (orderOf frame)

@@ -9,7 +9,7 @@ use Rattle.command.specs.Order.{Order, plain, label, draw}
 use Rattle.command.specs.InRange.{inRangeInMode}
 use Rattle.command.specs.declared.Command.the-variants.{DisplayOff, DisplayOn, Mode, CursorShown, CursorHidden, Clear, Position, LabelsEmpty, IconS, IconU, IconF, IconR, IconP, IconW, Private, Handsfree, HandsfreeOfNote, Mute, KeyTimes, Buzzer, Light, LightOn, LightAutoStart, LightAuto, DefaultDuration, KeypadSet, KeypadCleared}
 use Rattle.command.specs.declared.Side.the-variants.{Left, Right}
-use Rattle.effect.specs.Core.{Core, onPanel, onText, onPicture, onScreen, onIcons, onVolume, onBacklight}
+use Rattle.effect.specs.Core.{Core, onSettings, onText, onPicture, onScreen, onIcons, onVolume, onBacklight}
 use Rattle.effect.specs.Effect.{effect, carryOut}
 
 -- text, position, clear, display and mode are one group; the icons are a group each
@@ -65,21 +65,21 @@ groupOf (draw row columns) = picture
 
 -- the core without a group: its fields at their power-on values, all others as they are
 abbrev pub without : Group → Core → Core
-without screen c = onText (onScreen c (powerOn .panel .screen)) []
-without shown c = onPanel c (withShown (c .panel) false)
-without leftLabel c = onPanel c (withLeft (c .panel) (powerOn .panel .left))
-without rightLabel c = onPanel c (withRight (c .panel) (powerOn .panel .right))
-without labels c = onPanel c (withRight (withLeft (c .panel) (powerOn .panel .left)) (powerOn .panel .right))
-without iconS c = onIcons c (withIconS (c .panel .icons) 0)
-without iconU c = onIcons c (withIconU (c .panel .icons) 0)
-without iconF c = onIcons c (withIconF (c .panel .icons) 0)
-without iconR c = onIcons c (withIconR (c .panel .icons) 0)
-without iconP c = onIcons c (withIconP (c .panel .icons) 0)
-without iconW c = onIcons c (withIconW (c .panel .icons) 0)
-without volume c = onVolume c (powerOn .panel .volume)
-without times c = onPanel c (withTimes (c .panel) timesAtPowerOn)
-without buzzer c = onPanel c (withBuzzer (c .panel) (powerOn .panel .buzzer))
-without backlight c = onBacklight c (powerOn .panel .backlight)
+without screen c = onText (onScreen c (powerOn .settings .screen)) []
+without shown c = onSettings c (withShown (c .settings) false)
+without leftLabel c = onSettings c (withLeft (c .settings) (powerOn .settings .left))
+without rightLabel c = onSettings c (withRight (c .settings) (powerOn .settings .right))
+without labels c = onSettings c (withRight (withLeft (c .settings) (powerOn .settings .left)) (powerOn .settings .right))
+without iconS c = onIcons c (withIconS (c .settings .icons) 0)
+without iconU c = onIcons c (withIconU (c .settings .icons) 0)
+without iconF c = onIcons c (withIconF (c .settings .icons) 0)
+without iconR c = onIcons c (withIconR (c .settings .icons) 0)
+without iconP c = onIcons c (withIconP (c .settings .icons) 0)
+without iconW c = onIcons c (withIconW (c .settings .icons) 0)
+without volume c = onVolume c (powerOn .settings .volume)
+without times c = onSettings c (withTimes (c .settings) timesAtPowerOn)
+without buzzer c = onSettings c (withBuzzer (c .settings) (powerOn .settings .buzzer))
+without backlight c = onBacklight c (powerOn .settings .backlight)
 without picture c = onPicture c []
 
 effect-stays : (o : Order) (c : Core) → without (groupOf o) (effect o c) ≡ without (groupOf o) c
@@ -117,7 +117,7 @@ effect-stays (draw row columns) c = refl
 -- Every order leaves all fields outside its group as they were.
 pub untouched : (o : Order) (c : Core) → without (groupOf o) (carryOut o c) ≡ without (groupOf o) c
 unfolding carryOut
-untouched o c = cases (inRangeInMode (c .panel .screen .mode) o)
+untouched o c = cases (inRangeInMode (c .settings .screen .mode) o)
   where
     cases : (b : Bool) → without (groupOf o) (cond b (effect o c) c) ≡ without (groupOf o) c
     cases true = effect-stays o c

@@ -17,8 +17,8 @@ use command::Side;
 use picture::Columns;
 use record::Backlight;
 use record::Label;
-use record::Panel;
 use record::Seconds;
+use record::Settings;
 use record::Volume;
 
 // Which volume icon.
@@ -38,9 +38,9 @@ const DEFAULT_DURATION: u8 = 30;
 // A picture row holds so many columns.
 const ROW_COLUMNS: usize = 96;
 
-// The panel after a frame, and whether the frame is of the grammar.
+// The settings after a frame, and whether the frame is of the grammar.
 pub struct Obeyed {
-    pub panel: Panel,
+    pub settings: Settings,
     pub good: bool,
 }
 
@@ -152,14 +152,14 @@ fn draw(picture: &mut [u8; 672], row: u8, columns: Columns)
 }
 
 // What a command in range does; its numbers are bytes.
-fn changed(mut p: Panel, text: &mut [u8; 80], c: Command) -> Panel
+fn changed(mut p: Settings, text: &mut [u8; 80], c: Command) -> Settings
     requires { ⌜ commandInRange (rowsOf (p .screen .mode)) c ≡ true ⌝ }
     ensures same { λ r. ⌜ ((picture : List ℕ) → core r (now (text .exit)) picture ≡ effect (plain c) (core p (now (text .entry)) picture)) ⌝ }
 {
     match c {
         Command::DisplayOff => p.screen.display = false,
         Command::DisplayOn => p.screen.display = true,
-        Command::Mode(n) => p.screen = settings::to_mode(p.screen, n as u8),
+        Command::Mode(n) => p.screen = effect_modes::to_mode(p.screen, n as u8),
         Command::CursorShown => p.shown = true,
         Command::CursorHidden => p.shown = false,
         Command::Clear => {
@@ -201,9 +201,13 @@ fn changed(mut p: Panel, text: &mut [u8; 80], c: Command) -> Panel
             let value = n as u8;
             p.icons.w = value;
         }
-        Command::Private(n) => p.volume = settings::at_level(p.volume, PRIVATE, n as u8),
-        Command::Handsfree(n) => p.volume = settings::at_level(p.volume, HANDSFREE, n as u8),
-        Command::HandsfreeOfNote(n) => p.volume = settings::at_level(p.volume, HANDSFREE, n as u8),
+        Command::Private(n) => p.volume = effect_modes::at_level(p.volume, PRIVATE, n as u8),
+        Command::Handsfree(n) => p.volume = effect_modes::at_level(p.volume, HANDSFREE, n as u8),
+        Command::HandsfreeOfNote(n) => p.volume = effect_modes::at_level(
+            p.volume,
+            HANDSFREE,
+            n as u8,
+        ),
         Command::Mute(n) => p.volume = with_mute(p.volume, n as u8),
         Command::KeyTimes(first, second) => {
             let time1 = first as u8;
@@ -235,17 +239,17 @@ fn changed(mut p: Panel, text: &mut [u8; 80], c: Command) -> Panel
 }
 
 // A command of the grammar: with a number out of range it is passed over.
-fn obey_command(p: Panel, text: &mut [u8; 80], c: Command) -> Panel
+fn obey_command(p: Settings, text: &mut [u8; 80], c: Command) -> Settings
     ensures same { λ r. ⌜ ((picture : List ℕ) → core r (now (text .exit)) picture ≡ carryOut (plain c) (core p (now (text .entry)) picture)) ⌝ }
 {
     let rows = record::rows(p.screen.mode);
-    if limits::in_range(c, rows) {
+    if command_ranges::in_range(c, rows) {
         return changed(p, text, c);
     }
     p
 }
 
-fn obey_label(mut p: Panel, side: Side, f: &[u8]) -> Panel
+fn obey_label(mut p: Settings, side: Side, f: &[u8]) -> Settings
     requires { ⌜ length (drop 3 (now f)) ≤ 7 ⌝ }
     ensures same { λ r. ⌜ ((text picture : List ℕ) → core r text picture ≡ effect (label side (drop 3 (now (f .entry)))) (core p text picture)) ⌝ }
 {
@@ -257,37 +261,42 @@ fn obey_label(mut p: Panel, side: Side, f: &[u8]) -> Panel
     p
 }
 
-// Obeys a frame: the text and the picture in place, the panel handed back.
-pub fn obey(panel: Panel, text: &mut [u8; 80], picture: &mut [u8; 672], frame: &[u8]) -> Obeyed
-    ensures obeys { λ o. ⌜ Obeys (now (frame .entry)) (core panel (now (text .entry)) (now (picture .entry))) o (core (o .panel) (now (text .exit)) (now (picture .exit))) ⌝ }
+// Obeys a frame: the text and the picture in place, the settings handed back.
+pub fn obey(
+    settings: Settings,
+    text: &mut [u8; 80],
+    picture: &mut [u8; 672],
+    frame: &[u8],
+) -> Obeyed
+    ensures obeys { λ o. ⌜ Obeys (now (frame .entry)) (core settings (now (text .entry)) (now (picture .entry))) o (core (o .settings) (now (text .exit)) (now (picture .exit))) ⌝ }
 {
-    if drawing::opens_picture(frame) {
-        let drawn = drawing::read_picture(frame);
+    if picture_frame::opens_picture(frame) {
+        let drawn = picture_frame::read_picture(frame);
         let columns = drawn.columns;
         if columns.len == 0 {
             return Obeyed {
-                panel: panel,
+                settings: settings,
                 good: false,
             };
         }
         draw(picture, drawn.row, columns);
         return Obeyed {
-            panel: panel,
+            settings: settings,
             good: true,
         };
     }
     let reading = command::read_command(frame);
     match reading {
         Reading::Bad => Obeyed {
-            panel: panel,
+            settings: settings,
             good: false,
         },
         Reading::Plain(c) => Obeyed {
-            panel: obey_command(panel, text, c),
+            settings: obey_command(settings, text, c),
             good: true,
         },
         Reading::Label(side) => Obeyed {
-            panel: obey_label(panel, side, frame),
+            settings: obey_label(settings, side, frame),
             good: true,
         },
     }

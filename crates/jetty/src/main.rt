@@ -39,7 +39,7 @@ struct Shown {
 // One call, with room for every answer that these frames can get.
 fn send(r: Record, bytes: &[u8]) -> Shown {
     let mut answers = [0u8; 8];
-    let fed = stream::feed(r, bytes, &mut answers);
+    let fed = stream_by_value::feed(r, bytes, &mut answers);
     let after = fed.record;
     Shown {
         record: after,
@@ -48,7 +48,7 @@ fn send(r: Record, bytes: &[u8]) -> Shown {
 }
 
 fn left_label(r: Record) -> Label {
-    let p = r.panel;
+    let p = r.settings;
     p.left
 }
 

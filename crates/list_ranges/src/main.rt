@@ -1,9 +1,9 @@
 // Finds by trial which values the range question takes in each field of the record, and prints a line a field in the order of
 // document 01's table. A record is put to the question for each value, the other fields as the line says (at power-on where it
 // says nothing). Of an array every place named is tried with every value.
-use fields::Field;
 use libc::STDOUT_FILENO;
 use record::Record;
+use record_fields::Field;
 
 const FILLING: u16 = 0x41;
 
@@ -21,7 +21,7 @@ fn try_value(r: Record, field: Field, from: usize, end: usize, value: u16) -> Ta
     let mut everywhere = true;
     let mut anywhere = false;
     for place in from..end {
-        let ok = ranges::in_range(fields::with_field(r, field, place, value));
+        let ok = record_ranges::in_range(record_fields::with_field(r, field, place, value));
         everywhere = everywhere & ok;
         anywhere = anywhere | ok;
     }
@@ -33,9 +33,9 @@ fn try_value(r: Record, field: Field, from: usize, end: usize, value: u16) -> Ta
 
 // The record with the first places of an array filled and its length set to so many.
 fn of_length(r: Record, array: Field, length: Field, n: u16) -> Record {
-    let mut s = fields::with_field(r, length, 0, n);
+    let mut s = record_fields::with_field(r, length, 0, n);
     for place in 0..n {
-        s = fields::with_field(s, array, place as usize, FILLING);
+        s = record_fields::with_field(s, array, place as usize, FILLING);
     }
     s
 }
@@ -114,7 +114,11 @@ fn list_lengths(name: &[u8], r: Record, array: Field, length: Field, most: u16) 
         first: 0,
     };
     for n in 0..=most {
-        run = next_run(run, ranges::in_range(of_length(r, array, length, n)), n);
+        run = next_run(
+            run,
+            record_ranges::in_range(of_length(r, array, length, n)),
+            n,
+        );
     }
     if run.open {
         say_run(run.first, most);
@@ -125,7 +129,7 @@ fn list_lengths(name: &[u8], r: Record, array: Field, length: Field, most: u16) 
 fn list_rows(name: &[u8], r: Record, mode: u16) {
     list_byte(
         name,
-        fields::with_field(r, Field::Mode, 0, mode),
+        record_fields::with_field(r, Field::Mode, 0, mode),
         Field::Row,
     );
 }
@@ -216,9 +220,9 @@ fn list_icons(r: Record) {
 }
 
 fn list_volume(r: Record) {
-    let level = fields::with_field(r, Field::Level, 0, 5);
-    let private = fields::with_field(level, Field::Which, 0, 1);
-    let handsfree = fields::with_field(level, Field::Which, 0, 2);
+    let level = record_fields::with_field(r, Field::Level, 0, 5);
+    let private = record_fields::with_field(level, Field::Which, 0, 1);
+    let handsfree = record_fields::with_field(level, Field::Which, 0, 2);
     list_byte(b"volume which at level 0 (0 none)", r, Field::Which);
     list_byte(
         b"volume which at level 5 (1 private, 2 handsfree)",
@@ -235,8 +239,8 @@ fn list_volume(r: Record) {
 }
 
 fn list_settings(r: Record) {
-    let on = fields::with_field(r, Field::Light, 0, 1);
-    let auto = fields::with_field(r, Field::Light, 0, 2);
+    let on = record_fields::with_field(r, Field::Light, 0, 1);
+    let auto = record_fields::with_field(r, Field::Light, 0, 2);
     list_byte(b"Time1", r, Field::Time1);
     list_byte(b"Time2", r, Field::Time2);
     list_byte(b"buzzer", r, Field::Buzzer);
@@ -249,7 +253,7 @@ fn list_settings(r: Record) {
 }
 
 fn list_held(r: Record) {
-    let held = fields::with_field(r, Field::Down, 0, 1);
+    let held = record_fields::with_field(r, Field::Down, 0, 1);
     list_flag(b"key held", r, Field::Down);
     list_byte(b"held key with none", r, Field::Key);
     list_byte(b"held key when held", held, Field::Key);
@@ -260,8 +264,8 @@ fn list_held(r: Record) {
 }
 
 fn list_frame(r: Record) {
-    let open = fields::with_field(r, Field::FrameState, 0, 1);
-    let overlong = fields::with_field(r, Field::FrameState, 0, 2);
+    let open = record_fields::with_field(r, Field::FrameState, 0, 1);
+    let overlong = record_fields::with_field(r, Field::FrameState, 0, 2);
     let some = of_length(open, Field::FrameByte, Field::FrameLength, 100);
     list_byte(
         b"frame state (0 none, 1 open, 2 overlong)",

@@ -2,8 +2,8 @@
 // Codes outside 0x20 to 0x7E are printed as '.'. A frame that is still open at the end is not seen.
 use libc::STDOUT_FILENO;
 use record::Label;
-use record::Panel;
 use record::Record;
+use record::Settings;
 
 fn say(words: &[u8]) {
     io::write_all(STDOUT_FILENO, words);
@@ -57,7 +57,7 @@ fn say_text(text: [u8; 80]) {
     }
 }
 
-fn say_screen(p: Panel) {
+fn say_screen(p: Settings) {
     let s = p.screen;
     say_number(b"MODE ", s.mode as u64);
     say_number(b" OVER ", s.overlay as u64);
@@ -68,7 +68,7 @@ fn say_screen(p: Panel) {
     say(b"\n");
 }
 
-fn say_icons(p: Panel) {
+fn say_icons(p: Settings) {
     let i = p.icons;
     say_number(b"ICONS ", i.s as u64);
     say_number(b" ", i.u as u64);
@@ -79,7 +79,7 @@ fn say_icons(p: Panel) {
     say(b"\n");
 }
 
-fn say_volume(p: Panel) {
+fn say_volume(p: Settings) {
     let v = p.volume;
     say_number(b"VOLUME ", v.which as u64);
     say_number(b" ", v.level as u64);
@@ -89,11 +89,11 @@ fn say_volume(p: Panel) {
 }
 
 fn main() {
-    let heard = listen::hear(Record::power_on());
+    let heard = stream_input::hear(Record::power_on());
     say_number(b"REPLIES ", heard.replies);
     say(b"\n");
     let r = heard.record;
-    let p = r.panel;
+    let p = r.settings;
     let text = r.text;
     let left = p.left;
     let right = p.right;

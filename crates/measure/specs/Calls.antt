@@ -7,9 +7,9 @@ use Rattle.record.specs.declared.Record.{Record}
 use Rattle.record.specs.Range.{inRange}
 use Rattle.record.specs.With.{withText}
 use Rattle.record.specs.PowerOn.{powerOn}
-use Rattle.reader.specs.declared.Fed.{Fed}
-use Rattle.reader.specs.declared.FedLent.{FedLent}
-use Rattle.reader.specs.Stream.{together, fedOf, answersAfter}
+use Rattle.stream.specs.declared.Fed.{Fed}
+use Rattle.stream.specs.declared.FedLent.{FedLent}
+use Rattle.stream.specs.Stream.{together, fedOf, answersAfter}
 
 -- between two calls: the record, the buffer for answers, and the bytes that are still to come
 pub record Between : Type 0 where
@@ -25,7 +25,7 @@ call b =
 
 -- what a call on lent arrays leaves, as a call by value hands it back
 abbrev pub fedFrom : FedLent → List ℕ → List ℕ → List ℕ → Fed
-fedFrom f text picture bytes = record { answer = f .answer; «record» = together (f .small) text picture bytes; used = f .used; written = f .written }
+fedFrom f text picture bytes = record { number = f .number; «record» = together (f .small) text picture bytes; used = f .used; written = f .written }
 
 -- so many calls
 unfoldable pub inOrder : ℕ → Between → Between

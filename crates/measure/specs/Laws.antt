@@ -9,9 +9,9 @@ use lib.ListN.{length, getD, take, drop}
 use lib.Seq.{drop-cons, drop-length, drop-drop}
 use Rattle.record.specs.declared.Record.{Record}
 use Rattle.record.specs.Range.{inRange}
-use Rattle.reader.specs.declared.Fed.{Fed}
-use Rattle.reader.specs.declared.FedLent.{FedLent}
-use Rattle.reader.specs.Stream.{lentOf, lent-back, fedOf, answersAfter}
+use Rattle.stream.specs.declared.Fed.{Fed}
+use Rattle.stream.specs.declared.FedLent.{FedLent}
+use Rattle.stream.specs.Stream.{lentOf, lent-back, fedOf, answersAfter}
 use Rattle.measure.specs.Mark.{mixed, marked}
 use Rattle.measure.specs.Calls.{Between, fedFrom, inOrder, withFirst, goodOnes}
 
@@ -41,7 +41,7 @@ good-end r s i h l =
 
 -- what comes back of a call on lent arrays is what the call by value hands back
 pub fed-from : {f : FedLent} {fed : Fed} {text picture bytes : List ℕ} → f ≡ lentOf fed → text ≡ fed .record .text → picture ≡ fed .record .picture → bytes ≡ fed .record .frame .bytes → fedFrom f text picture bytes ≡ fed
-fed-from e t g b = λ j. record { answer = e j .answer; «record» = lent-back e t g b j; used = e j .used; written = e j .written }
+fed-from e t g b = λ j. record { number = e j .number; «record» = lent-back e t g b j; used = e j .used; written = e j .written }
 
 pub call-on : (left at : ℕ) (r : Record) (answers s piece later : List ℕ) (after : Record) → 0 < left → piece ≡ take 64 (drop at s) → after ≡ fedOf r piece (length answers) .record → later ≡ answersAfter r piece answers
     → inOrder (left - 1) (record { after = after; buffer = later; coming = drop (at + 64) s }) ≡ inOrder left (record { after = r; buffer = answers; coming = drop at s })

@@ -5,14 +5,14 @@ ghost use mathlib.Core.Bool.{cond};
 ghost use Prim.Native.Nat.{_≤_, _<_};
 ghost use lib.ListN.{length};
 ghost use Rattle.record.specs.PowerOn.{powerOn};
-ghost use Rattle.reader.specs.Stream.{fedOf, answersAfter};
+ghost use Rattle.stream.specs.Stream.{fedOf, answersAfter};
 ghost use Rattle.measure.specs.Mark.{prime, mixed, marked, small, markOf};
 ghost use Rattle.measure.specs.Calls.{fedFrom, fedInCalls, answersInCalls, goodOnes};
-use reader::Fed;
-use reader::FedLent;
-use reader::Small;
-use record::Panel;
 use record::Record;
+use record::Settings;
+use stream::Fed;
+use stream::FedLent;
+use stream::Small;
 
 // Marks stay below this prime.
 const PRIME: u64 = 1_000_003;
@@ -42,8 +42,8 @@ fn mark_all(mark: u64, s: &[u8]) -> u64
     sum
 }
 
-// The small numbers of a panel, one after another.
-fn small_numbers(p: Panel) -> [u8; 14]
+// The small numbers of the settings, one after another.
+fn small_numbers(p: Settings) -> [u8; 14]
     ensures same { λ r. ⌜ r ≡ small p ⌝ }
 {
     [
@@ -69,15 +69,15 @@ fn mark(f: Fed) -> u64
     ensures same { λ r. ⌜ r ≡ markOf f ⌝ }
 {
     let r = f.record;
-    let p = r.panel;
+    let p = r.settings;
     let left = p.left;
     let right = p.right;
     let numbers = small_numbers(p);
     let text = mark_all(0, &r.text);
     let picture = mark_all(text, &r.picture);
     let labels = mark_all(mark_all(picture, &left.codes), &right.codes);
-    let panel = mark_all(labels, &numbers);
-    mix(mix(panel, f.used as u64), f.written as u64)
+    let settings = mark_all(labels, &numbers);
+    mix(mix(settings, f.used as u64), f.written as u64)
 }
 
 // A stream in one call, from the power-on record.
@@ -86,18 +86,18 @@ pub extern "C" fn measure_one_call(s: &[u8], answers: &mut [u8]) -> u64
     ensures same { λ r. ⌜ r ≡ markOf (fedOf powerOn (now (s .entry)) (length (now (answers .entry)))) ⌝ }
     ensures buffer { λ _. ⌜ now (answers .exit) ≡ answersAfter powerOn (now (s .entry)) (now (answers .entry)) ⌝ }
 {
-    mark(stream::feed(Record::power_on(), s, answers))
+    mark(stream_by_value::feed(Record::power_on(), s, answers))
 }
 
 // What a call on lent arrays left, as one by value hands it back.
 fn fed(f: FedLent, text: [u8; 80], picture: [u8; 672], bytes: [u8; 250]) -> Fed
     ensures { λ r. ⌜ r ≡ fedFrom f text picture bytes ⌝ }
 {
-    let answer = f.answer;
+    let number = f.number;
     let small = f.small;
     Fed {
-        answer: answer,
-        record: stream::whole(small, text, picture, bytes),
+        number: number,
+        record: stream_by_value::whole(small, text, picture, bytes),
         used: f.used,
         written: f.written,
     }
@@ -109,14 +109,14 @@ fn feed_in_calls(s: &[u8], answers: &mut [u8]) -> Fed
     ensures buffer { λ _. ⌜ now (answers .exit) ≡ answersInCalls (now (s .entry)) (now (answers .entry)) ⌝ }
 {
     let start = Record::power_on();
-    let panel = start.panel;
+    let settings = start.settings;
     let mut text = start.text;
     let mut picture = start.picture;
     let held = start.held;
     let kept = start.frame;
     let mut frame = kept.bytes;
     let mut small = Small {
-        panel: panel,
+        settings: settings,
         held: held,
         state: kept.state,
         len: kept.len,
@@ -124,7 +124,7 @@ fn feed_in_calls(s: &[u8], answers: &mut [u8]) -> Fed
     let mut left = s.len() / CALL;
     let mut at = 0;
     while 0 < left {
-        let f = reader::feed_lent(
+        let f = stream::feed_lent(
             small,
             &mut text,
             &mut picture,
@@ -137,7 +137,7 @@ fn feed_in_calls(s: &[u8], answers: &mut [u8]) -> Fed
         at += CALL;
         left -= 1;
     }
-    let last = reader::feed_lent(
+    let last = stream::feed_lent(
         small,
         &mut text,
         &mut picture,
@@ -173,7 +173,7 @@ pub extern "C" fn measure_range_checks(s: &[u8]) -> u64
     let mut i = 0;
     while i < s.len() {
         r.text[0] = s[i];
-        good += one_if(ranges::in_range(r));
+        good += one_if(record_ranges::in_range(r));
         i += 1;
     }
     good

@@ -13,18 +13,18 @@ power-on-in-range = refl
 
 -- The table as facts: a line for each row.
 pub record Ranges (r : Record) : Type 0 where
-  pub mode : modeInRange (r .panel .screen .mode) ≡ true
-  pub overlay : overlayInRange (r .panel .screen .overlay) ≡ true
-  pub cursor : cursorInRange (r .panel .screen) ≡ true
+  pub mode : modeInRange (r .settings .screen .mode) ≡ true
+  pub overlay : overlayInRange (r .settings .screen .overlay) ≡ true
+  pub cursor : cursorInRange (r .settings .screen) ≡ true
   pub text : textInRange (r .text) ≡ true
-  pub left : labelInRange (r .panel .left) ≡ true
-  pub right : labelInRange (r .panel .right) ≡ true
+  pub left : labelInRange (r .settings .left) ≡ true
+  pub right : labelInRange (r .settings .right) ≡ true
   pub picture : pictureInRange (r .picture) ≡ true
-  pub icons : iconsInRange (r .panel .icons) ≡ true
-  pub volume : volumeInRange (r .panel .volume) ≡ true
-  pub times : timesInRange (r .panel .times) ≡ true
-  pub buzzer : buzzerInRange (r .panel .buzzer .0) ≡ true
-  pub backlight : backlightInRange (r .panel .backlight) ≡ true
+  pub icons : iconsInRange (r .settings .icons) ≡ true
+  pub volume : volumeInRange (r .settings .volume) ≡ true
+  pub times : timesInRange (r .settings .times) ≡ true
+  pub buzzer : buzzerInRange (r .settings .buzzer .0) ≡ true
+  pub backlight : backlightInRange (r .settings .backlight) ≡ true
   pub held : heldInRange (r .held) ≡ true
   pub frame : frameInRange (r .frame) ≡ true
 

@@ -1,4 +1,4 @@
-pub mod Answer
+pub mod Number
 pub mod Range
 pub mod PowerOn
 pub mod With

@@ -15,7 +15,7 @@ timesAtPowerOn = record { time1 = record { 0 = 12 }; time2 = record { 0 = 12 } }
 abbrev pub startingWith : Times → Record
 startingWith times =
     record {
-      panel = record {
+      settings = record {
         screen = record { display = true; mode = 0; overlay = 0; row = 0; column = 0 };
         shown = false;
         left = record { len = 0; codes = replicate 7 0 };

@@ -25,8 +25,8 @@ abbrev pub rowsOf : ℕ → ℕ
 rowsOf mode = cond (leb mode 1) 4 5
 
 -- the column past the last one of a row: where text stops
-abbrev pub lastColumnOf : ℕ → ℕ
-lastColumnOf mode = 16
+abbrev pub rowEndOf : ℕ → ℕ
+rowEndOf mode = 16
 
 -- Places of an array ----------------------------------------------------------------------------------------------
 
@@ -63,7 +63,7 @@ abbrev pub rowInRange : ℕ → ℕ → Bool
 rowInRange mode row = ltb row (rowsOf mode)
 
 abbrev pub cursorInRange : Screen → Bool
-cursorInRange s = rowInRange (s .mode) (s .row) && leb (s .column) (lastColumnOf (s .mode))
+cursorInRange s = rowInRange (s .mode) (s .row) && leb (s .column) (rowEndOf (s .mode))
 
 -- text: 5 rows of 16 codes, 0x20 to 0xFF
 unfoldable pub textInRange : List ℕ → Bool
@@ -157,17 +157,17 @@ frameInRange f =
 -- every field is within its range
 unfoldable pub inRange : Record → Bool
 inRange r =
-    modeInRange (r .panel .screen .mode)
-    && overlayInRange (r .panel .screen .overlay)
-    && cursorInRange (r .panel .screen)
+    modeInRange (r .settings .screen .mode)
+    && overlayInRange (r .settings .screen .overlay)
+    && cursorInRange (r .settings .screen)
     && textInRange (r .text)
-    && labelInRange (r .panel .left)
-    && labelInRange (r .panel .right)
+    && labelInRange (r .settings .left)
+    && labelInRange (r .settings .right)
     && pictureInRange (r .picture)
-    && iconsInRange (r .panel .icons)
-    && volumeInRange (r .panel .volume)
-    && timesInRange (r .panel .times)
-    && buzzerInRange (r .panel .buzzer .0)
-    && backlightInRange (r .panel .backlight)
+    && iconsInRange (r .settings .icons)
+    && volumeInRange (r .settings .volume)
+    && timesInRange (r .settings .times)
+    && buzzerInRange (r .settings .buzzer .0)
+    && backlightInRange (r .settings .backlight)
     && heldInRange (r .held)
     && frameInRange (r .frame)

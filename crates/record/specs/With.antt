@@ -3,7 +3,7 @@ use Prim.Native.Nat.{ℕ}
 use mathlib.Core.Bool.{Bool}
 use mathlib.Core.List.{List}
 use Rattle.record.specs.declared.Record.{Record}
-use Rattle.record.specs.declared.Panel.{Panel}
+use Rattle.record.specs.declared.Settings.{Settings}
 use Rattle.record.specs.declared.Screen.{Screen}
 use Rattle.record.specs.declared.Label.{Label}
 use Rattle.record.specs.declared.Icons.{Icons}
@@ -17,48 +17,48 @@ use Rattle.record.specs.declared.Frame.{Frame}
 
 -- Record --------------------------------------------------------------------------------------------------------
 
-abbrev pub withPanel : Record → Panel → Record
-withPanel r new = record { panel = new; text = r .text; picture = r .picture; held = r .held; frame = r .frame }
+abbrev pub withSettings : Record → Settings → Record
+withSettings r new = record { settings = new; text = r .text; picture = r .picture; held = r .held; frame = r .frame }
 
 abbrev pub withText : Record → List ℕ → Record
-withText r new = record { panel = r .panel; text = new; picture = r .picture; held = r .held; frame = r .frame }
+withText r new = record { settings = r .settings; text = new; picture = r .picture; held = r .held; frame = r .frame }
 
 abbrev pub withPicture : Record → List ℕ → Record
-withPicture r new = record { panel = r .panel; text = r .text; picture = new; held = r .held; frame = r .frame }
+withPicture r new = record { settings = r .settings; text = r .text; picture = new; held = r .held; frame = r .frame }
 
 abbrev pub withHeld : Record → Held → Record
-withHeld r new = record { panel = r .panel; text = r .text; picture = r .picture; held = new; frame = r .frame }
+withHeld r new = record { settings = r .settings; text = r .text; picture = r .picture; held = new; frame = r .frame }
 
 abbrev pub withFrame : Record → Frame → Record
-withFrame r new = record { panel = r .panel; text = r .text; picture = r .picture; held = r .held; frame = new }
+withFrame r new = record { settings = r .settings; text = r .text; picture = r .picture; held = r .held; frame = new }
 
--- Panel ---------------------------------------------------------------------------------------------------------
+-- Settings ---------------------------------------------------------------------------------------------------------
 
-abbrev pub withScreen : Panel → Screen → Panel
+abbrev pub withScreen : Settings → Screen → Settings
 withScreen p new = record { screen = new; shown = p .shown; left = p .left; right = p .right; icons = p .icons; volume = p .volume; times = p .times; buzzer = p .buzzer; backlight = p .backlight }
 
-abbrev pub withShown : Panel → Bool → Panel
+abbrev pub withShown : Settings → Bool → Settings
 withShown p new = record { screen = p .screen; shown = new; left = p .left; right = p .right; icons = p .icons; volume = p .volume; times = p .times; buzzer = p .buzzer; backlight = p .backlight }
 
-abbrev pub withLeft : Panel → Label → Panel
+abbrev pub withLeft : Settings → Label → Settings
 withLeft p new = record { screen = p .screen; shown = p .shown; left = new; right = p .right; icons = p .icons; volume = p .volume; times = p .times; buzzer = p .buzzer; backlight = p .backlight }
 
-abbrev pub withRight : Panel → Label → Panel
+abbrev pub withRight : Settings → Label → Settings
 withRight p new = record { screen = p .screen; shown = p .shown; left = p .left; right = new; icons = p .icons; volume = p .volume; times = p .times; buzzer = p .buzzer; backlight = p .backlight }
 
-abbrev pub withIcons : Panel → Icons → Panel
+abbrev pub withIcons : Settings → Icons → Settings
 withIcons p new = record { screen = p .screen; shown = p .shown; left = p .left; right = p .right; icons = new; volume = p .volume; times = p .times; buzzer = p .buzzer; backlight = p .backlight }
 
-abbrev pub withVolume : Panel → Volume → Panel
+abbrev pub withVolume : Settings → Volume → Settings
 withVolume p new = record { screen = p .screen; shown = p .shown; left = p .left; right = p .right; icons = p .icons; volume = new; times = p .times; buzzer = p .buzzer; backlight = p .backlight }
 
-abbrev pub withTimes : Panel → Times → Panel
+abbrev pub withTimes : Settings → Times → Settings
 withTimes p new = record { screen = p .screen; shown = p .shown; left = p .left; right = p .right; icons = p .icons; volume = p .volume; times = new; buzzer = p .buzzer; backlight = p .backlight }
 
-abbrev pub withBuzzer : Panel → Hundredths → Panel
+abbrev pub withBuzzer : Settings → Hundredths → Settings
 withBuzzer p new = record { screen = p .screen; shown = p .shown; left = p .left; right = p .right; icons = p .icons; volume = p .volume; times = p .times; buzzer = new; backlight = p .backlight }
 
-abbrev pub withBacklight : Panel → Backlight → Panel
+abbrev pub withBacklight : Settings → Backlight → Settings
 withBacklight p new = record { screen = p .screen; shown = p .shown; left = p .left; right = p .right; icons = p .icons; volume = p .volume; times = p .times; buzzer = p .buzzer; backlight = new }
 
 -- Screen --------------------------------------------------------------------------------------------------------

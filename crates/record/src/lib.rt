@@ -1,8 +1,8 @@
 // The record: all that the handset keeps between two calls. The range of each field is document 01's table, in specs/Range.antt: the
-// crate `ranges` asks whether a record keeps to it, and commands are judged by the same definitions.
+// crate `record_ranges` asks whether a record keeps to it, and commands are judged by the same definitions.
 ghost use mathlib.Core.Path.{_≡_};
-ghost use Rattle.record.specs.Answer.{numberOf};
-ghost use Rattle.record.specs.Range.{rowsOf, lastColumnOf};
+ghost use Rattle.record.specs.Number.{paperNumber};
+ghost use Rattle.record.specs.Range.{rowsOf, rowEndOf};
 ghost use Rattle.record.specs.PowerOn.{timesAtPowerOn, startingWith, powerOn};
 
 // A count of 100 ms: Time1 and Time2 of the keys.
@@ -17,8 +17,8 @@ pub struct Seconds(pub u8);
 // A reading of the clock that steps every 10 ms and runs over from 65,535 to 0: a place in time, and no count.
 pub struct Tick(pub u16);
 
-// How a call ended. specs/Answer.antt has the paper's number of each.
-pub enum Answer {
+// How a call ended: document 01's number, by name. specs/Number.antt sets out which.
+pub enum Number {
     Done,
     FieldOutOfRange,
     CommandOutOfRange,
@@ -73,7 +73,7 @@ pub struct Backlight {
 }
 
 // All that is small. The structs inside are the groups of fields that commands change together.
-pub struct Panel {
+pub struct Settings {
     pub screen: Screen,
     pub shown: bool,
     pub left: Label,
@@ -102,23 +102,23 @@ pub struct Frame {
 
 // The text is 5 rows of 16 codes, the picture 7 rows of 96 columns, row after row.
 pub struct Record {
-    pub panel: Panel,
+    pub settings: Settings,
     pub text: [u8; 80],
     pub picture: [u8; 672],
     pub held: Held,
     pub frame: Frame,
 }
 
-pub fn number(answer: Answer) -> u8
-    ensures same { λ r. ⌜ r ≡ numberOf answer ⌝ }
+pub fn paper_number(number: Number) -> u8
+    ensures same { λ r. ⌜ r ≡ paperNumber number ⌝ }
 {
-    match answer {
-        Answer::Done => 0,
-        Answer::FieldOutOfRange => 1,
-        Answer::CommandOutOfRange => 2,
-        Answer::NoRoom => 3,
-        Answer::NotListed => 4,
-        Answer::UnequalLengths => 5,
+    match number {
+        Number::Done => 0,
+        Number::FieldOutOfRange => 1,
+        Number::CommandOutOfRange => 2,
+        Number::NoRoom => 3,
+        Number::NotListed => 4,
+        Number::UnequalLengths => 5,
     }
 }
 
@@ -133,8 +133,8 @@ pub fn rows(mode: u8) -> u8
 }
 
 // The column past the end of a text row.
-pub fn last_column(mode: u8) -> u8
-    ensures same { λ r. ⌜ r ≡ lastColumnOf mode ⌝ }
+pub fn row_end(mode: u8) -> u8
+    ensures same { λ r. ⌜ r ≡ rowEndOf mode ⌝ }
 {
     16
 }
@@ -156,7 +156,7 @@ impl Record {
         ensures same { λ r. ⌜ r ≡ startingWith times ⌝ }
     {
         Record {
-            panel: Panel {
+            settings: Settings {
                 screen: Screen {
                     display: true,
                     mode: 0,

@@ -7,17 +7,17 @@ use lib.ListN.{replicate}
 use Rattle.lists.specs.Codes.{ascii, blank}
 use Rattle.record.specs.PowerOn.{powerOn}
 use Rattle.record.specs.Range.{inRange, textInRange, labelInRange, pictureInRange, frameInRange}
-use Rattle.record.specs.With.{withPanel, withText, withScreen, withMode, withOverlay, withDisplay}
-use Rattle.record.specs.declared.Answer.{Answer}
-use Rattle.record.specs.declared.Answer.the-variants.{Done, FieldOutOfRange, NotListed}
+use Rattle.record.specs.With.{withSettings, withText, withScreen, withMode, withOverlay, withDisplay}
+use Rattle.record.specs.declared.Number.{Number}
+use Rattle.record.specs.declared.Number.the-variants.{Done, FieldOutOfRange, NotListed}
 use Rattle.record.specs.declared.Icons.{Icons}
 use Rattle.record.specs.declared.Record.{Record}
 use Rattle.record.specs.declared.Volume.{Volume}
 use Rattle.seen.specs.declared.Owner.{Owner}
 use Rattle.seen.specs.declared.Owner.the-variants.{Nothing, IconBar, TextRow, PictureRow, SoftKeys}
-use Rattle.panels.specs.declared.SmsPanel.the-variants as Sms
-use Rattle.panels.specs.declared.VolumePanel.the-variants as Sound
-use Rattle.panels.specs.Panels.{smsPanel, volumePanel}
+use Rattle.seen_panels.specs.declared.SmsPanel.the-variants as Sms
+use Rattle.seen_panels.specs.declared.VolumePanel.the-variants as Sound
+use Rattle.seen_panels.specs.Panels.{smsPanel, volumePanel}
 use Rattle.seen.specs.Places.{covered, underBar, underLabels, underText, ownerOn}
 use Rattle.seen.specs.Rows.{contents, rowSeen}
 
@@ -47,21 +47,21 @@ panel-cases = (refl, refl)
 
 -- the power-on record in another text mode and under an overlay
 abbrev screen : ℕ → ℕ → Record
-screen mode overlay = withPanel powerOn (withScreen (powerOn .panel) (withOverlay (withMode (powerOn .panel .screen) mode) overlay))
+screen mode overlay = withSettings powerOn (withScreen (powerOn .settings) (withOverlay (withMode (powerOn .settings .screen) mode) overlay))
 
 abbrev off : Record
-off = withPanel powerOn (withScreen (powerOn .panel) (withDisplay (powerOn .panel .screen) false))
+off = withSettings powerOn (withScreen (powerOn .settings) (withDisplay (powerOn .settings .screen) false))
 
 -- a text whose row 1 begins with the word Meter
 abbrev written : Record
 written = withText powerOn (replicate 16 blank ++ ascii "Meter" ++ replicate 59 blank)
 
--- a record and a row, the answer and the owner
+-- a record and a row, the number and the owner
 abbrev Asked : Type 0
 Asked = Record × ℕ
 
-abbrev answered : Asked → Answer × Owner
-answered q = (rowSeen (q .0) (q .1) .answer, rowSeen (q .0) (q .1) .owner)
+abbrev answered : Asked → Number × Owner
+answered q = (rowSeen (q .0) (q .1) .number, rowSeen (q .0) (q .1) .owner)
 
 -- The row question: row 0 under overlay 11 in mode 5 is the icon bar, with no overlay it is text row 0; row 5 under 12 and 13;
 -- row 6 with no overlay and under 13; row 4 in modes 0 and 5; display off; a row above 6; a mode out of range, which is

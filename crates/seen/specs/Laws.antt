@@ -10,10 +10,10 @@ use lib.Seq.{getD-drop, getD-take}
 use borrow.Author.Tests.{leb-true, lt-ltb, le-ltb}
 use Rattle.lists.specs.Tests.{by-test}
 use Rattle.lists.specs.Both.{both}
-use Rattle.record.specs.Answer.{numberOf}
+use Rattle.record.specs.Number.{paperNumber}
 use Rattle.record.specs.Range.{inRange}
-use Rattle.record.specs.With.{withPanel, withScreen, withShown, withRow, withColumn}
-use Rattle.record.specs.declared.Answer.the-variants.{Done, NotListed}
+use Rattle.record.specs.With.{withSettings, withScreen, withShown, withRow, withColumn}
+use Rattle.record.specs.declared.Number.the-variants.{Done, NotListed}
 use Rattle.record.specs.declared.Record.{Record}
 use Rattle.record.specs.declared.Screen.{Screen}
 use Rattle.seen.specs.declared.Owner.{Owner}
@@ -29,7 +29,7 @@ seen-row r row ok h = rw (ok, le-ltb 6 row h)
 
 -- Numbers -------------------------------------------------------------------------------------------------------
 
-contents-done : (r : Record) (o : Owner) → contents r o .answer ≡ Done
+contents-done : (r : Record) (o : Owner) → contents r o .number ≡ Done
 unfolding contents
 contents-done r Nothing = refl
 contents-done r IconBar = refl
@@ -38,7 +38,7 @@ contents-done r (PictureRow n) = refl
 contents-done r SoftKeys = refl
 
 -- The row question hands back 1 for a field out of range, then 4 for a display row above 6, else 0.
-pub row-number : (r : Record) (row : ℕ) → numberOf (rowSeen r row .answer) ≡ cond (not (inRange r)) 1 (cond (ltb 6 row) 4 0)
+pub row-number : (r : Record) (row : ℕ) → paperNumber (rowSeen r row .number) ≡ cond (not (inRange r)) 1 (cond (ltb 6 row) 4 0)
 unfolding rowSeen
 row-number r row =
     by-test (inRange r)
@@ -47,14 +47,14 @@ row-number r row =
 
 -- The panels' questions hand back 1 for a field out of range, else 0.
 pub panel-numbers : (r : Record)
-    → (numberOf (smsSeen r .answer) ≡ cond (not (inRange r)) 1 0) × (numberOf (volumeSeen r .answer) ≡ cond (not (inRange r)) 1 0)
+    → (paperNumber (smsSeen r .number) ≡ cond (not (inRange r)) 1 0) × (paperNumber (volumeSeen r .number) ≡ cond (not (inRange r)) 1 0)
 unfolding smsSeen volumeSeen
 panel-numbers r = by-test (inRange r) (λ ok. (rw ok, rw ok)) (λ bad. (rw bad, rw bad))
 
 -- Display off -----------------------------------------------------------------------------------------------------
 
 -- With the display off every row of every record shows nothing.
-pub off-shows-nothing : (r : Record) (row : ℕ) → r .panel .screen .display ≡ false → rowSeen r row ≡ nothingSeen (rowSeen r row .answer)
+pub off-shows-nothing : (r : Record) (row : ℕ) → r .settings .screen .display ≡ false → rowSeen r row ≡ nothingSeen (rowSeen r row .number)
 unfolding rowSeen ownerOn contents
 off-shows-nothing r row off =
     by-test (inRange r)
@@ -98,7 +98,7 @@ owner-placed s row column h =
 -- the record with another cursor: shown or not, and its position
 abbrev pub withCursor : Record → Bool → ℕ → ℕ → Record
 withCursor r shown row column =
-    withPanel r (withShown (withScreen (r .panel) (withColumn (withRow (r .panel .screen) row) column)) shown)
+    withSettings r (withShown (withScreen (r .settings) (withColumn (withRow (r .settings .screen) row) column)) shown)
 
 contents-alike : (r : Record) (shown : Bool) (row column : ℕ) (o : Owner) → contents (withCursor r shown row column) o ≡ contents r o
 unfolding contents

@@ -38,7 +38,7 @@ ownerOn s row column =
     (cond (underText s row) (TextRow (row - firstTextRow (s .mode))) Nothing))))
 
 abbrev pub ownerAt : Record → ℕ → ℕ → Owner
-ownerAt r row column = ownerOn (r .panel .screen) row column
+ownerAt r row column = ownerOn (r .settings .screen) row column
 
 -- the owner of a row is that of its column 0
 abbrev pub rowOwner : Record → ℕ → Owner

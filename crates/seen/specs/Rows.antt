@@ -1,4 +1,4 @@
--- What the three questions answer: the row question, the SMS panel and the volume panel. Assumes nothing.
+-- What the three questions tell: the row question, the SMS panel and the volume panel. Assumes nothing.
 use Prim.Native.Nat.{ℕ, _+_, _*_}
 use mathlib.Core.Bool.{not, cond}
 use mathlib.Core.List.{List}
@@ -7,16 +7,16 @@ use lib.ListN.{replicate}
 use lib.Seq.{slice}
 use Rattle.record.specs.Range.{inRange}
 use Rattle.record.specs.declared.Record.{Record}
-use Rattle.record.specs.declared.Panel.{Panel}
+use Rattle.record.specs.declared.Settings.{Settings}
 use Rattle.record.specs.declared.Label.{Label}
-use Rattle.record.specs.declared.Answer.{Answer}
-use Rattle.record.specs.declared.Answer.the-variants.{Done, FieldOutOfRange, NotListed}
-use Rattle.panels.specs.Panels.{smsPanel, volumePanel}
+use Rattle.record.specs.declared.Number.{Number}
+use Rattle.record.specs.declared.Number.the-variants.{Done, FieldOutOfRange, NotListed}
+use Rattle.seen_panels.specs.Panels.{smsPanel, volumePanel}
 use Rattle.seen.specs.Places.{rowOwner}
 use Rattle.seen.specs.declared.Owner.{Owner}
 use Rattle.seen.specs.declared.Owner.the-variants.{Nothing, IconBar, TextRow, PictureRow, SoftKeys}
-use Rattle.panels.specs.declared.SmsPanel.the-variants as Sms
-use Rattle.panels.specs.declared.VolumePanel.the-variants as Sound
+use Rattle.seen_panels.specs.declared.SmsPanel.the-variants as Sms
+use Rattle.seen_panels.specs.declared.VolumePanel.the-variants as Sound
 use Rattle.seen.specs.declared.Bar.{Bar}
 use Rattle.seen.specs.declared.Labels.{Labels}
 use Rattle.seen.specs.declared.Row.{Row}
@@ -38,14 +38,14 @@ abbrev pub pictureRow : Record → ℕ → List ℕ
 pictureRow r n = rowOf 96 (r .picture) n
 
 -- icons F, P and R and the two panels
-abbrev pub barOf : Panel → Bar
+abbrev pub barOf : Settings → Bar
 barOf p = record { f = p .icons .f; p = p .icons .p; r = p .icons .r; sms = smsPanel (p .icons); volume = volumePanel (p .volume) }
 
 -- both labels and icon W
-abbrev pub labelsOf : Panel → Labels
+abbrev pub labelsOf : Settings → Labels
 labelsOf p = record { left = p .left; right = p .right; w = p .icons .w }
 
--- Unused places of an answer are zero.
+-- Unused places of what is told are zero.
 abbrev pub noCodes : List ℕ
 noCodes = replicate 16 0
 
@@ -62,20 +62,20 @@ abbrev pub noLabels : Labels
 noLabels = record { left = noLabel; right = noLabel; w = 0 }
 
 -- no owner and no contents
-abbrev pub nothingSeen : Answer → Row
-nothingSeen a = record { answer = a; owner = Nothing; codes = noCodes; columns = noColumns; bar = noBar; labels = noLabels }
+abbrev pub nothingSeen : Number → Row
+nothingSeen a = record { number = a; owner = Nothing; codes = noCodes; columns = noColumns; bar = noBar; labels = noLabels }
 
 -- the contents of a row, by its owner
 unfoldable pub contents : Record → Owner → Row
 contents r Nothing = nothingSeen Done
-contents r IconBar = record { answer = Done; owner = IconBar; codes = noCodes; columns = noColumns; bar = barOf (r .panel); labels = noLabels }
-contents r (TextRow n) = record { answer = Done; owner = TextRow n; codes = textRow r n; columns = noColumns; bar = noBar; labels = noLabels }
-contents r (PictureRow n) = record { answer = Done; owner = PictureRow n; codes = noCodes; columns = pictureRow r n; bar = noBar; labels = noLabels }
-contents r SoftKeys = record { answer = Done; owner = SoftKeys; codes = noCodes; columns = noColumns; bar = noBar; labels = labelsOf (r .panel) }
+contents r IconBar = record { number = Done; owner = IconBar; codes = noCodes; columns = noColumns; bar = barOf (r .settings); labels = noLabels }
+contents r (TextRow n) = record { number = Done; owner = TextRow n; codes = textRow r n; columns = noColumns; bar = noBar; labels = noLabels }
+contents r (PictureRow n) = record { number = Done; owner = PictureRow n; codes = noCodes; columns = pictureRow r n; bar = noBar; labels = noLabels }
+contents r SoftKeys = record { number = Done; owner = SoftKeys; codes = noCodes; columns = noColumns; bar = noBar; labels = labelsOf (r .settings) }
 
 -- The questions ---------------------------------------------------------------------------------------------------
 
--- number 1 for a field out of range, then 4 for a display row above 6: then it answers nothing
+-- number 1 for a field out of range, then 4 for a display row above 6: then it tells nothing
 unfoldable pub rowSeen : Record → ℕ → Row
 rowSeen r row =
     cond (not (inRange r)) (nothingSeen FieldOutOfRange)
@@ -83,10 +83,10 @@ rowSeen r row =
 
 unfoldable pub smsSeen : Record → SmsSeen
 smsSeen r =
-    cond (not (inRange r)) (record { answer = FieldOutOfRange; panel = Sms.Nothing })
-    (record { answer = Done; panel = smsPanel (r .panel .icons) })
+    cond (not (inRange r)) (record { number = FieldOutOfRange; panel = Sms.Nothing })
+    (record { number = Done; panel = smsPanel (r .settings .icons) })
 
 unfoldable pub volumeSeen : Record → VolumeSeen
 volumeSeen r =
-    cond (not (inRange r)) (record { answer = FieldOutOfRange; panel = Sound.Nothing })
-    (record { answer = Done; panel = volumePanel (r .panel .volume) })
+    cond (not (inRange r)) (record { number = FieldOutOfRange; panel = Sound.Nothing })
+    (record { number = Done; panel = volumePanel (r .settings .volume) })

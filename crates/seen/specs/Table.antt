@@ -83,11 +83,11 @@ abbrev pub atMostOne : Screen → Bool
 atMostOne s = every (λ (row : ℕ). leb (length (claims s row)) 1) displayRows
 
 -- On every record in range at most one sentence of the paper claims a row.
-pub one-claim : (r : Record) → inRange r ≡ true → atMostOne (r .panel .screen) ≡ true
+pub one-claim : (r : Record) → inRange r ≡ true → atMostOne (r .settings .screen) ≡ true
 unfolding covered underBar underLabels underText
 one-claim r h =
     let k = ranges r h in
-    let s = r .panel .screen in
+    let s = r .settings .screen in
     let at : ℕ → ℕ → Screen = λ mode overlay. withOverlay (withMode s mode) overlay in
     four (λ (overlay : ℕ). atMostOne (at (s .mode) overlay) ≡ true)
     (four (λ (mode : ℕ). atMostOne (at mode 0) ≡ true) refl refl refl refl (s .mode) (k .mode))

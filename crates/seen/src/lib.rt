@@ -1,5 +1,5 @@
 // What a person sees: the owner and the contents of each display row, and the two panels of the icon bar.
-// The definitions are document 01's "What is seen", in specs/ and, for the panels, in the crate panels. The cursor is no part of any answer.
+// The definitions are document 01's "What is seen", in specs/ and, for the panels, in the crate `seen_panels`. The cursor is no part of what is told.
 ghost use mathlib.Core.Path.{_≡_};
 ghost use mathlib.Core.Bool.{true};
 ghost use Prim.Native.Nat.{_+_, _≤_, _<_};
@@ -7,16 +7,16 @@ ghost use lib.ListN.{length};
 ghost use lib.Seq.{slice};
 ghost use Rattle.seen.specs.Places.{covered, underBar, underLabels, underText, firstTextRow, ownerOn, placed};
 ghost use Rattle.seen.specs.Rows.{rowOf, barOf, labelsOf, noColumns, nothingSeen, contents, rowSeen, smsSeen, volumeSeen};
-pub use panels::SmsPanel;
-pub use panels::VolumePanel;
-use panels::sms_panel;
-use panels::volume_panel;
-use ranges::in_range;
-use record::Answer;
 use record::Label;
-use record::Panel;
+use record::Number;
 use record::Record;
 use record::Screen;
+use record::Settings;
+use record_ranges::in_range;
+pub use seen_panels::SmsPanel;
+pub use seen_panels::VolumePanel;
+use seen_panels::sms_panel;
+use seen_panels::volume_panel;
 
 // Who owns a display row. The number is the text row or the picture row.
 pub enum Owner {
@@ -43,10 +43,10 @@ pub struct Labels {
     pub w: u8,
 }
 
-// The answer of the row question: codes for a text row, columns for a picture row, bar for the icon bar, labels for the soft
+// What the row question tells: codes for a text row, columns for a picture row, bar for the icon bar, labels for the soft
 // keys. What the owner does not use is zero.
 pub struct Row {
-    pub answer: Answer,
+    pub number: Number,
     pub owner: Owner,
     pub codes: [u8; 16],
     pub columns: [u8; 96],
@@ -55,12 +55,12 @@ pub struct Row {
 }
 
 pub struct SmsSeen {
-    pub answer: Answer,
+    pub number: Number,
     pub panel: SmsPanel,
 }
 
 pub struct VolumeSeen {
-    pub answer: Answer,
+    pub number: Number,
     pub panel: VolumePanel,
 }
 
@@ -70,13 +70,13 @@ pub fn sms_seen(r: Record) -> SmsSeen
     let ok = in_range(r);
     if !ok {
         return SmsSeen {
-            answer: Answer::FieldOutOfRange,
+            number: Number::FieldOutOfRange,
             panel: SmsPanel::Nothing,
         };
     }
-    let panel = sms_panel(r.panel.icons);
+    let panel = sms_panel(r.settings.icons);
     SmsSeen {
-        answer: Answer::Done,
+        number: Number::Done,
         panel: panel,
     }
 }
@@ -87,13 +87,13 @@ pub fn volume_seen(r: Record) -> VolumeSeen
     let ok = in_range(r);
     if !ok {
         return VolumeSeen {
-            answer: Answer::FieldOutOfRange,
+            number: Number::FieldOutOfRange,
             panel: VolumePanel::Nothing,
         };
     }
-    let panel = volume_panel(r.panel.volume);
+    let panel = volume_panel(r.settings.volume);
     VolumeSeen {
-        answer: Answer::Done,
+        number: Number::Done,
         panel: panel,
     }
 }
@@ -192,12 +192,12 @@ fn no_columns() -> [u8; 96]
     [0u8; 96]
 }
 
-fn nothing_seen(answer: Answer) -> Row
-    ensures { λ q. ⌜ q ≡ nothingSeen answer ⌝ }
+fn nothing_seen(number: Number) -> Row
+    ensures { λ q. ⌜ q ≡ nothingSeen number ⌝ }
 {
     let columns = no_columns();
     Row {
-        answer: answer,
+        number: number,
         owner: Owner::Nothing,
         codes: [0u8; 16],
         columns: columns,
@@ -222,7 +222,7 @@ fn nothing_seen(answer: Answer) -> Row
     }
 }
 
-fn bar_of(p: Panel) -> Bar
+fn bar_of(p: Settings) -> Bar
     ensures { λ bar. ⌜ bar ≡ barOf p ⌝ }
 {
     let sms = sms_panel(p.icons);
@@ -236,7 +236,7 @@ fn bar_of(p: Panel) -> Bar
     }
 }
 
-fn labels_of(p: Panel) -> Labels
+fn labels_of(p: Settings) -> Labels
     ensures { λ labels. ⌜ labels ≡ labelsOf p ⌝ }
 {
     let left = p.left;
@@ -252,11 +252,11 @@ fn contents_of(r: Record, owner: Owner) -> Row
     requires { ⌜ placed owner ≡ true ⌝ }
     ensures { λ q. ⌜ q ≡ contents r owner ⌝ }
 {
-    let empty = nothing_seen(Answer::Done);
+    let empty = nothing_seen(Number::Done);
     match owner {
         Owner::Nothing => empty,
         Owner::IconBar => {
-            let bar = bar_of(r.panel);
+            let bar = bar_of(r.settings);
             Row {
                 owner: Owner::IconBar,
                 bar: bar,
@@ -280,7 +280,7 @@ fn contents_of(r: Record, owner: Owner) -> Row
             }
         }
         Owner::SoftKeys => {
-            let labels = labels_of(r.panel);
+            let labels = labels_of(r.settings);
             Row {
                 owner: Owner::SoftKeys,
                 labels: labels,
@@ -296,11 +296,11 @@ pub fn row_seen(r: Record, row: u8) -> Row
 {
     let ok = in_range(r);
     if !ok {
-        return nothing_seen(Answer::FieldOutOfRange);
+        return nothing_seen(Number::FieldOutOfRange);
     }
     if 6 < row {
-        return nothing_seen(Answer::NotListed);
+        return nothing_seen(Number::NotListed);
     }
-    let owner = owner_of(r.panel.screen, row);
+    let owner = owner_of(r.settings.screen, row);
     contents_of(r, owner)
 }

@@ -262,7 +262,7 @@ fn draw_row(r: Record, row: u8) {
 }
 
 fn main() {
-    let heard = listen::hear(Record::power_on());
+    let heard = stream_input::hear(Record::power_on());
     let r = heard.record;
     top_edge();
     for row in 0..7 {

@@ -1,55 +1,273 @@
-// The stream call on a record by value: it lends the record's arrays to `reader` and puts the record together again.
+// The stream call: bytes in, the record and question marks out. It is the parting's run at the handset's meaning.
+// It is done on lent arrays, in place, so that a short call copies nothing large; `stream_by_value` has the same call on a record by value.
 ghost use mathlib.Core.Path.{_≡_};
-ghost use lib.ListN.{length};
-ghost use Rattle.reader.specs.Stream.{together, fedOf, answersAfter};
-use reader::Fed;
-use reader::Small;
-use record::Frame;
+ghost use Prim.Native.Nat.{_≤_, _<_, _+_};
+ghost use lib.ListN.{length, getD};
+ghost use Rattle.lists.specs.Codes.{blank};
+ghost use Rattle.stream.specs.Turns.{Stores};
+ghost use Rattle.stream.specs.Stream.{columnAfter, textAfter, together, lentOf, standing, fedOf, answersAfter, Ready, Closes, Reads};
+use effect::Obeyed;
+use record::Held;
+use record::Number;
 use record::Record;
+use record::Settings;
 
-// The record put together of its small fields and its arrays.
-pub fn whole(small: Small, text: [u8; 80], picture: [u8; 672], bytes: [u8; 250]) -> Record
-    ensures same { λ r. ⌜ r ≡ together small text picture bytes ⌝ }
+const ESCAPE: u8 = 0x1B;
+
+const CARRIAGE_RETURN: u8 = 0x0D;
+
+const BLANK: u8 = 0x20;
+
+// The three states of the record's frame.
+const NO_FRAME: u8 = 0;
+
+const OPEN: u8 = 1;
+
+const OVERLONG: u8 = 2;
+
+pub struct Fed {
+    pub number: Number,
+    pub record: Record,
+    pub used: usize,
+    pub written: usize,
+}
+
+// All of the record but its three arrays.
+pub struct Small {
+    pub settings: Settings,
+    pub held: Held,
+    pub state: u8,
+    pub len: u8,
+}
+
+// As Fed, where text, picture and the frame's bytes were lent.
+pub struct FedLent {
+    pub number: Number,
+    pub small: Small,
+    pub used: usize,
+    pub written: usize,
+}
+
+// What the loop leaves beside the lent arrays.
+struct AfterBytes {
+    settings: Settings,
+    state: u8,
+    len: usize,
+    used: usize,
+    written: usize,
+}
+
+fn wide(b: u8) -> usize
+    ensures { λ r. ⌜ r ≡ b ⌝ }
 {
-    let panel = small.panel;
-    let held = small.held;
-    Record {
-        panel: panel,
-        text: text,
-        picture: picture,
-        held: held,
-        frame: Frame {
-            state: small.state,
-            len: small.len,
-            bytes: bytes,
-        },
+    b as usize
+}
+
+// A text byte is stored at the cursor: the column after it. At column 16 it is dropped.
+fn store(text: &mut [u8; 80], row: u8, column: u8, b: u8) -> u8
+    requires { ⌜ (row < 5) × (column ≤ 16) ⌝ }
+    ensures { λ r. ⌜ (r ≡ columnAfter column) × (r ≤ 16) × (now (text .exit) ≡ textAfter (now (text .entry)) row column b) ⌝ }
+{
+    if column < 16 {
+        let at = wide(row) * 16 + wide(column);
+        text[at] = b;
+        return column + 1;
+    }
+    column
+}
+
+// Where a run of text bytes ends, and the column after it.
+struct Run {
+    at: usize,
+    column: u8,
+}
+
+// Stores the text byte at a place and all that follow it at once: most of a stream is text, and this loop is short.
+fn store_all(text: &mut [u8; 80], row: u8, column: u8, bytes: &[u8], from: usize) -> Run
+    requires { ⌜ (row < 5) × (column ≤ 16) × (from < length (now bytes)) × (blank ≤ getD (now bytes) from 0) ⌝ }
+    ensures { λ r. ⌜ (from < r .at) × (Stores row column (now (text .entry)) (now (bytes .entry)) from (r .at) (r .column) (now (text .exit))) ⌝ }
+{
+    let mut next = store(text, row, column, bytes[from]);
+    let mut i = from + 1;
+    while i < bytes.len() {
+        let b = bytes[i];
+        if b < BLANK {
+            return Run {
+                at: i,
+                column: next,
+            };
+        }
+        next = store(text, row, next, b);
+        i += 1;
+    }
+    Run {
+        at: i,
+        column: next,
     }
 }
 
-// The stream call, for any record at all.
-pub fn feed(r: Record, bytes: &[u8], answers: &mut [u8]) -> Fed
-    ensures same { λ f. ⌜ f ≡ fedOf r (now (bytes .entry)) (length (now (answers .entry))) ⌝ }
-    ensures buffer { λ f. ⌜ now (answers .exit) ≡ answersAfter r (now (bytes .entry)) (now (answers .entry)) ⌝ }
+// CR in a frame: a whole one is obeyed, if it is good. One that is not, and an overlong one, is to be asked about.
+fn close(
+    settings: Settings,
+    text: &mut [u8; 80],
+    picture: &mut [u8; 672],
+    frame: &[u8],
+    state: u8,
+) -> Obeyed
+    ensures { λ o. ⌜ Closes settings (now (text .entry)) (now (picture .entry)) state (now (frame .entry)) o (now (text .exit)) (now (picture .exit)) ⌝ }
 {
-    let panel = r.panel;
-    let mut text = r.text;
-    let mut picture = r.picture;
-    let held = r.held;
-    let kept = r.frame;
-    let mut frame = kept.bytes;
-    let small = Small {
-        panel: panel,
-        held: held,
-        state: kept.state,
-        len: kept.len,
-    };
-    let f = reader::feed_lent(small, &mut text, &mut picture, &mut frame, bytes, answers);
-    let answer = f.answer;
-    let after = f.small;
-    Fed {
-        answer: answer,
-        record: whole(after, text, picture, frame),
-        used: f.used,
-        written: f.written,
+    if state == OPEN {
+        return effect::obey(settings, text, picture, frame);
+    }
+    Obeyed {
+        settings: settings,
+        good: false,
+    }
+}
+
+// Reads bytes until they end or an answer has no room.
+fn read(
+    mut settings: Settings,
+    text: &mut [u8; 80],
+    picture: &mut [u8; 672],
+    frame: &mut [u8],
+    mut state: u8,
+    mut len: usize,
+    bytes: &[u8],
+    answers: &mut [u8],
+) -> AfterBytes
+    requires { ⌜ Ready settings (now text) (now picture) state len (now frame) ⌝ }
+    ensures { λ d. ⌜ Reads (standing settings (now (text .entry)) (now (picture .entry)) state len (now (frame .entry))) (now (bytes .entry)) (now (answers .entry)) d (now (text .exit)) (now (picture .exit)) (now (frame .exit)) (now (answers .exit)) ⌝ }
+{
+    let mut i = 0;
+    let mut w = 0;
+    while i < bytes.len() {
+        let b = bytes[i];
+        if state == NO_FRAME {
+            if BLANK <= b {
+                let run = store_all(text, settings.screen.row, settings.screen.column, bytes, i);
+                settings.screen.column = run.column;
+                i = run.at;
+                continue;
+            }
+            if b == ESCAPE {
+                state = OPEN;
+                i += 1;
+                continue;
+            }
+            i += 1;
+            continue;
+        }
+        if b == ESCAPE {
+            if w < answers.len() {
+                w = stream_places::ask(answers, w);
+                state = OPEN;
+                len = 0;
+                i += 1;
+                continue;
+            }
+            return AfterBytes {
+                settings: settings,
+                state: state,
+                len: len,
+                used: i,
+                written: w,
+            };
+        }
+        if b == CARRIAGE_RETURN {
+            let o = close(settings, text, picture, &frame[..len], state);
+            if o.good {
+                let obeyed = o.settings;
+                settings = obeyed;
+                state = NO_FRAME;
+                len = 0;
+                i += 1;
+                continue;
+            }
+            if w < answers.len() {
+                w = stream_places::ask(answers, w);
+                state = NO_FRAME;
+                len = 0;
+                i += 1;
+                continue;
+            }
+            return AfterBytes {
+                settings: settings,
+                state: state,
+                len: len,
+                used: i,
+                written: w,
+            };
+        }
+        if state == OVERLONG {
+            i += 1;
+            continue;
+        }
+        if len < 250 {
+            frame[len] = b;
+            len += 1;
+            i += 1;
+            continue;
+        }
+        state = OVERLONG;
+        len = 0;
+        i += 1;
+    }
+    AfterBytes {
+        settings: settings,
+        state: state,
+        len: len,
+        used: i,
+        written: w,
+    }
+}
+
+// The stream call on lent arrays, for any record at all.
+pub fn feed_lent(
+    small: Small,
+    text: &mut [u8; 80],
+    picture: &mut [u8; 672],
+    frame: &mut [u8; 250],
+    bytes: &[u8],
+    answers: &mut [u8],
+) -> FedLent
+    ensures same { λ f. ⌜ f ≡ lentOf (fedOf (together small (now (text .entry)) (now (picture .entry)) (now (frame .entry))) (now (bytes .entry)) (length (now (answers .entry)))) ⌝ }
+    ensures text { λ f. ⌜ now (text .exit) ≡ fedOf (together small (now (text .entry)) (now (picture .entry)) (now (frame .entry))) (now (bytes .entry)) (length (now (answers .entry))) .record .text ⌝ }
+    ensures picture { λ f. ⌜ now (picture .exit) ≡ fedOf (together small (now (text .entry)) (now (picture .entry)) (now (frame .entry))) (now (bytes .entry)) (length (now (answers .entry))) .record .picture ⌝ }
+    ensures frame { λ f. ⌜ now (frame .exit) ≡ fedOf (together small (now (text .entry)) (now (picture .entry)) (now (frame .entry))) (now (bytes .entry)) (length (now (answers .entry))) .record .frame .bytes ⌝ }
+    ensures buffer { λ f. ⌜ now (answers .exit) ≡ answersAfter (together small (now (text .entry)) (now (picture .entry)) (now (frame .entry))) (now (bytes .entry)) (now (answers .entry)) ⌝ }
+{
+    let settings = small.settings;
+    let held = small.held;
+    if record_ranges::in_range_lent(settings, text, picture, held, small.state, small.len, frame) {
+        let d = read(
+            settings,
+            text,
+            picture,
+            frame,
+            small.state,
+            wide(small.len),
+            bytes,
+            answers,
+        );
+        stream_places::empty_from(frame, d.len);
+        let after = d.settings;
+        return FedLent {
+            number: Number::Done,
+            small: Small {
+                settings: after,
+                held: held,
+                state: d.state,
+                len: d.len as u8,
+            },
+            used: d.used,
+            written: d.written,
+        };
+    }
+    FedLent {
+        number: Number::FieldOutOfRange,
+        small: small,
+        used: 0,
+        written: 0,
     }
 }

@@ -34,7 +34,7 @@ use libc::STDIN_FILENO;
 use libc::STDOUT_FILENO;
 use numeral::Numeral;
 use numeral::read_number;
-use record::Answer;
+use record::Number;
 use writer::Written;
 
 const BLANK: u8 = b' ';
@@ -131,9 +131,9 @@ fn help() -> Outcome {
 
 // What a writer wrote.
 fn send(room: &[u8], w: Written) -> Outcome {
-    let answer = w.answer;
+    let number = w.number;
     let n = w.count;
-    let Answer::Done = answer else {
+    let Number::Done = number else {
         return Outcome::OutOfRange;
     };
     if n <= room.len() {

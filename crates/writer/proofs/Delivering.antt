@@ -6,15 +6,15 @@ use mathlib.Core.Path.{_≡_, _∙_, ap}
 use lib.ListN.{length, drop}
 use borrow.Author.Tests.{le-leb, lt-leb}
 use Rattle.lists.specs.Codes.{escape, carriageReturn, lineFeed}
-use Rattle.record.specs.declared.Answer.the-variants.{Done, CommandOutOfRange, NoRoom}
+use Rattle.record.specs.declared.Number.the-variants.{Done, CommandOutOfRange, NoRoom}
 use Rattle.writer.specs.declared.Line.{Line}
 use Rattle.writer.specs.declared.Written.{Written}
 use Rattle.writer.specs.Writing.{frameOf, reply, writtenOf, roomAfter}
 use Rattle.writer.specs.Lines.{held, Added}
 
--- an answer and a room that are the right ones
+-- what is handed back and a room that are the right ones
 abbrev pub Right : Bool → List ℕ → List ℕ → Written → List ℕ → Type 0
-Right ok frame room answer after = (answer ≡ writtenOf ok frame room) × (after ≡ roomAfter ok frame room)
+Right ok frame room written after = (written ≡ writtenOf ok frame room) × (after ≡ roomAfter ok frame room)
 
 module _ (frame room : List ℕ) where
   pub refused : (ok : Bool) → ok ≡ false → Right ok frame room (reply CommandOutOfRange 0) room
@@ -37,6 +37,6 @@ framed {codes = codes} body e p f =
     ap (λ (x : List ℕ). x ++ carriageReturn ∷ lineFeed ∷ []) (p .holds ∙ ap (λ (x : List ℕ). x ++ codes) e ∙ ap (λ (x : List ℕ). escape ∷ x) f)
 
 -- a frame in range that was delivered
-pub delivered : (ok : Bool) (line body room : List ℕ) {answer : Written} {after : List ℕ} → ok ≡ true → line ≡ frameOf body
-    → Right true line room answer after → Right ok (frameOf body) room answer after
+pub delivered : (ok : Bool) (line body room : List ℕ) {written : Written} {after : List ℕ} → ok ≡ true → line ≡ frameOf body
+    → Right true line room written after → Right ok (frameOf body) room written after
 delivered ok line body room p e r = rw (p, ← e) r

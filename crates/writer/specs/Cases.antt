@@ -5,19 +5,19 @@ use mathlib.Core.List.{List, [], _∷_, _++_, map}
 use mathlib.Core.Path.{_≡_, refl}
 use lib.ListN.{length, replicate}
 use Rattle.lists.specs.Codes.{ascii, escape, carriageReturn, lineFeed}
-use Rattle.record.specs.Answer.{numberOf}
+use Rattle.record.specs.Number.{paperNumber}
 use Rattle.picture.specs.Writing.{hexCode, itemText}
 use Rattle.command.specs.InRange.{commandInRange, mostRows}
 use Rattle.command.specs.declared.Command.{Command}
 use Rattle.command.specs.declared.Command.the-variants.{DisplayOn, Mode, Position, LabelsEmpty, IconU, IconP, HandsfreeOfNote, KeyTimes, Light, LightOn, KeypadSet}
 use Rattle.command.specs.declared.Side.{Side}
 use Rattle.command.specs.declared.Side.the-variants.{Left, Right}
-use Rattle.fitting.specs.Fitting.{isLabel, isRow}
+use Rattle.writer_ranges.specs.Fitting.{isLabel, isRow}
 use Rattle.writer.specs.Writing.{bodyOf, labelBody, rowBody, frameOf, writtenOf, roomAfter}
 
 -- the number handed back, the count, and then all that stands in the room
 abbrev seen : Bool → List ℕ → List ℕ → List ℕ
-seen ok frame room = numberOf (writtenOf ok frame room .answer) ∷ writtenOf ok frame room .count ∷ roomAfter ok frame room
+seen ok frame room = paperNumber (writtenOf ok frame room .number) ∷ writtenOf ok frame room .count ∷ roomAfter ok frame room
 
 -- a room of so many marks
 abbrev mark : ℕ

@@ -11,8 +11,8 @@ use borrow.Author.Tests.{leb-true}
 use Rattle.lists.specs.Both.{both}
 use Rattle.lists.specs.Every.{every}
 use Rattle.record.specs.Range.{isCode}
-use Rattle.record.specs.declared.Answer.the-variants.{Done, CommandOutOfRange, NoRoom}
-use Rattle.fitting.specs.Fitting.{isLabel, isRow}
+use Rattle.record.specs.declared.Number.the-variants.{Done, CommandOutOfRange, NoRoom}
+use Rattle.writer_ranges.specs.Fitting.{isLabel, isRow}
 use Rattle.writer.specs.Writing.{reply, writtenOf, roomAfter}
 
 pub label-told : (codes : List ℕ) → isLabel codes ≡ true → (length codes ≤ 7) × (every isCode codes ≡ true)
@@ -31,13 +31,13 @@ row-told row columns h =
     let v = both (w .0) in
     record { least = leb-true 1 (length columns) (v .0); most = leb-true (length columns) 96 (v .1); low = leb-true row 6 (w .1) }
 
--- Where a writer answers 0, the order was in range, the first count bytes of the room are the frame, and the others are as they were.
-pub done-told : (ok : Bool) (frame room : List ℕ) → writtenOf ok frame room .answer ≡ Done
+-- Where a writer ends with number 0, the order was in range, the first count bytes of the room are the frame, and the others are as they were.
+pub done-told : (ok : Bool) (frame room : List ℕ) → writtenOf ok frame room .number ≡ Done
     → (ok ≡ true) × (take (writtenOf ok frame room .count) (roomAfter ok frame room) ≡ frame) × (drop (writtenOf ok frame room .count) (roomAfter ok frame room) ≡ drop (length frame) room)
 unfolding writtenOf roomAfter
 done-told ok frame room h = cases ok (leb (length frame) (length room)) h
   where
-    cases : (inside fits : Bool) → cond inside (cond fits (reply Done (length frame)) (reply NoRoom 0)) (reply CommandOutOfRange 0) .answer ≡ Done
+    cases : (inside fits : Bool) → cond inside (cond fits (reply Done (length frame)) (reply NoRoom 0)) (reply CommandOutOfRange 0) .number ≡ Done
         → (inside ≡ true)
         × (take (cond inside (cond fits (reply Done (length frame)) (reply NoRoom 0)) (reply CommandOutOfRange 0) .count) (cond inside (cond fits (frame ++ drop (length frame) room) room) room) ≡ frame)
         × (drop (cond inside (cond fits (reply Done (length frame)) (reply NoRoom 0)) (reply CommandOutOfRange 0) .count) (cond inside (cond fits (frame ++ drop (length frame) room) room) room) ≡ drop (length frame) room)

@@ -24,7 +24,7 @@ use Rattle.command.specs.declared.Command.{Command}
 use Rattle.command.specs.declared.Command.the-variants.{DisplayOff, DisplayOn, Mode, CursorShown, CursorHidden, Clear, Position, LabelsEmpty, IconS, IconU, IconF, IconR, IconP, IconW, Private, Handsfree, HandsfreeOfNote, Mute, KeyTimes, Buzzer, Light, LightOn, LightAutoStart, LightAuto, DefaultDuration, KeypadSet, KeypadCleared}
 use Rattle.command.specs.declared.Side.{Side}
 use Rattle.command.specs.declared.Side.the-variants.{Left, Right}
-use Rattle.fitting.specs.Fitting.{isLabel, isRow}
+use Rattle.writer_ranges.specs.Fitting.{isLabel, isRow}
 use Rattle.writer.specs.Writing.{bodyOf, labelBody, rowBody, frameOf}
 use Rattle.writer.specs.Laws.{label-told, row-told}
 use Rattle.writer.specs.Plain.{first-and-others, spells-within}

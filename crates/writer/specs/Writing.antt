@@ -6,8 +6,8 @@ use mathlib.Core.List.{List, [], _∷_, _++_}
 use lib.Dec.{leb}
 use lib.ListN.{length, drop}
 use Rattle.lists.specs.Codes.{ascii, escape, carriageReturn, lineFeed}
-use Rattle.record.specs.declared.Answer.{Answer}
-use Rattle.record.specs.declared.Answer.the-variants.{Done, CommandOutOfRange, NoRoom}
+use Rattle.record.specs.declared.Number.{Number}
+use Rattle.record.specs.declared.Number.the-variants.{Done, CommandOutOfRange, NoRoom}
 use Rattle.numeral.specs.Spelt.{digitCode}
 use Rattle.numeral.specs.Numeral.{decimal}
 use Rattle.picture.specs.Writing.{encode}
@@ -62,8 +62,8 @@ frameOf body = escape ∷ (body ++ carriageReturn ∷ lineFeed ∷ [])
 -- What is handed back, and what then stands in the room: first 2, then 3; nothing is written then ------------------
 -- what is in range: a command by commandInRange mostRows, a label by isLabel, a picture row by isRow
 
-abbrev pub reply : Answer → ℕ → Written
-reply answer count = record { answer = answer; count = count }
+abbrev pub reply : Number → ℕ → Written
+reply number count = record { number = number; count = count }
 
 unfoldable pub writtenOf : Bool → List ℕ → List ℕ → Written
 writtenOf inRange frame room =

@@ -10,17 +10,17 @@ ghost use Rattle.lists.specs.Codes.{escape, carriageReturn, lineFeed};
 ghost use Rattle.numeral.specs.Numeral.{decimal};
 ghost use Rattle.picture.specs.Writing.{encode};
 ghost use Rattle.command.specs.InRange.{commandInRange, mostRows};
-ghost use Rattle.fitting.specs.Fitting.{isLabel, isRow};
+ghost use Rattle.writer_ranges.specs.Fitting.{isLabel, isRow};
 ghost use Rattle.writer.specs.Writing.{bodyOf, labelBody, rowBody, frameOf, writtenOf, roomAfter};
 ghost use Rattle.writer.specs.Lines.{held, Added, planBody};
 use command::Command;
 use command::Side;
-use encoding::write_data;
-use fitting::label_in_range;
-use fitting::row_in_range;
-use limits::in_range;
+use command_ranges::in_range;
 use numeral::digits_of;
-use record::Answer;
+use picture_writer::write_data;
+use record::Number;
+use writer_ranges::label_in_range;
+use writer_ranges::row_in_range;
 
 const ESCAPE: u8 = 0x1B;
 
@@ -33,7 +33,7 @@ const MOST_ROWS: u8 = 5;
 
 // How a writer ended, and how many bytes of the room it wrote.
 pub struct Written {
-    pub answer: Answer,
+    pub number: Number,
     pub count: usize,
 }
 
@@ -205,13 +205,13 @@ fn deliver(line: Line, room: &mut [u8]) -> Written
     let n = frame.len;
     if room.len() < n {
         return Written {
-            answer: Answer::NoRoom,
+            number: Number::NoRoom,
             count: 0,
         };
     }
     copy(frame, room);
     Written {
-        answer: Answer::Done,
+        number: Number::Done,
         count: n,
     }
 }
@@ -225,7 +225,7 @@ pub fn write_command(c: Command, room: &mut [u8]) -> Written
         return deliver(add_plan(opened(), plan_of(c)), room);
     }
     Written {
-        answer: Answer::CommandOutOfRange,
+        number: Number::CommandOutOfRange,
         count: 0,
     }
 }
@@ -239,7 +239,7 @@ pub fn write_label(side: Side, codes: &[u8], room: &mut [u8]) -> Written
         return deliver(add_label(opened(), side, codes), room);
     }
     Written {
-        answer: Answer::CommandOutOfRange,
+        number: Number::CommandOutOfRange,
         count: 0,
     }
 }
@@ -253,7 +253,7 @@ pub fn write_picture_row(row: u8, columns: &[u8], room: &mut [u8]) -> Written
         return deliver(add_row(opened(), row, columns), room);
     }
     Written {
-        answer: Answer::CommandOutOfRange,
+        number: Number::CommandOutOfRange,
         count: 0,
     }
 }

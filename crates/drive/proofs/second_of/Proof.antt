@@ -41,20 +41,20 @@ use denote.Triple.Spec.{Meets, tripleOf}
 use denote.Triple.Statement.{Contract, Triple}
 use denote.Triple.Table.{entered, cited}
 use denote.Triple.Walked.{says, Stays, stay-none, walkOf, goes-none, Walks, ends-at, walked, walk-meets}
-use Rattle.record.specs.declared.Answer.{Answer}
+use Rattle.record.specs.declared.Number.{Number}
 use Rattle.record.specs.declared.Backlight.{Backlight}
 use Rattle.record.proofs.Backlight as T
 use Rattle.record.proofs.Backlight.Laws as T′
-use Rattle.record.proofs.Answer as N
-use Rattle.record.proofs.Answer.Laws as N′
-use Rattle.light.specs.Seconds.{lightPassed}
-use Rattle.light.specs.declared.LightPassed.{LightPassed}
-use Rattle.light.proofs.LightPassed as L
-use Rattle.light.proofs.LightPassed.Laws as L′
-use Rattle.light.proofs.second_in_place as callee
-use Rattle.light.proofs.second_in_place.Symbol as callee-def
-use Rattle.light.proofs.second_in_place.Symbol.{name as #light·second-in-place}
-use Rattle.light.proofs.second_in_place.Met as callee-thm
+use Rattle.record.proofs.Number as N
+use Rattle.record.proofs.Number.Laws as N′
+use Rattle.seconds.specs.Seconds.{lightPassed}
+use Rattle.seconds.specs.declared.LightPassed.{LightPassed}
+use Rattle.seconds.proofs.LightPassed as L
+use Rattle.seconds.proofs.LightPassed.Laws as L′
+use Rattle.seconds.proofs.second_in_place as callee
+use Rattle.seconds.proofs.second_in_place.Symbol as callee-def
+use Rattle.seconds.proofs.second_in_place.Symbol.{name as #seconds·second-in-place}
+use Rattle.seconds.proofs.second_in_place.Met as callee-thm
 use Rattle.drive.proofs.second_of.Key.{name as #drive·second-of}
 use Rattle.drive.proofs.second_of as f
 use Rattle.drive.proofs.second_of.Statement as stated
@@ -63,17 +63,17 @@ use Rattle.drive.proofs.second_of.Code as code
 abbrev stayed : Stays (f.ended .signature .params) (f.ended .kept)
 stayed = (stay-none (λ _. T.the-row) yes, tt)
 
--- how a backlight, an answer's name and the two together stand in memory
+-- how a backlight, a number's name and the two together stand in memory
 abbrev light-vals : Backlight → List Val
 light-vals = LL.vals T.the-type T′.the-laws
 
 abbrev passed-vals : LightPassed → List Val
 passed-vals = LL.vals L.the-type L′.the-laws
 
-abbrev put-together : Answer → Backlight → LightPassed
-put-together a w = record { answer = a; backlight = w }
+abbrev put-together : Number → Backlight → LightPassed
+put-together a w = record { number = a; backlight = w }
 
-are-together : (a : Answer) (w : Backlight) {vs us : List Val} → Is N.the-row a vs → Is T.the-row w us → Is L.the-row (put-together a w) (passed-vals (put-together a w))
+are-together : (a : Number) (w : Backlight) {vs us : List Val} → Is N.the-row a vs → Is T.the-row w us → Is L.the-row (put-together a w) (passed-vals (put-together a w))
 are-together a w {vs} {us} is held =
     LL.owes L.the-type L′.the-laws (put-together a w)
     (subst (λ (l : List Val). Is N.the-row a l) (EL.tells N.the-type N′.the-laws a vs is) is, (subst (λ (l : List Val). Is T.the-row w l) (LL.tells T.the-type T′.the-laws w us held) held, tt))
@@ -91,10 +91,10 @@ module _ {M : Type 1} (𝓤 : URA M) (H : Heap 𝓤) (A : Atoms 𝓤) (W : Given
   abbrev Post : Val → SProp 𝓤
   Post = walkOf 𝓤 H A f.ended stayed (f.clauses 𝓤 H A at-mem run) .post ((tt, tt, tt, (h, tt), (light-vals h, tt)), tt)
 
-  exits : (a : Answer) → a ≡ lightPassed h .answer → Is L.the-row (put-together a w) (passed-vals (put-together a w)) → ent 𝓤 (sem 𝓤 H A (T.the-row .own h (light-vals h))) (Post (only (passed-vals (put-together a w))))
+  exits : (a : Number) → a ≡ lightPassed h .number → Is L.the-row (put-together a w) (passed-vals (put-together a w)) → ent 𝓤 (sem 𝓤 H A (T.the-row .own h (light-vals h))) (Post (only (passed-vals (put-together a w))))
   exits a e is =
       qed W (‵ (T.the-row .own h (light-vals h)) ∷ []) ∵
-      suffices ! _ (ends-at 𝓤 H A f.ended stayed (f.clauses 𝓤 H A at-mem run) W ((tt, tt, tt, (h, tt), (light-vals h, tt)), tt) (only (passed-vals (put-together a w))) (put-together a w) (tt, tt) (tt, tt)) $ says ! (ap (λ (n : Answer). put-together n w) e) $
+      suffices ! _ (ends-at 𝓤 H A f.ended stayed (f.clauses 𝓤 H A at-mem run) W ((tt, tt, tt, (h, tt), (light-vals h, tt)), tt) (only (passed-vals (put-together a w))) (put-together a w) (tt, tt) (tt, tt)) $ says ! (ap (λ (n : Number). put-together n w) e) $
       nothing ! $ move ! (1 ∷ 0 ∷ []) $ fjoin ! $ owned ! L.the-row (Is L.the-row) (LL.makes L.the-type L′.the-plain 𝓤 H A) (put-together a w) _ is $ move ! (1 ∷ 0 ∷ []) $ nothing ! $ done !
 
   -- a backlight lies in memory, and is taken out again
@@ -124,17 +124,17 @@ module _ {M : Type 1} (𝓤 : URA M) (H : Heap 𝓤) (A : Atoms 𝓤) (W : Given
         qed W (‵ (flft (α ∷ []) fullShare) ∷ ‵ (MutRef (named 0) (α ∷ []) T.the-row .own (x .0) (vptr l 0 ∷ [])) ∷ []) ∵
         nothing ! $ nothing ! $ move ! (2 ∷ 0 ∷ []) $ join ! $ move ! (2 ∷ 1 ∷ []) $ join ! $ move ! (1 ∷ 0 ∷ []) $ join ! $ frame ! $ done !
 
-    -- what it ensures: the last value of the reference, and the answer's name
-    told : (a : Answer) → ent 𝓤 (ensured 𝓤 H A callee.ended (callee.clauses 𝓤 H A at-mem run) (α ∷ [], tt) x tt a) (sep 𝓤 (A .res δ (T.the-row .coded .code w)) (fact 𝓤 (a ≡ lightPassed h .answer)))
+    -- what it ensures: the last value of the reference, and the number's name
+    told : (a : Number) → ent 𝓤 (ensured 𝓤 H A callee.ended (callee.clauses 𝓤 H A at-mem run) (α ∷ [], tt) x tt a) (sep 𝓤 (A .res δ (T.the-row .coded .code w)) (fact 𝓤 (a ≡ lightPassed h .number)))
     told a = exE 𝓤 _ (λ ws.
         let Ls : SProp 𝓤 = sem 𝓤 H A (lasts callee.ended (α ∷ [], tt) x ws) in
-        let E : SProp 𝓤 = fact 𝓤 ((a ≡ lightPassed h .answer) × (ws .0 ≡ w)) in
-        fact-use 𝓤 ((a ≡ lightPassed h .answer) × (ws .0 ≡ w)) (snd∗ 𝓤 Ls E) (λ e.
+        let E : SProp 𝓤 = fact 𝓤 ((a ≡ lightPassed h .number) × (ws .0 ≡ w)) in
+        fact-use 𝓤 ((a ≡ lightPassed h .number) × (ws .0 ≡ w)) (snd∗ 𝓤 Ls E) (λ e.
         via 𝓤 Ls (fst∗ 𝓤 Ls E)
-        (subst (λ (u : Backlight). ent 𝓤 Ls (sep 𝓤 (A .res δ (T.the-row .coded .code u)) (fact 𝓤 (a ≡ lightPassed h .answer)))) (e .1)
+        (subst (λ (u : Backlight). ent 𝓤 Ls (sep 𝓤 (A .res δ (T.the-row .coded .code u)) (fact 𝓤 (a ≡ lightPassed h .number)))) (e .1)
         (qed W (‵ (lasts callee.ended (α ∷ [], tt) x ws) ∷ []) ∵ says ! (e .0) $ fsplit ! $ keep ! (0 ∷ []) $ done !))))
 
-  module _ (C : Calls 𝓤 H) (Λ : Loops 𝓤 H) (fm : FmC 𝓤 H (W .laws) C) (known : Triple 𝓤 (C #light·second-in-place) (Entry 𝓤 H A at-mem run)) where
+  module _ (C : Calls 𝓤 H) (Λ : Loops 𝓤 H) (fm : FmC 𝓤 H (W .laws) C) (known : Triple 𝓤 (C #seconds·second-in-place) (Entry 𝓤 H A at-mem run)) where
     walk : Is T.the-row h (light-vals h) → Holds (hasTy T′.mir (only (light-vals h))) × WT (only (light-vals h)) → ent 𝓤 (onEntry 𝓤 H A f.signature tt tt (h, tt) (light-vals h, tt)) (WpFn 𝓤 H C Λ code.function (light-vals h) Post)
     walk g wt =
         qed W (‵ ftrue ∷ ‵ (owns (T.the-row ∷ []) (h, tt) (light-vals h, tt)) ∷ []) ∵ enter ! C Λ code.function (light-vals h) _ $
@@ -148,10 +148,10 @@ module _ {M : Type 1} (𝓤 : URA M) (H : Heap 𝓤) (A : Atoms 𝓤) (W : Given
         use1 W (later (some (λ (δ : GName). ‵ (MutRef (named 0) (α ∷ []) T.the-row .own (record { ptr = (l₂, 0); name = δ; now = h }) (vptr l₂ 0 ∷ [])) ⊛ ‵ (flent (α ∷ []) (Body (mem T.the-row) l₂ 0 δ))))) (lends-ref 𝓤 H A W T.the-row (named 0) (α ∷ []) h l₂ 0) $
         await ! tt $ pick ! (λ δ. split ! $ move ! (2 ∷ 0 ∷ []) $ use2 W (raw (Entry 𝓤 H A at-mem run .pre (to-entry α l₂ δ))) (goes-in α l₂ δ) $
         calls-at ! fm (Entry 𝓤 H A at-mem run) known (to-entry α l₂ δ) (and-then ! (load ! (from ! (stop !)) (look ! 4 refl)) (no-more !)) (λ v.
-        use1 W (later (some (λ (a : Answer). ((‵ (flft (α ∷ []) fullShare) ⊛ ‵ ftrue) ⊛ ‵ (N.the-row .own a (v ∷ []))) ⊛ raw (ensured 𝓤 H A callee.ended (callee.clauses 𝓤 H A at-mem run) (α ∷ [], tt) (x α l₂ δ) tt a)))) (id⊢ 𝓤 _) $ await ! tt $ pick ! (λ a.
-        split ! $ move ! (1 ∷ []) $ use1 W (‵ (fres δ (T.the-row .coded .code w)) ⊛ raw (fact 𝓤 (a ≡ lightPassed h .answer))) (told α l₂ δ a) $ split ! $ move ! (1 ∷ []) $ heard ! (a ≡ lightPassed h .answer) (λ e.
+        use1 W (later (some (λ (a : Number). ((‵ (flft (α ∷ []) fullShare) ⊛ ‵ ftrue) ⊛ ‵ (N.the-row .own a (v ∷ []))) ⊛ raw (ensured 𝓤 H A callee.ended (callee.clauses 𝓤 H A at-mem run) (α ∷ [], tt) (x α l₂ δ) tt a)))) (id⊢ 𝓤 _) $ await ! tt $ pick ! (λ a.
+        split ! $ move ! (1 ∷ []) $ use1 W (‵ (fres δ (T.the-row .coded .code w)) ⊛ raw (fact 𝓤 (a ≡ lightPassed h .number))) (told α l₂ δ a) $ split ! $ move ! (1 ∷ []) $ heard ! (a ≡ lightPassed h .number) (λ e.
         move ! (1 ∷ []) $ split ! $ split ! $ move ! (2 ∷ []) $
-        -- [the answer; the token; true; the last value; the lender's part; _5; …; _4; …; room for _3; …]
+        -- [the number; the token; true; the last value; the lender's part; _5; …; _4; …; room for _3; …]
         peeks ! N.the-row (Is N.the-row) (shows 𝓤 H A N.the-row) a (v ∷ []) (λ is.
         land ! (from ! (stop !)) (init ! 9 refl (EL.lawful N.the-type N′.the-laws 𝓤 H A W tt .typed a _ is .0)) $ rewrite ! 9 (λ (u : Val). ‵ (fat fullShare N′.mir l₃ 0 u)) (ap only (EL.tells N.the-type N′.the-laws a (v ∷ []) is)) refl $ drop ! $
         -- the lifetime is ended, and the local is taken back at its last value
@@ -166,11 +166,11 @@ module _ {M : Type 1} (𝓤 : URA M) (H : Heap 𝓤) (A : Atoms 𝓤) (W : Given
         keep ! (2 ∷ []) $ fsplit ! $ keep ! (0 ∷ []) $ by ! (exits a e (are-together a w is held)))))))))))))))
 
 module _ {M : Type 1} (𝓤 : URA M) (H : Heap 𝓤) (A : Atoms 𝓤) (W : Given 𝓤 H A) (at-mem : Memory → SProp 𝓤) (run : Routine → Fun 𝓤) where
-  second-walks : (C : Calls 𝓤 H) (Λ : Loops 𝓤 H) → FmC 𝓤 H (W .laws) C → Triple 𝓤 (C #light·second-in-place) (Entry 𝓤 H A at-mem run) → Walks 𝓤 H A f.ended stayed (WpFn 𝓤 H C Λ code.function) (f.clauses 𝓤 H A at-mem run)
+  second-walks : (C : Calls 𝓤 H) (Λ : Loops 𝓤 H) → FmC 𝓤 H (W .laws) C → Triple 𝓤 (C #seconds·second-in-place) (Entry 𝓤 H A at-mem run) → Walks 𝓤 H A f.ended stayed (WpFn 𝓤 H C Λ code.function) (f.clauses 𝓤 H A at-mem run)
   second-walks C Λ fm known = walked 𝓤 H A f.ended stayed (f.clauses 𝓤 H A at-mem run) (WpFn 𝓤 H C Λ code.function) (λ κs. (light-vals, tt)) (λ κs. (LL.tells T.the-type T′.the-laws, tt))
       (λ κs qs bounds a g are. via 𝓤 _ (fst∗ 𝓤 _ (emp 𝓤)) (walk 𝓤 H A W at-mem run (a .0) C Λ fm known (are .0) (LL.lawful T.the-type T′.the-laws 𝓤 H A W .typed (a .0) _ (are .0) .0)))
 
-second-meets : {M : Type 1} (𝓤 : URA M) (H : Heap 𝓤) (A : Atoms 𝓤) (W : Given 𝓤 H A) (at-mem : Memory → SProp 𝓤) (run : Routine → Fun 𝓤) (𝓣 : Tables 𝓤 H) → Triple 𝓤 (𝓣 .C #light·second-in-place) (Entry 𝓤 H A at-mem run)
+second-meets : {M : Type 1} (𝓤 : URA M) (H : Heap 𝓤) (A : Atoms 𝓤) (W : Given 𝓤 H A) (at-mem : Memory → SProp 𝓤) (run : Routine → Fun 𝓤) (𝓣 : Tables 𝓤 H) → Triple 𝓤 (𝓣 .C #seconds·second-in-place) (Entry 𝓤 H A at-mem run)
     → Meets 𝓤 H A f.signature (WpFn 𝓤 H (𝓣 .C) (𝓣 .Λ) code.function) (f.spec 𝓤 H A at-mem run)
 second-meets 𝓤 H A W at-mem run 𝓣 known = walk-meets 𝓤 H A f.ended stayed W (goes-none 𝓤 H A W 0 (λ _. T.the-row) yes (λ κs x f. refl), tt) (f.clauses 𝓤 H A at-mem run) (WpFn 𝓤 H (𝓣 .C) (𝓣 .Λ) code.function) (WpFn-mono 𝓤 H (W .laws) 𝓣 code.function) (second-walks 𝓤 H A W at-mem run (𝓣 .C) (𝓣 .Λ) (fmOf 𝓤 H (W .laws) 𝓣) known)
 
@@ -180,4 +180,4 @@ second-of-spec 𝓤 H 𝓜 𝓖 𝓡 =
     entered 𝓤 H (tripleOf 𝓤 H (𝓖 .A) f.signature (f.spec 𝓤 H (𝓖 .A) (𝓜 .mem) (𝓡 .run)))
     (tables 𝓤 H 𝓜 𝓡 code.env .C) (tables 𝓤 H 𝓜 𝓡 code.env .Λ) #drive·second-of code.function (code.unfolded 𝓤 H 𝓜 𝓡)
     (second-meets 𝓤 H (𝓖 .A) (givenOf 𝓤 H 𝓜 𝓖) (𝓜 .mem) (𝓡 .run) (tablesOf 𝓤 H 𝓜 (tables 𝓤 H 𝓜 𝓡 code.env))
-    (cited 𝓤 H (Entry 𝓤 H (𝓖 .A) (𝓜 .mem) (𝓡 .run)) 𝓜 𝓡 code.env #light·second-in-place callee-def.routine code.calls-light·second-in-place (callee-thm.met 𝓤 H 𝓜 𝓖 𝓡)))
+    (cited 𝓤 H (Entry 𝓤 H (𝓖 .A) (𝓜 .mem) (𝓡 .run)) 𝓜 𝓡 code.env #seconds·second-in-place callee-def.routine code.calls-seconds·second-in-place (callee-thm.met 𝓤 H 𝓜 𝓖 𝓡)))

@@ -25,7 +25,7 @@ returns-2 c =
     obeys
     (a-drawing (c .before .before .before .before .before .before .before .before .before .args .frame .now) (c .before .before .before .before .before .before .before .opens-picture .ensures) (c .before .before .before .before .before .read-picture .result) (c .before .before .before .before .before .before .if1 .taken) (c .before .before .before .before .before .read-picture .ensures) (c .before .before .if2 .left))
     refl
-    (row-drawn (core (c .before .before .before .before .before .before .before .before .before .args .panel) (c .before .before .before .before .before .before .before .before .before .args .text .now) (c .before .before .before .before .before .before .before .before .before .args .picture .now)) _ (c .before .before .before .before .before .read-picture .result .row) _ (c .draw .ensures))
+    (row-drawn (core (c .before .before .before .before .before .before .before .before .before .args .settings) (c .before .before .before .before .before .before .before .before .before .args .text .now) (c .before .before .before .before .before .before .before .before .before .args .picture .now)) _ (c .before .before .before .before .before .read-picture .result .row) _ (c .draw .ensures))
 
 read-command-requires : tie.Need-read-command-requires
 read-command-requires c κs = search needs

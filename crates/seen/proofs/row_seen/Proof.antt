@@ -32,7 +32,7 @@ owner-of-requires c κs = search needs
 contents-of-requires : tie.Need-contents-of-requires
 contents-of-requires c κs =
     let told = c .before .before .before .before .args in
-    rw (c .owner-of .ensures) (owner-placed (told .r .panel .screen) (told .row) 0 (omega (arith, c .before .if2 .left)))
+    rw (c .owner-of .ensures) (owner-placed (told .r .settings .screen) (told .row) 0 (omega (arith, c .before .if2 .left)))
 
 returns-3 : tie.Need-returns-3
 unfolding rowSeen

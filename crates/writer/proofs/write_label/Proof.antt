@@ -2,7 +2,7 @@
 use native.Mathlib.Omega.{arith}
 use mathlib.Core.Path.{refl, sym, _∙_}
 use denote.Ref.{now}
-use Rattle.fitting.specs.Fitting.{isLabel}
+use Rattle.writer_ranges.specs.Fitting.{isLabel}
 use Rattle.writer.specs.Writing.{labelBody, frameOf}
 use Rattle.writer.specs.Laws.{label-told}
 use Rattle.writer.proofs.Delivering.{refused, framed, delivered}

@@ -1,0 +1,14 @@
+-- Level 0 hides, another level shows. Assumes nothing.
+use native.Mathlib.Omega.{arith}
+use borrow.Author.Tests.{ne-eqb}
+use Rattle.effect_modes.proofs.at_level.Statement.{statement}
+use Rattle.effect_modes.proofs.at_level.Tie as tie
+
+returns : tie.Need-returns
+returns c = rw (c .match .keys1)
+
+returns-2 : tie.Need-returns-2
+returns-2 c = rw (ne-eqb (c .before .args .n) 0 (λ e. omega arith))
+
+pub at-level-spec : {M : Type 1} → statement M
+at-level-spec = tie.close (tie.spec returns returns-2)

@@ -1,0 +1,59 @@
+-- `key_entry::all_listed` keeps its promise. Assumes nothing.
+use mathlib.Core.Path.{_≡_, refl, sym, ap, _∙_}
+use mathlib.Core.Bool.{_&&_}
+use Prim.Native.Nat.{_≤_, _-_}
+use native.Mathlib.Omega.{arith}
+use lib.ListN.{length}
+use lib.Seq.{slice, take-length}
+use Rattle.lists.specs.Every.{every, scan-on, scan-end}
+use Rattle.key_entry.specs.Rules.{listed}
+use borrow.Author.Needs.{needs}
+use Rattle.key_entry.proofs.all_listed.Statement.{statement}
+use Rattle.key_entry.proofs.all_listed.Tie as tie
+
+abbrev Inv-loop : tie.InvT-loop
+Inv-loop edges ok₀ i₀ ok i = (i ≤ length edges) × (every listed (slice 0 (length edges) edges) ≡ (ok && every listed (slice i (length edges) edges)))
+
+abbrev μ-loop : tie.MeasureT-loop
+μ-loop edges ok₀ i₀ ok i = length edges - i
+
+loop-holds : tie.Need-loop-holds Inv-loop μ-loop
+loop-holds c = (omega arith, refl)
+
+shared-slice-read-is-listed : tie.Need-shared-slice-read-is-listed Inv-loop μ-loop
+shared-slice-read-is-listed c = search needs
+
+is-listed-requires : tie.Need-is-listed-requires Inv-loop μ-loop
+is-listed-requires c κs = search needs
+
+add-i : tie.Need-add-i Inv-loop μ-loop
+add-i c = search needs
+
+loop-less : tie.Need-loop-less Inv-loop μ-loop
+loop-less c = search needs
+
+loop-again : tie.Need-loop-again Inv-loop μ-loop
+loop-again c =
+    let edges = c .before .before .before .before .before .args .edges .now in
+    let loop = c .before .before .before .loop in
+    (omega arith, loop .inv .1 ∙ scan-on listed edges (loop .i) (length edges) (loop .ok) (c .is-listed .result) (omega arith) (omega arith) (c .is-listed .ensures))
+
+returns : tie.Need-returns Inv-loop μ-loop
+returns c =
+    let edges = c .before .before .before .args .edges .now in
+    let loop = c .before .loop in
+    sym (ap (every listed) (sym (take-length edges)) ∙ loop .inv .1 ∙ scan-end listed edges (loop .i) (length edges) (loop .ok) (loop .inv .0) (omega (arith, c .loop-test .left)))
+
+pub all-listed-spec : {M : Type 1} → statement M
+all-listed-spec =
+    tie.close
+    (tie.spec
+    Inv-loop
+    μ-loop
+    loop-holds
+    shared-slice-read-is-listed
+    is-listed-requires
+    add-i
+    loop-less
+    loop-again
+    returns)

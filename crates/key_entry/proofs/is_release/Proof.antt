@@ -1,0 +1,13 @@
+-- `key_entry::is_release` keeps its promise. Assumes nothing.
+use borrow.Author.Tests.{le-leb, lt-leb}
+use Rattle.key_entry.proofs.is_release.Statement.{statement}
+use Rattle.key_entry.proofs.is_release.Tie as tie
+
+returns : tie.Need-returns
+returns c = simp (lt-leb _ _ (c .if1 .taken))
+
+returns-2 : tie.Need-returns-2
+returns-2 c = simp (le-leb _ _ (c .if1 .left))
+
+pub is-release-spec : {M : Type 1} → statement M
+is-release-spec = tie.close (tie.spec returns returns-2)

@@ -1,0 +1,217 @@
+-- Worked examples of the key log, each found by computing, and the note's table of codes. Assumes nothing.
+use Prim.Native.Nat.{ℕ, _+_}
+use Prim.Native.Char.{code}
+use mathlib.Core.Path.{_≡_, refl}
+use mathlib.Core.Bool.{false}
+use mathlib.Core.List.{List, [], _∷_, map, zipWith}
+use Rattle.record.specs.declared.Record.{Record}
+use Rattle.record.specs.declared.Held.{Held}
+use Rattle.record.specs.declared.Times.{Times}
+use Rattle.record.specs.declared.Backlight.{Backlight}
+use Rattle.record.specs.Number.{paperNumber}
+use Rattle.record.specs.Range.{auto, textInRange, labelInRange, pictureInRange, frameInRange, inRange}
+use Rattle.record.specs.PowerOn.{startingWith}
+use Rattle.turns.specs.Room.{run}
+use Rattle.key_entry.specs.declared.Stage.the-variants.{Short, Long, Repeat}
+use Rattle.key_entry.specs.Codes.{noCode, codeOf}
+use Rattle.key_entry.specs.Rules.{Entry, entry, releases, polls, elapsed, noneHeld, heldSince, longSince, keyed, withKeys, step}
+use Rattle.key_log.specs.Log.{outcome}
+use Rattle.key_log.specs.Cuts.{ticksOf, edgesOf}
+
+-- TABLE 7 OF THE NOTE (section 3.3.1): the letter and the number of the short code, the long and the repeat code; n.a. is none
+pub record Line : Type 0 where
+  pub letter : ℕ
+  pub skpm : ℕ
+  pub lkpm : ℕ
+  pub akpm : ℕ
+
+abbrev line : ℕ → ℕ → ℕ → ℕ → Line
+line letter skpm lkpm akpm = record { letter = letter; skpm = skpm; lkpm = lkpm; akpm = akpm }
+
+pub table7 : List Line
+table7 =
+    -- Left-Soft-Key
+    line (code "L") 0x4C 0xCC 0xEC
+    -- Right-Soft-Key
+    ∷ line (code "R") 0x52 0xD2 0xE2
+    -- ESC (red key)
+    ∷ line (code "E") 0x45 0xC5 noCode
+    -- ENTER (green key)
+    ∷ line (code "A") 0x41 0xC1 noCode
+    -- Rocker UP
+    ∷ line (code "U") 0x55 0xD5 0xE5
+    -- Rocker DOWN
+    ∷ line (code "D") 0x44 0xC4 0xE4
+    -- Key "1" to "9"
+    ∷ line (code "1") 0x31 0xB1 0xF1
+    ∷ line (code "2") 0x32 0xB2 0xF2
+    ∷ line (code "3") 0x33 0xB3 0xF3
+    ∷ line (code "4") 0x34 0xB4 0xF4
+    ∷ line (code "5") 0x35 0xB5 0xF5
+    ∷ line (code "6") 0x36 0xB6 0xF6
+    ∷ line (code "7") 0x37 0xB7 0xF7
+    ∷ line (code "8") 0x38 0xB8 0xF8
+    ∷ line (code "9") 0x39 0xB9 0xF9
+    -- Key "0"
+    ∷ line (code "0") 0x30 0xB0 0xF0
+    -- Key "*"
+    ∷ line (code "*") 0x2A 0xAA 0xEA
+    -- Key "#"
+    ∷ line (code "#") 0x23 0xA3 0xEB
+    -- Key "ON/OFF"
+    ∷ line (code "O") 0x4F 0xCF 0xEF
+    ∷ []
+
+-- the line of a key by the rules
+abbrev lineOf : ℕ → Line
+lineOf key = line (codeOf key Short) (codeOf key Short) (codeOf key Long) (codeOf key Repeat)
+
+abbrev keys : List ℕ
+keys = 0 ∷ 1 ∷ 2 ∷ 3 ∷ 4 ∷ 5 ∷ 6 ∷ 7 ∷ 8 ∷ 9 ∷ 10 ∷ 11 ∷ 12 ∷ 13 ∷ 14 ∷ 15 ∷ 16 ∷ 17 ∷ 18 ∷ []
+
+-- All 57 codes of keys 0 to 18 are the note's.
+pub table-as-noted : map lineOf keys ≡ table7
+unfolding codeOf table7
+table-as-noted = refl
+
+-- WORKED EXAMPLES
+abbrev leftSoft : ℕ
+leftSoft = 0
+
+abbrev escapeKey : ℕ
+escapeKey = 2
+
+abbrev one : ℕ
+one = 6
+
+abbrev two : ℕ
+two = 7
+
+abbrev press : ℕ → ℕ → Entry
+press key tick = entry tick key
+
+abbrev release : ℕ → ℕ → Entry
+release key tick = entry tick (releases + key)
+
+abbrev poll : ℕ → Entry
+poll tick = entry tick polls
+
+-- the power-on record with these times, and the backlight in auto with a duration of 30 and this left
+abbrev times : ℕ → ℕ → Times
+times time1 time2 = record { time1 = record { 0 = time1 }; time2 = record { 0 = time2 } }
+
+abbrev lightWith : ℕ → Backlight
+lightWith left = record { mode = auto; duration = record { 0 = 30 }; left = record { 0 = left }; keypad = false }
+
+abbrev starting : Times → Held → ℕ → Record
+starting t held left = withKeys (startingWith t) held (lightWith left)
+
+abbrev fresh : ℕ → ℕ → Record
+fresh time1 time2 = starting (times time1 time2) noneHeld 0
+
+-- stage long since a tick
+abbrev heldLong : ℕ → ℕ → Held
+heldLong key tick = longSince (heldSince key tick) tick
+
+-- what is looked at after a call: the number, the counts, the codes, the held key and the seconds left
+pub record Seen : Type 0 where
+  pub number : ℕ
+  pub used : ℕ
+  pub codes : List ℕ
+  pub held : Held
+  pub left : ℕ
+
+pub record Case : Type 0 where
+  pub start : Record
+  pub ticks : List ℕ
+  pub edges : List ℕ
+  pub room : ℕ
+  pub expected : Seen
+
+abbrev found : Case → Seen
+found c =
+    let o = outcome (c .start) (c .ticks) (c .edges) (c .room) in
+    record {
+      number = paperNumber (o .number);
+      used = o .ran .used;
+      codes = o .ran .answers;
+      held = o .ran .state .held;
+      left = o .ran .state .settings .backlight .left .0;
+    }
+
+-- a log with room for eight codes, and what is expected: all used, these codes, this held key, this left
+abbrev all : Record → List Entry → ℕ → List ℕ → Held → ℕ → Case
+all start log used codes held left =
+    record { start = start; ticks = ticksOf log; edges = edgesOf log; room = 8; expected = record { number = 0; used = used; codes = codes; held = held; left = left } }
+
+-- a log with no room: what is used and held when the call stops
+abbrev noRoom : Record → List Entry → ℕ → Held → ℕ → Case
+noRoom start log used held left =
+    record { start = start; ticks = ticksOf log; edges = edgesOf log; room = 0; expected = record { number = 0; used = used; codes = []; held = held; left = left } }
+
+-- a log that is refused with this number
+abbrev refusedWith : ℕ → Record → List ℕ → List ℕ → ℕ → Case
+refusedWith number start ticks edges room =
+    record {
+      start = start;
+      ticks = ticks;
+      edges = edges;
+      room = room;
+      expected = record { number = number; used = 0; codes = []; held = start .held; left = start .settings .backlight .left .0 };
+    }
+
+pub cases : List Case
+cases =
+    -- document 01: key "1" pressed at 65530, Time1 12: poll at 113 nothing
+    all (fresh 12 12) (press one 65530 ∷ poll 113 ∷ []) 2 [] (heldSince one 65530) 30
+    -- document 01: at 114 B1
+    ∷ all (fresh 12 12) (press one 65530 ∷ poll 113 ∷ poll 114 ∷ []) 3 (0xB1 ∷ []) (heldLong one 114) 30
+    -- document 01: release at 113: 31
+    ∷ all (fresh 12 12) (press one 65530 ∷ release one 113 ∷ []) 2 (0x31 ∷ []) noneHeld 30
+    -- a release at 10 times Time1 with no poll before gives the long code
+    ∷ all (fresh 12 12) (press one 65530 ∷ release one 114 ∷ []) 2 (0xB1 ∷ []) noneHeld 30
+    -- a release after long gives nothing
+    ∷ all (fresh 12 12) (press one 65530 ∷ poll 114 ∷ release one 115 ∷ []) 3 (0xB1 ∷ []) noneHeld 30
+    -- a poll much later gives the long code alone; Time2 counts from that poll: nothing one tick before, and the repeat code at exactly Time2
+    ∷ all (fresh 12 8) (press one 0 ∷ poll 1000 ∷ poll 1079 ∷ poll 1080 ∷ poll 1159 ∷ []) 5 (0xB1 ∷ 0xF1 ∷ []) (heldLong one 1080) 30
+    -- Time2 0: no repeat, and the held tick stays
+    ∷ all (fresh 12 0) (press one 0 ∷ poll 120 ∷ poll 60000 ∷ []) 3 (0xB1 ∷ []) (heldLong one 120) 30
+    -- ESC has no repeat code: nothing, and the held tick stays
+    ∷ all (fresh 12 12) (press escapeKey 0 ∷ poll 120 ∷ poll 60000 ∷ []) 3 (0xC5 ∷ []) (heldLong escapeKey 120) 30
+    -- a press while another is held, or the same again: nothing, the held tick and the seconds left included
+    ∷ all (starting (times 12 12) (heldSince one 5) 7) (press two 9 ∷ press one 9 ∷ []) 2 [] (heldSince one 5) 7
+    -- release of a key not held, and poll with none held: nothing
+    ∷ all (starting (times 12 12) (heldSince one 5) 7) (release two 9 ∷ []) 1 [] (heldSince one 5) 7
+    ∷ all (starting (times 12 12) noneHeld 7) (release one 9 ∷ poll 500 ∷ []) 2 [] noneHeld 7
+    -- the clock runs over: 65,535 ticks are long, one tick more can't be told from none
+    ∷ all (fresh 50 12) (press one 7 ∷ poll 6 ∷ []) 2 (0xB1 ∷ []) (heldLong one 6) 30
+    ∷ all (fresh 4 12) (press one 7 ∷ poll 7 ∷ []) 2 [] (heldSince one 7) 30
+    -- no room for the short code, for the long code at a release, at a poll, and for the repeat code: the key is still held
+    ∷ noRoom (fresh 12 12) (press one 0 ∷ release one 119 ∷ []) 1 (heldSince one 0) 30
+    ∷ noRoom (fresh 12 12) (press one 0 ∷ release one 120 ∷ []) 1 (heldSince one 0) 30
+    ∷ noRoom (fresh 12 12) (press one 0 ∷ poll 119 ∷ poll 120 ∷ poll 121 ∷ []) 2 (heldSince one 0) 30
+    ∷ noRoom (starting (times 12 12) (heldLong one 0) 7) (poll 119 ∷ poll 120 ∷ []) 1 (heldLong one 0) 7
+    -- no room hinders no entry that sends nothing
+    ∷ noRoom (starting (times 12 12) (heldLong leftSoft 0) 7) (release leftSoft 500 ∷ press leftSoft 501 ∷ poll 502 ∷ []) 3 (heldSince leftSoft 501) 30
+    -- an empty log
+    ∷ noRoom (fresh 12 12) [] 0 noneHeld 0
+    -- 4: the edges that stand beside the listed ones, also past the place where the room ends
+    ∷ refusedWith 4 (fresh 12 12) (0 ∷ []) (19 ∷ []) 8
+    ∷ refusedWith 4 (fresh 12 12) (0 ∷ []) (127 ∷ []) 8
+    ∷ refusedWith 4 (fresh 12 12) (0 ∷ []) (147 ∷ []) 8
+    ∷ refusedWith 4 (fresh 12 12) (0 ∷ []) (254 ∷ []) 8
+    ∷ refusedWith 4 (fresh 12 12) (0 ∷ 1 ∷ 2 ∷ []) (one ∷ (releases + one) ∷ 147 ∷ []) 0
+    -- listed: the last press and the last release
+    ∷ all (fresh 12 12) (press 18 0 ∷ release 18 1 ∷ []) 2 (0x4F ∷ []) noneHeld 30
+    -- 5 before 4, whichever slice is longer
+    ∷ refusedWith 5 (fresh 12 12) (0 ∷ []) (19 ∷ 19 ∷ []) 8
+    ∷ refusedWith 5 (fresh 12 12) (0 ∷ 1 ∷ []) (19 ∷ []) 8
+    -- 1 before 5 and 4, and with an empty log: Time1 3 is out of range
+    ∷ refusedWith 1 (fresh 3 12) (0 ∷ []) (19 ∷ 19 ∷ []) 8
+    ∷ refusedWith 1 (fresh 3 12) [] [] 0
+    ∷ []
+
+-- Every example is found as expected.
+pub cases-hold : map found cases ≡ map (λ (c : Case). c .expected) cases
+unfolding cases outcome inRange textInRange labelInRange pictureInRange frameInRange zipWith run step keyed elapsed codeOf
+cases-hold = refl

@@ -1,0 +1,12 @@
+-- `record_ranges::place_right` keeps its promise. Assumes nothing.
+use Rattle.record_ranges.proofs.place_right.Statement.{statement}
+use Rattle.record_ranges.proofs.place_right.Tie as tie
+
+fits-requires : tie.Need-fits-requires
+fits-requires c κs = tt
+
+returns : tie.Need-returns
+returns c = rw (c .fits2 .ensures)
+
+pub place-right-spec : {M : Type 1} → statement M
+place-right-spec = tie.close (tie.spec fits-requires returns)

@@ -1,0 +1,22 @@
+-- `record_ranges::text_in_range` keeps its promise. Assumes nothing.
+use borrow.Author.Tests.{eq-eqb}
+use mathlib.Core.Path.{_≡_, _∙_}
+use lib.ListN.{length}
+use Rattle.record.specs.Range.{isCode, textInRange}
+use Rattle.record_ranges.specs.Scan.{used-whole}
+use borrow.Author.Needs.{needs}
+use Rattle.record_ranges.proofs.text_in_range.Statement.{statement}
+use Rattle.record_ranges.proofs.text_in_range.Tie as tie
+
+scan-requires : tie.Need-scan-requires
+scan-requires c κs = search needs
+
+returns : tie.Need-returns
+unfolding textInRange
+returns c =
+    let text = c .before .before .args .text .now in
+    let full : length text ≡ 80 = search needs in
+    rw (eq-eqb _ _ full) (c .scan .ensures ∙ used-whole isCode 80 text full)
+
+pub text-in-range-spec : {M : Type 1} → statement M
+text-in-range-spec = tie.close (tie.spec scan-requires returns)

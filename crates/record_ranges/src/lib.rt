@@ -1,0 +1,124 @@
+// Whether each field of a record is within its range: the definitions of document 01's table are the record's.
+ghost use mathlib.Core.Path.{_≡_};
+ghost use Prim.Native.Nat.{_≤_};
+ghost use lib.ListN.{length};
+ghost use Rattle.record.specs.Range.{textInRange, labelInRange, pictureInRange, frameInRange, inRange};
+ghost use Rattle.record_ranges.specs.Scan.{testOf, rightAt, filled};
+ghost use Rattle.record_ranges.specs.Parts.{joined};
+use record::Held;
+use record::Label;
+use record::Record;
+use record::Settings;
+use record_small_ranges::small_in_range;
+
+const ESCAPE: u8 = 0x1B;
+
+const CARRIAGE_RETURN: u8 = 0x0D;
+
+// What a used place of an array may hold.
+enum Place {
+    Code,
+    LowColumn,
+    FrameByte,
+}
+
+fn fits(place: Place, b: u8) -> bool
+    ensures { λ r. ⌜ r ≡ testOf place b ⌝ }
+{
+    match place {
+        Place::Code => 0x20 <= b,
+        Place::LowColumn => b < 32,
+        Place::FrameByte => (b != ESCAPE) & (b != CARRIAGE_RETURN),
+    }
+}
+
+// A used place holds what its kind may, an unused one zero.
+fn place_right(place: Place, used: bool, b: u8) -> bool
+    ensures { λ r. ⌜ r ≡ rightAt (testOf place) used b ⌝ }
+{
+    (used & fits(place, b)) | (!used & (b == 0))
+}
+
+// Whether every place is right where the first `len` are used. It looks at all of them and has no branch, so that it becomes vector
+// code. Whether a place is used is told by a byte that counts down from 255 to 255 - `len`: one that counted up would be taken for the
+// index and widened, and fewer places would go through at a time.
+fn scan(s: &[u8], len: u8, place: Place) -> bool
+    requires { ⌜ length (now s) ≤ 255 ⌝ }
+    ensures { λ r. ⌜ r ≡ filled (testOf place) len (now (s .entry)) ⌝ }
+{
+    let end = 255 - len;
+    let mut ok = true;
+    let mut left: u8 = 255;
+    let mut i = 0;
+    while i < s.len() {
+        ok = ok & place_right(place, end < left, s[i]);
+        left -= 1;
+        i += 1;
+    }
+    ok
+}
+
+fn text_in_range(text: &[u8; 80]) -> bool
+    ensures { λ r. ⌜ r ≡ textInRange (now (text .entry)) ⌝ }
+{
+    scan(text, 80, Place::Code)
+}
+
+// Rows 0 to 5 take every byte.
+fn picture_in_range(picture: &[u8; 672]) -> bool
+    ensures { λ r. ⌜ r ≡ pictureInRange (now (picture .entry)) ⌝ }
+{
+    let rows = &picture[..];
+    scan(&rows[576..], 96, Place::LowColumn)
+}
+
+fn label_in_range(l: Label) -> bool
+    ensures { λ r. ⌜ r ≡ labelInRange l ⌝ }
+{
+    let len = l.len;
+    (len <= 7) & scan(&l.codes, len, Place::Code)
+}
+
+fn frame_in_range(state: u8, len: u8, bytes: &[u8; 250]) -> bool
+    ensures { λ r. ⌜ r ≡ frameInRange (record { state = state; len = len; bytes = now (bytes .entry) }) ⌝ }
+{
+    (len <= 250) & (state <= 2) & ((state == 1) | (len == 0)) & scan(bytes, len, Place::FrameByte)
+}
+
+// Whether every field is within its range, for one who keeps the arrays elsewhere.
+pub fn in_range_lent<'a>(
+    settings: Settings,
+    text: &'a [u8; 80],
+    picture: &'a [u8; 672],
+    held: Held,
+    state: u8,
+    len: u8,
+    bytes: &'a [u8; 250],
+) -> bool
+    ensures same { λ b. ⌜ b ≡ inRange (joined settings (now (text .entry)) (now (picture .entry)) held state len (now (bytes .entry))) ⌝ }
+{
+    small_in_range(settings, held)
+        & text_in_range(text)
+        & label_in_range(settings.left)
+        & label_in_range(settings.right)
+        & picture_in_range(picture)
+        & frame_in_range(state, len, bytes)
+}
+
+// The same of a record.
+pub fn in_range(r: Record) -> bool
+    ensures same { λ b. ⌜ b ≡ inRange r ⌝ }
+{
+    let held = r.held;
+    let state = r.frame.state;
+    let len = r.frame.len;
+    in_range_lent(
+        r.settings,
+        &r.text,
+        &r.picture,
+        held,
+        state,
+        len,
+        &r.frame.bytes,
+    )
+}

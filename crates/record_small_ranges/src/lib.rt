@@ -1,0 +1,92 @@
+// Whether the small fields of a record, all but its arrays, are within their ranges: the definitions of document 01's table are the
+// record's.
+ghost use mathlib.Core.Path.{_≡_};
+ghost use Rattle.record.specs.Range.{modeInRange, overlayInRange, cursorInRange, iconsInRange, volumeInRange, timesInRange, buzzerInRange, backlightInRange, heldInRange};
+ghost use Rattle.record_small_ranges.specs.Small.{smallInRange};
+use record::Backlight;
+use record::Held;
+use record::Icons;
+use record::Screen;
+use record::Settings;
+use record::Times;
+use record::Volume;
+
+fn mode_in_range(mode: u8) -> bool
+    ensures { λ r. ⌜ r ≡ modeInRange mode ⌝ }
+{
+    (mode == 0) | (mode == 1) | (mode == 5) | (mode == 6)
+}
+
+fn overlay_in_range(overlay: u8) -> bool
+    ensures { λ r. ⌜ r ≡ overlayInRange overlay ⌝ }
+{
+    (overlay == 0) | (overlay == 11) | (overlay == 12) | (overlay == 13)
+}
+
+fn cursor_in_range(s: Screen) -> bool
+    ensures { λ r. ⌜ r ≡ cursorInRange s ⌝ }
+{
+    (s.row < record::rows(s.mode)) & (s.column <= record::row_end(s.mode))
+}
+
+fn icons_in_range(i: Icons) -> bool
+    ensures { λ r. ⌜ r ≡ iconsInRange i ⌝ }
+{
+    (i.s <= 1)
+        & ((i.u == 0) | (i.u == 1) | (i.u == 255))
+        & (i.f <= 6)
+        & (i.r <= 1)
+        & (i.p <= 19)
+        & (i.w <= 3)
+}
+
+fn volume_in_range(v: Volume) -> bool
+    ensures { λ r. ⌜ r ≡ volumeInRange v ⌝ }
+{
+    (v.which <= 2)
+        & (((v.which == 0) & (v.level == 0)) | ((v.which != 0) & (1 <= v.level) & (v.level <= 10)))
+        & ((v.which == 0) | !v.hidden)
+}
+
+fn times_in_range(t: Times) -> bool
+    ensures { λ r. ⌜ r ≡ timesInRange t ⌝ }
+{
+    (4 <= t.time1.0)
+        & (t.time1.0 <= 50)
+        & ((t.time2.0 == 0) | ((4 <= t.time2.0) & (t.time2.0 <= 50)))
+}
+
+fn buzzer_in_range(value: u8) -> bool
+    ensures { λ r. ⌜ r ≡ buzzerInRange value ⌝ }
+{
+    value <= 255
+}
+
+pub fn backlight_in_range(b: Backlight) -> bool
+    ensures same { λ r. ⌜ r ≡ backlightInRange b ⌝ }
+{
+    (b.mode <= 2)
+        & ((1 <= b.duration.0) & (b.duration.0 <= 255))
+        & ((b.left.0 == 0) | (b.mode == 2))
+}
+
+fn held_in_range(h: Held) -> bool
+    ensures { λ r. ⌜ r ≡ heldInRange h ⌝ }
+{
+    (h.down & (h.key <= 18)) | (!h.down & (h.key == 0) & (h.tick.0 == 0) & !h.long)
+}
+
+// All of them at once, in the order of document 01's table.
+pub fn small_in_range(p: Settings, held: Held) -> bool
+    ensures same { λ r. ⌜ r ≡ smallInRange p held ⌝ }
+{
+    mode_in_range(p.screen.mode)
+        & overlay_in_range(p.screen.overlay)
+        & cursor_in_range(p.screen)
+        & icons_in_range(p.icons)
+        & volume_in_range(p.volume)
+        & times_in_range(p.times)
+        & buzzer_in_range(p.buzzer.0)
+        & backlight_in_range(p.backlight)
+        & held_in_range(held)
+}

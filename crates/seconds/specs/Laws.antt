@@ -1,0 +1,75 @@
+-- What a second keeps: the ranges, and all fields but the seconds left. Assumes nothing.
+use Prim.Native.Nat.{ℕ, _-_}
+use native.Mathlib.Omega.{arith}
+use mathlib.Core.Path.{_≡_, _∙_}
+use mathlib.Core.Bool.{Bool, true, false, _&&_, _||_, or-true, or-false}
+use lib.Dec.{leb, eqb}
+use borrow.Author.Tests.{eqb-true, eq-eqb}
+use Rattle.lists.specs.Both.{both, and-both}
+use Rattle.record.specs.Number.{paperNumber}
+use Rattle.record.specs.Laws.{ranges, in-range}
+use Rattle.record.specs.Range.{durationInRange, backlightInRange, inRange}
+use Rattle.record.specs.declared.Backlight.{Backlight}
+use Rattle.record.specs.declared.Record.{Record}
+use Rattle.seconds.specs.Seconds.{lowered, dimmed, lightPassed, passed}
+
+-- What is 0 stays 0, so seconds are left only in auto.
+less-in-range : (n : ℕ) (auto : Bool) → (eqb n 0 || auto) ≡ true → (eqb (n - 1) 0 || auto) ≡ true
+less-in-range n true h = or-true (eqb (n - 1) 0)
+less-in-range n false h =
+    let none : eqb n 0 ≡ true = rw or-false at h in
+    or-false (eqb (n - 1) 0) ∙ eq-eqb (n - 1) 0 (omega (arith, eqb-true n 0 none))
+
+-- A backlight in range is in range a second later.
+pub lowered-in-range : (b : Backlight) → backlightInRange b ≡ true → backlightInRange (lowered b) ≡ true
+lowered-in-range b h =
+    let parts : ((leb (b .mode) 2 && durationInRange (b .duration .0)) ≡ true) × ((eqb (b .left .0) 0 || eqb (b .mode) 2) ≡ true) = both h in
+    and-both (parts .0) (less-in-range (b .left .0) (eqb (b .mode) 2) (parts .1))
+
+-- A record in range is in range a second later.
+pub dimmed-in-range : (r : Record) → inRange r ≡ true → inRange (dimmed r) ≡ true
+dimmed-in-range r h =
+    let k = ranges r h in
+    in-range (dimmed r) (record {
+      mode = k .mode;
+      overlay = k .overlay;
+      cursor = k .cursor;
+      text = k .text;
+      left = k .left;
+      right = k .right;
+      picture = k .picture;
+      icons = k .icons;
+      volume = k .volume;
+      times = k .times;
+      buzzer = k .buzzer;
+      backlight = lowered-in-range (r .settings .backlight) (k .backlight);
+      held = k .held;
+      frame = k .frame;
+    })
+
+-- A record in range is a second further, with number 0, and comes back in range.
+pub second-done : (r : Record) → inRange r ≡ true
+    → (paperNumber (passed r .number) ≡ 0) × (passed r .after ≡ dimmed r) × (inRange (passed r .after) ≡ true)
+unfolding passed
+second-done r h = (rw h, rw h, rw h (dimmed-in-range r h))
+
+-- A backlight within its own ranges is lowered, with number 0, and comes back within them.
+pub light-done : (b : Backlight) → backlightInRange b ≡ true
+    → (paperNumber (lightPassed b .number) ≡ 0) × (lightPassed b .backlight ≡ lowered b) × (backlightInRange (lightPassed b .backlight) ≡ true)
+unfolding lightPassed
+light-done b h = (rw h, rw h, rw h (lowered-in-range b h))
+
+-- A refused backlight, and a refused record, comes back as it was, with number 1.
+pub light-refused : (b : Backlight) → backlightInRange b ≡ false → (paperNumber (lightPassed b .number) ≡ 1) × (lightPassed b .backlight ≡ b)
+unfolding lightPassed
+light-refused b h = (rw h, rw h)
+
+pub second-refused : (r : Record) → inRange r ≡ false → (paperNumber (passed r .number) ≡ 1) × (passed r .after ≡ r)
+unfolding passed
+second-refused r h = (rw h, rw h)
+
+-- On the backlight of a record in range the entry in place does what the call on the record does.
+pub in-place-agrees : (r : Record) → inRange r ≡ true
+    → lightPassed (r .settings .backlight) ≡ record { number = passed r .number; backlight = passed r .after .settings .backlight }
+unfolding lightPassed passed
+in-place-agrees r h = rw (h, ranges r h .backlight)

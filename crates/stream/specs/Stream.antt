@@ -1,0 +1,135 @@
+-- The handset's meaning for the parting's theory, how the record keeps a frame, and what the stream call hands back. Assumes nothing.
+use Prim.Native.Nat.{ℕ, _+_, _-_, _*_, _≤_}
+use mathlib.Core.Path.{_≡_}
+use mathlib.Core.Bool.{true, false, cond}
+use mathlib.Core.List.{List, [], _∷_, _++_}
+use lib.Dec.{eqb, ltb}
+use lib.ListN.{length, take, drop, set}
+use Rattle.lists.specs.Codes.{carriageReturn, questionMark}
+use Rattle.lists.specs.Padded.{padded}
+use Rattle.record.specs.declared.Number.the-variants.{Done, FieldOutOfRange}
+use Rattle.record.specs.declared.Settings.{Settings}
+use Rattle.record.specs.declared.Held.{Held}
+use Rattle.record.specs.declared.Frame.{Frame as KeptFrame}
+use Rattle.record.specs.declared.Record.{Record}
+use Rattle.record.specs.Range.{inRange}
+use Rattle.record_ranges.specs.Parts.{joined}
+use Rattle.parting.specs.Rules.{Frame, noFrame, openFrame, overlong, limit}
+use Rattle.parting.specs.Meaning.{Answered, Meaning, State, Taken}
+use Rattle.parting.specs.Reading.{step}
+use Rattle.parting.specs.Room.{Ran, run}
+use Rattle.turns.specs.Loop.{Account, still}
+use Rattle.effect.specs.Core.{Core, coreOf}
+use Rattle.effect.specs.Effect.{storeText}
+use Rattle.command.specs.Reading.{orderOf}
+use Rattle.effect.specs.declared.Obeyed.{Obeyed}
+use Rattle.effect.specs.Obey.{obeyOrder, isGood, core}
+use Rattle.effect.specs.Keeps.{CoreInRange}
+use Rattle.stream.specs.declared.Fed.{Fed}
+use Rattle.stream.specs.declared.Small.{Small}
+use Rattle.stream.specs.declared.FedLent.{FedLent}
+use Rattle.stream.specs.declared.AfterBytes.{AfterBytes}
+
+-- THE HANDSET: a text byte is stored, a good frame is obeyed in silence, a bad frame changes nothing and gets one '?'
+abbrev pub obeyFrame : Core → List ℕ → Answered Core
+obeyFrame c frame = record { core = obeyOrder c (orderOf frame); answers = cond (isGood (orderOf frame)) [] (questionMark ∷ []) }
+
+abbrev pub handset : Meaning
+handset = record { Core = Core; store = storeText; obey = obeyFrame; badAnswer = λ c. questionMark ∷ [] }
+
+-- How the record keeps a frame: states none 0, open 1, overlong 2; unused places hold zero.
+abbrev pub keptFrame : Frame → KeptFrame
+keptFrame noFrame = record { state = 0; len = 0; bytes = padded limit [] }
+keptFrame (openFrame body) = record { state = 1; len = length body; bytes = padded limit body }
+keptFrame overlong = record { state = 2; len = 0; bytes = padded limit [] }
+
+-- and which frame is kept so
+unfoldable pub frameIn : ℕ → ℕ → List ℕ → Frame
+frameIn state len bytes = cond (eqb state 0) noFrame (cond (eqb state 1) (openFrame (take len bytes)) overlong)
+
+-- the record with its frame apart, and put together again; the held key is no concern of a stream
+abbrev pub stateOf : Record → State Core
+stateOf r = record { core = coreOf r; frame = frameIn (r .frame .state) (r .frame .len) (r .frame .bytes) }
+
+abbrev pub recordOf : Held → State Core → Record
+recordOf held s = record { settings = s .core .settings; text = s .core .text; picture = s .core .picture; held = held; frame = keptFrame (s .frame) }
+
+-- THE STREAM CALL: number 1 and the record as it came for one out of range; else number 0 and the run
+abbrev pub fedBy : Held → Ran Core → Fed
+fedBy held ran = record { number = Done; «record» = recordOf held (ran .state); used = ran .used; written = length (ran .answers) }
+
+abbrev pub refused : Record → Fed
+refused r = record { number = FieldOutOfRange; «record» = r; used = 0; written = 0 }
+
+unfoldable pub fedOf : Record → List ℕ → ℕ → Fed
+fedOf r bytes room = cond (inRange r) (fedBy (r .held) (run handset (stateOf r) bytes room)) (refused r)
+
+-- the buffer for answers afterwards: places past the written count stay
+abbrev pub writtenOver : List ℕ → List ℕ → List ℕ
+writtenOver answers before = answers ++ drop (length answers) before
+
+unfoldable pub answersAfter : Record → List ℕ → List ℕ → List ℕ
+answersAfter r bytes before = cond (inRange r) (writtenOver (run handset (stateOf r) bytes (length before) .answers) before) before
+
+-- THE STREAM CALL ON LENT ARRAYS is the same call: the record is put together of the small fields and what is lent, and what comes
+-- back is that call's, with text, picture and the frame's bytes in the arrays
+abbrev pub together : Small → List ℕ → List ℕ → List ℕ → Record
+together small text picture bytes = joined (small .settings) text picture (small .held) (small .state) (small .len) bytes
+
+abbrev pub smallOf : Record → Small
+smallOf r = record { settings = r .settings; held = r .held; state = r .frame .state; len = r .frame .len }
+
+abbrev pub lentOf : Fed → FedLent
+lentOf f = record { number = f .number; small = smallOf (f .record); used = f .used; written = f .written }
+
+-- so what comes back, put together with the arrays, is that call's record
+pub lent-back : {f : FedLent} {fed : Fed} {text picture bytes : List ℕ} → f ≡ lentOf fed → text ≡ fed .record .text → picture ≡ fed .record .picture → bytes ≡ fed .record .frame .bytes
+    → together (f .small) text picture bytes ≡ fed .record
+lent-back e t g b = λ j. together (e j .small) (t j) (g j) (b j)
+
+-- What the inner functions do -------------------------------------------------------------------------------------
+
+abbrev pub columnAfter : ℕ → ℕ
+columnAfter column = cond (ltb column 16) (column + 1) column
+
+abbrev pub textAfter : List ℕ → ℕ → ℕ → ℕ → List ℕ
+textAfter text row column b = cond (ltb column 16) (set text (row * 16 + column) b) text
+
+-- the state that the loop's locals stand for
+abbrev pub standing : Settings → List ℕ → List ℕ → ℕ → ℕ → List ℕ → State Core
+standing settings text picture state len bytes = record { core = core settings text picture; frame = frameIn state len bytes }
+
+pub record Fits (state len : ℕ) (bytes : List ℕ) : Type 0 where
+  pub known : state ≤ 2
+  pub short : len ≤ limit
+  pub none : (state ≡ 1 → ⊥) → len ≡ 0
+  pub full : length bytes ≡ limit
+
+-- what may be read on from
+pub record Ready (settings : Settings) (text picture : List ℕ) (state len : ℕ) (bytes : List ℕ) : Type 0 where
+  pub range : CoreInRange (core settings text picture)
+  pub fits : Fits state len bytes
+
+-- a byte that is answered with nothing, and one that is answered with '?'
+abbrev pub quietly : State Core → Taken Core
+quietly state = record { state = state; answers = [] }
+
+abbrev pub asking : State Core → Taken Core
+asking state = record { state = state; answers = questionMark ∷ [] }
+
+-- CR in a frame of which so much is collected: it is obeyed in silence, or asked about and nothing changed
+abbrev pub collecting : ℕ → List ℕ → Frame
+collecting state body = cond (eqb state 1) (openFrame body) overlong
+
+pub record Closes (settings : Settings) (text picture : List ℕ) (state : ℕ) (body : List ℕ) (obeyed : Obeyed) (text′ picture′ : List ℕ) : Type 0 where
+  pub good : obeyed .good ≡ true
+      → step handset (record { core = core settings text picture; frame = collecting state body }) carriageReturn ≡ quietly (record { core = core (obeyed .settings) text′ picture′; frame = noFrame })
+  pub bad : obeyed .good ≡ false
+      → step handset (record { core = core settings text picture; frame = collecting state body }) carriageReturn ≡ asking (record { core = core settings text′ picture′; frame = noFrame })
+  pub keeps : obeyed .good ≡ false → core settings text picture ≡ core settings text′ picture′
+  pub range : CoreInRange (core settings text picture) → CoreInRange (core (obeyed .settings) text′ picture′)
+
+-- what the loop leaves
+pub record Reads (start : State Core) (bytes before : List ℕ) (done : AfterBytes) (text picture frame after : List ℕ) : Type 0 where
+  pub account : Account (run handset start bytes (length before)) before (still (standing (done .settings) text picture (done .state) (done .len) frame) (done .used) (done .written) after)
+  pub fits : Fits (done .state) (done .len) frame

@@ -1,0 +1,297 @@
+-- The turns of the reader's loop: what each kind of byte does to the state that the loop's locals stand for. Assumes nothing.
+use Prim.Native.Nat.{ℕ, suc, _+_, _-_, _≤_, _<_}
+use native.Mathlib.Omega.{arith}
+use native.Mathlib.Numerals.{add-one}
+use mathlib.Core.Path.{_≡_, refl, sym, ap, _∙_, subst}
+use mathlib.Core.Bool.{Bool, true, false, cond, true≢false}
+use mathlib.Core.Option.{Option, none, some}
+use mathlib.Core.List.{List, [], _∷_, _++_}
+use lib.Dec.{eqb, ltb, leb}
+use lib.ListN.{length, take, set, getD, replicate, length-set}
+use lib.Seq.{take-suc-set, length-take-le}
+use borrow.Author.Tests.{eqb-true, eqb-false, ne-eqb, ltb-true, leb-true}
+use Rattle.lists.specs.Codes.{escape, carriageReturn, blank, questionMark}
+use Rattle.lists.specs.Padded.{padded}
+use Rattle.record.specs.declared.Settings.{Settings}
+use Rattle.record.specs.declared.Held.{Held}
+use Rattle.record.specs.declared.Frame.{Frame as KeptFrame}
+use Rattle.lists.specs.Both.{both}
+use Rattle.record.specs.Range.{rowsOf}
+use Rattle.record.specs.With.{withScreen, withColumn}
+use Rattle.parting.specs.Rules.{Frame, noFrame, openFrame, overlong, limit}
+use Rattle.parting.specs.Meaning.{State}
+use Rattle.parting.specs.Reading.{step, step-opens, step-stores, step-skips, step-abandons, step-closes, step-ends-overlong, step-collects, step-overflows, step-waits}
+use Rattle.parting.specs.Room.{Ran, run}
+use Rattle.turns.specs.Loop
+use Rattle.turns.specs.Loop.{Account, still}
+use Rattle.turns.specs.Begins.{begins-with}
+use Rattle.command.specs.Order.{Order}
+use Rattle.effect.specs.declared.Obeyed.{Obeyed}
+use Rattle.effect.specs.Core.{Core}
+use Rattle.effect.specs.Effect.{storeText}
+use Rattle.command.specs.Reading.{orderOf}
+use Rattle.effect.specs.Obey.{obeyOrder, isGood, core, Obeys}
+use Rattle.effect.specs.Keeps.{CoreInRange, obey-keeps, store-keeps}
+use Rattle.stream_places.specs.Places.{emptied, emptied-of}
+use Rattle.stream.specs.declared.AfterBytes.{AfterBytes}
+use Rattle.stream.specs.Stream.{handset, keptFrame, frameIn, columnAfter, textAfter, collecting, together, standing, recordOf, quietly, asking, Fits, Closes, Reads}
+
+-- the frame that the locals show
+shows-noFrame : (state len : ℕ) (bs : List ℕ) → state ≡ 0 → frameIn state len bs ≡ noFrame
+unfolding frameIn
+shows-noFrame state len bs e = rw e
+
+shows-open : (state len : ℕ) (bs : List ℕ) → state ≡ 1 → frameIn state len bs ≡ openFrame (take len bs)
+unfolding frameIn
+shows-open state len bs e = rw e
+
+shows-long : (state len : ℕ) (bs : List ℕ) → (state ≡ 0 → ⊥) → (state ≡ 1 → ⊥) → frameIn state len bs ≡ overlong
+unfolding frameIn
+shows-long state len bs n m = rw (ne-eqb state 0 n, ne-eqb state 1 m)
+
+shows-new : (len : ℕ) (bs : List ℕ) → len ≡ 0 → frameIn 1 len bs ≡ openFrame []
+shows-new len bs e = shows-open 1 len bs refl ∙ ap (λ (k : ℕ). openFrame (take k bs)) e
+
+-- a result whose frame is shown by other locals
+inSilence : (c : Core) {f g : Frame} → f ≡ g → quietly (record { core = c; frame = f }) ≡ quietly (record { core = c; frame = g })
+inSilence c e = ap (λ (x : Frame). quietly (record { core = c; frame = x })) e
+
+queried : (c : Core) {f g : Frame} → f ≡ g → asking (record { core = c; frame = f }) ≡ asking (record { core = c; frame = g })
+queried c e = ap (λ (x : Frame). asking (record { core = c; frame = x })) e
+
+shows-some : (state len : ℕ) (bs : List ℕ) → (state ≡ 0 → ⊥) → frameIn state len bs ≡ noFrame → ⊥
+unfolding frameIn
+shows-some state len bs n = rw (ne-eqb state 0 n) (go (eqb state 1))
+  where
+    go : (x : Bool) → cond x (openFrame (take len bs)) overlong ≡ noFrame → ⊥
+    go true e = let z : _≡_ {A = ℕ} 0 1 = cc in omega arith
+    go false e = let z : _≡_ {A = ℕ} 0 1 = cc in omega arith
+
+-- a text byte changes the column and the text
+stored : (p : Settings) (t g : List ℕ) (b : ℕ)
+    → storeText (core p t g) b ≡ core (withScreen p (withColumn (p .screen) (columnAfter (p .screen .column)))) (textAfter t (p .screen .row) (p .screen .column) b) g
+unfolding storeText
+stored p t g b = go (ltb (p .screen .column) 16) refl
+  where
+    go : (x : Bool) → ltb (p .screen .column) 16 ≡ x
+        → storeText (core p t g) b ≡ core (withScreen p (withColumn (p .screen) (columnAfter (p .screen .column)))) (textAfter t (p .screen .row) (p .screen .column) b) g
+    go true e = rw e
+    go false e = rw e
+
+-- a bad frame is obeyed by nothing
+bad-same : (c : Core) (o : Option Order) → isGood o ≡ false → obeyOrder c o ≡ c
+bad-same c none e = refl
+bad-same c (some o) e = absurd (true≢false e)
+
+shows-collecting : (state len : ℕ) (bs : List ℕ) → (state ≡ 0 → ⊥) → frameIn state len bs ≡ collecting state (take len bs)
+unfolding frameIn
+shows-collecting state len bs n = rw (ne-eqb state 0 n)
+
+-- CR in a frame ---------------------------------------------------------------------------------------------------
+
+module _ (p : Settings) (t g : List ℕ) (state : ℕ) (body : List ℕ) where
+  abbrev in-frame : State Core
+  in-frame = record { core = core p t g; frame = collecting state body }
+
+  -- of an overlong one
+  pub closes-long : (state ≡ 1 → ⊥) → Closes p t g state body (record { settings = p; good = false }) t g
+  closes-long n =
+      record {
+        good = λ x. absurd (true≢false (sym x));
+        bad = λ x. step-ends-overlong handset in-frame carriageReturn (rw (ne-eqb state 1 n)) refl;
+        keeps = λ x. refl;
+        range = λ x. x;
+      }
+
+  -- of a whole one
+  module _ (o : Obeyed) (t′ g′ : List ℕ) (e : state ≡ 1) (q : Obeys body (core p t g) o (core (o .settings) t′ g′)) where
+    closing : step handset in-frame carriageReturn ≡ record { state = record { core = obeyOrder (core p t g) (orderOf body); frame = noFrame }; answers = cond (isGood (orderOf body)) [] (questionMark ∷ []) }
+    closing = step-closes handset in-frame carriageReturn body (rw e) refl
+
+    obeyed : o .good ≡ true → step handset in-frame carriageReturn ≡ quietly (record { core = core (o .settings) t′ g′; frame = noFrame })
+    obeyed x =
+        let y : isGood (orderOf body) ≡ true = sym (q .good) ∙ x in
+        closing ∙ (λ j. record { state = record { core = sym (q .same) j; frame = noFrame }; answers = cond (y j) [] (questionMark ∷ []) })
+
+    bad-core : o .good ≡ false → obeyOrder (core p t g) (orderOf body) ≡ core p t g
+    bad-core x = bad-same (core p t g) (orderOf body) (sym (q .good) ∙ x)
+
+    bad-keeps : o .good ≡ false → core p t g ≡ core p t′ g′
+    bad-keeps x =
+        let z : core (o .settings) t′ g′ ≡ core p t g = q .same ∙ bad-core x in
+        λ j. record { settings = p; text = sym z j .text; picture = sym z j .picture }
+
+    asked : o .good ≡ false → step handset in-frame carriageReturn ≡ asking (record { core = core p t′ g′; frame = noFrame })
+    asked x =
+        let y : isGood (orderOf body) ≡ false = sym (q .good) ∙ x in
+        closing ∙ (λ j. record { state = record { core = (bad-core x ∙ bad-keeps x) j; frame = noFrame }; answers = cond (y j) [] (questionMark ∷ []) })
+
+    pub closes-whole : Closes p t g state body o t′ g′
+    closes-whole = record { good = obeyed; bad = asked; keeps = bad-keeps; range = λ k. rw (q .same) (obey-keeps (core p t g) body k) }
+
+-- A turn -------------------------------------------------------------------------------------------------------------
+
+module _ (p : Settings) (t g : List ℕ) (state len : ℕ) (fr : List ℕ) (b : ℕ) where
+  abbrev here : State Core
+  here = standing p t g state len fr
+
+  -- no frame open
+  pub turn-text : (next : ℕ) (t′ : List ℕ) → state ≡ 0 → blank ≤ b → next ≡ columnAfter (p .screen .column) → t′ ≡ textAfter t (p .screen .row) (p .screen .column) b
+      → step handset (standing p t g state len fr) b ≡ quietly (standing (withScreen p (withColumn (p .screen) next)) t′ g state len fr)
+  turn-text next t′ e h x y =
+      step-stores handset here b (shows-noFrame state len fr e) h
+      ∙ ap (λ (c : Core). quietly (record { core = c; frame = frameIn state len fr })) (stored p t g b ∙ (λ j. core (withScreen p (withColumn (p .screen) (sym x j))) (sym y j) g))
+
+  pub turn-open : state ≡ 0 → len ≡ 0 → b ≡ escape → step handset (standing p t g state len fr) b ≡ quietly (standing p t g 1 len fr)
+  turn-open e z h = step-opens handset here b (shows-noFrame state len fr e) h ∙ inSilence (core p t g) (sym (shows-new len fr z))
+
+  pub turn-skip : state ≡ 0 → b < blank → (b ≡ escape → ⊥) → step handset (standing p t g state len fr) b ≡ quietly (standing p t g state len fr)
+  turn-skip e l n = step-skips handset here b (shows-noFrame state len fr e) l n
+
+  -- ESC in a frame
+  pub loud-esc : (state ≡ 0 → ⊥) → b ≡ escape → step handset (standing p t g state len fr) b ≡ asking (standing p t g 1 0 fr)
+  loud-esc n h = step-abandons handset here b (shows-some state len fr n) h ∙ queried (core p t g) (sym (shows-new 0 fr refl))
+
+  -- CR in a frame
+  module _ {o : Obeyed} {t′ g′ : List ℕ} (n : state ≡ 0 → ⊥) (e : b ≡ carriageReturn) (k : Closes p t g state (take len fr) o t′ g′) where
+    ended : step handset (standing p t g state len fr) b ≡ step handset (record { core = core p t g; frame = collecting state (take len fr) }) carriageReturn
+    ended = λ j. step handset (record { core = core p t g; frame = shows-collecting state len fr n j }) (e j)
+
+    pub turn-good : o .good ≡ true → step handset (standing p t g state len fr) b ≡ quietly (standing (o .settings) t′ g′ 0 0 fr)
+    turn-good x = ended ∙ k .good x ∙ inSilence (core (o .settings) t′ g′) (sym (shows-noFrame 0 0 fr refl))
+
+    pub loud-bad : o .good ≡ false → step handset (standing p t g state len fr) b ≡ asking (standing p t′ g′ 0 0 fr)
+    loud-bad x = ended ∙ k .bad x ∙ queried (core p t′ g′) (sym (shows-noFrame 0 0 fr refl))
+
+    pub range-bad : o .good ≡ false → CoreInRange (core p t g) → CoreInRange (core p t′ g′)
+    range-bad x r = rw (← k .keeps x) r
+
+  -- any other byte in a frame
+  pub turn-collect : Fits state len fr → state ≡ 1 → (b ≡ escape → ⊥) → (b ≡ carriageReturn → ⊥) → len < limit → step handset (standing p t g state len fr) b ≡ quietly (standing p t g state (len + 1) (set fr len b))
+  turn-collect k e n m l =
+      let taken : take (len + 1) (set fr len b) ≡ take len fr ++ b ∷ [] = ap (λ (x : ℕ). take x (set fr len b)) (add-one len) ∙ take-suc-set fr len b (omega (arith, k .full)) in
+      step-collects handset here b (take len fr) (shows-open state len fr e) (record { not-escape = n; not-return = m }) (omega (arith, length-take-le len fr (omega (arith, k .full, l))))
+      ∙ inSilence (core p t g) (ap openFrame (sym taken) ∙ sym (shows-open state (len + 1) (set fr len b) e))
+
+  pub turn-over : Fits state len fr → state ≡ 1 → (b ≡ escape → ⊥) → (b ≡ carriageReturn → ⊥) → limit ≤ len → step handset (standing p t g state len fr) b ≡ quietly (standing p t g 2 0 fr)
+  turn-over k e n m l =
+      step-overflows handset here b (take len fr) (shows-open state len fr e) (record { not-escape = n; not-return = m }) (omega (arith, length-take-le len fr (omega (arith, k .full, k .short))))
+      ∙ inSilence (core p t g) (sym (shows-long 2 0 fr (λ x. omega arith) (λ x. omega arith)))
+
+  pub turn-lost : state ≡ 2 → (b ≡ escape → ⊥) → (b ≡ carriageReturn → ⊥) → step handset (standing p t g state len fr) b ≡ quietly (standing p t g state len fr)
+  turn-lost e n m = step-waits handset here b (shows-long state len fr (λ x. omega arith) (λ x. omega arith)) (record { not-escape = n; not-return = m })
+
+-- the places of the frame after each turn
+pub fits-none : (state : ℕ) (bs : List ℕ) → state ≤ 2 → length bs ≡ limit → Fits state 0 bs
+fits-none state bs k f = record { known = k; short = omega arith; none = λ n. refl; full = f }
+
+pub fits-more : {state len : ℕ} {bs : List ℕ} (b : ℕ) → state ≡ 1 → Fits state len bs → len < limit → Fits state (len + 1) (set bs len b)
+fits-more {state} {len} {bs} b e k l = record { known = k .known; short = omega arith; none = λ n. absurd (n e); full = length-set bs len b ∙ k .full }
+
+pub fits-open : {state len : ℕ} {bs : List ℕ} → len ≡ 0 → Fits state len bs → Fits 1 len bs
+fits-open {state} {len} {bs} z k = record { known = omega arith; short = k .short; none = λ n. z; full = k .full }
+
+-- the record put together is the code of the state
+pub coded : (state len : ℕ) (bs : List ℕ) → Fits state len bs → record { state = state; len = len; bytes = emptied bs len } ≡ keptFrame (frameIn state len bs)
+unfolding padded
+coded state len bs k = ap (λ (x : List ℕ). record { state = state; len = len; bytes = x }) (emptied-of bs len (k .full)) ∙ go (eqb state 0) (eqb state 1) refl refl
+  where
+    empty : (n : ℕ) → state ≡ n → len ≡ 0 → _≡_ {A = KeptFrame} (record { state = state; len = len; bytes = take len bs ++ replicate (limit - len) 0 }) (record { state = n; len = 0; bytes = padded limit [] })
+    empty n e z = λ j. record { state = e j; len = z j; bytes = take (z j) bs ++ replicate (limit - z j) 0 }
+
+    full : state ≡ 1 → _≡_ {A = KeptFrame} (record { state = state; len = len; bytes = take len bs ++ replicate (limit - len) 0 }) (keptFrame (openFrame (take len bs)))
+    full e = let q : len ≡ length (take len bs) = sym (length-take-le len bs (omega (arith, k .full, k .short))) in λ j. record { state = e j; len = q j; bytes = take len bs ++ replicate (limit - q j) 0 }
+
+    go : (x y : Bool) → eqb state 0 ≡ x → eqb state 1 ≡ y → _≡_ {A = KeptFrame} (record { state = state; len = len; bytes = take len bs ++ replicate (limit - len) 0 }) (keptFrame (frameIn state len bs))
+    go x true e f = full (eqb-true state 1 f) ∙ ap keptFrame (sym (shows-open state len bs (eqb-true state 1 f)))
+    go true false e f = empty 0 (eqb-true state 0 e) (k .none (eqb-false state 1 f)) ∙ ap keptFrame (sym (shows-noFrame state len bs (eqb-true state 0 e)))
+    go false false e f =
+        let n = eqb-false state 0 e in
+        let m = eqb-false state 1 f in
+        let two : state ≡ 2 = omega (arith, k .known) in
+        empty 2 two (k .none m) ∙ ap keptFrame (sym (shows-long state len bs n m))
+
+-- what the loop leaves, its frame's unused places emptied, is the record of the run
+pub put-together : {start : State Core} {bytes before : List ℕ} {done : AfterBytes} {t g fr after : List ℕ} (held : Held) → Reads start bytes before done t g fr after
+    → together (record { settings = done .settings; held = held; state = done .state; len = done .len }) t g (emptied fr (done .len)) ≡ recordOf held (run handset start bytes (length before) .state)
+put-together {done = done} {t = t} {g = g} {fr = fr} held k =
+    ap (λ (y : KeptFrame). record { settings = done .settings; text = t; picture = g; held = held; frame = y }) (coded (done .state) (done .len) fr (k .fits)) ∙ ap (recordOf held) (k .account .state)
+
+-- what holds at the head of the loop: the loop's account so far, and the locals in their ranges
+pub record Going (bytes before : List ℕ) (s : State Core) (answers : List ℕ) (p : Settings) (t g : List ℕ) (state len : ℕ) (fr : List ℕ) (i w : ℕ) : Type 0 where
+  pub account : Loop.Going (step handset) s bytes before (standing p t g state len fr) i w answers
+  pub range : CoreInRange (core p t g)
+  pub fits : Fits state len fr
+
+module _ {bytes before : List ℕ} {s : State Core} {answers : List ℕ} {p : Settings} {t g : List ℕ} {state len : ℕ} {fr : List ℕ} {i w : ℕ} (k : Going bytes before s answers p t g state len fr i w) (h : i < length bytes) where
+  pub go-quiet : {p′ : Settings} {t′ g′ : List ℕ} {state′ len′ : ℕ} {fr′ : List ℕ} → CoreInRange (core p′ t′ g′) → Fits state′ len′ fr′ → step handset (standing p t g state len fr) (getD bytes i 0) ≡ quietly (standing p′ t′ g′ state′ len′ fr′)
+      → Going bytes before s answers p′ t′ g′ state′ len′ fr′ (i + 1) w
+  go-quiet x y e = record { account = Loop.go-quiet (step handset) (k .account) (begins-with bytes i 0 h) _ e; range = x; fits = y }
+
+  pub go-loud : {p′ : Settings} {t′ g′ : List ℕ} {state′ len′ : ℕ} {fr′ : List ℕ} {w′ : ℕ} {answers′ : List ℕ} → CoreInRange (core p′ t′ g′) → Fits state′ len′ fr′ → step handset (standing p t g state len fr) (getD bytes i 0) ≡ asking (standing p′ t′ g′ state′ len′ fr′) → w < length answers
+      → (w′ ≡ w + 1) × (answers′ ≡ set answers w questionMark) → Going bytes before s answers′ p′ t′ g′ state′ len′ fr′ (i + 1) w′
+  go-loud x y e l (m, n) = rw (m, n) (record { account = Loop.go-one (step handset) (k .account) (begins-with bytes i 0 h) _ questionMark e l; range = x; fits = y })
+
+  pub go-halt : {v : State Core} → step handset (standing p t g state len fr) (getD bytes i 0) ≡ asking v → length answers ≤ w
+      → Account (run handset s bytes (length before)) before (still (standing p t g state len fr) i w answers)
+  go-halt {v} e l = Loop.go-stop (step handset) (k .account) (begins-with bytes i 0 h) (asking v) e (omega arith)
+
+-- the same account, of a core that other locals hold
+pub same-core : {ran : Ran Core} {before : List ℕ} {x y : Core} {f : Frame} {i w : ℕ} {after : List ℕ} → x ≡ y
+    → Account ran before (still (record { core = x; frame = f }) i w after) → Account ran before (still (record { core = y; frame = f }) i w after)
+same-core {ran} {before} {f} {i} {w} {after} e a = subst (λ (c : Core). Account ran before (still (record { core = c; frame = f }) i w after)) e a
+
+-- the core stays in range
+pub range-stored : (p : Settings) (t g : List ℕ) (b next : ℕ) (t′ : List ℕ) → blank ≤ b → next ≡ columnAfter (p .screen .column) → t′ ≡ textAfter t (p .screen .row) (p .screen .column) b
+    → CoreInRange (core p t g) → CoreInRange (core (withScreen p (withColumn (p .screen) next)) t′ g)
+range-stored p t g b next t′ h x y k = rw (x, y, ← stored p t g b) (store-keeps (core p t g) b k h)
+
+rows-at-most : (mode row : ℕ) → ltb row (rowsOf mode) ≡ true → row < 5
+rows-at-most mode row = cases (leb mode 1)
+  where
+    cases : (few : Bool) → ltb row (cond few 4 5) ≡ true → row < 5
+    cases true h = omega (arith, ltb-true row 4 h)
+    cases false h = omega (arith, ltb-true row 5 h)
+
+-- the cursor of a core in range is at a place of the text, or past the end of its row
+pub in-place : {p : Settings} {t g : List ℕ} → CoreInRange (core p t g) → (p .screen .row < 5) × (p .screen .column ≤ 16)
+in-place {p} k =
+    let e = both {a = ltb (p .screen .row) (rowsOf (p .screen .mode))} (k .cursor) in
+    (rows-at-most (p .screen .mode) (p .screen .row) (e .0), leb-true (p .screen .column) 16 (e .1))
+
+-- A run of text bytes: wherever the loop stood before it, it stands after it ------------------------------------------
+
+pub record Stores (row column : ℕ) (t bytes : List ℕ) (from at next : ℕ) (t′ : List ℕ) : Type 0 where
+  pub inside : at ≤ length bytes
+  pub small : next ≤ 16
+  pub goes : {before : List ℕ} {s : State Core} {answers : List ℕ} {p : Settings} {g : List ℕ} {state len : ℕ} {fr : List ℕ} {w : ℕ} → state ≡ 0 → p .screen .row ≡ row → p .screen .column ≡ column
+      → Going bytes before s answers p t g state len fr from w → Going bytes before s answers (withScreen p (withColumn (p .screen) next)) t′ g state len fr at w
+
+pub stores-none : (row column : ℕ) (t bytes : List ℕ) (from : ℕ) → from ≤ length bytes → column ≤ 16 → Stores row column t bytes from from column t
+stores-none row column t bytes from l k =
+    record {
+      inside = l;
+      small = k;
+      goes = λ {before} {s} {answers} {p} {g} {state} {len} {fr} {w} e r c going.
+          subst (λ (n : ℕ). Going bytes before s answers (withScreen p (withColumn (p .screen) n)) t g state len fr from w) c going;
+    }
+
+pub stores-more : {row column : ℕ} {t bytes : List ℕ} {from at next : ℕ} {t′ : List ℕ} (next′ : ℕ) (t″ : List ℕ) → Stores row column t bytes from at next t′ → at < length bytes → blank ≤ getD bytes at 0 → next′ ≤ 16
+    → next′ ≡ columnAfter next → t″ ≡ textAfter t′ row next (getD bytes at 0) → Stores row column t bytes from (at + 1) next′ t″
+stores-more {row} {column} {t} {bytes} {from} {at} {next} {t′} next′ t″ k l h small x y =
+    record {
+      inside = omega arith;
+      small = small;
+      goes = λ {before} {s} {answers} {p} {g} {state} {len} {fr} {w} e r c going.
+          let on = k .goes e r c going in
+          let z : t″ ≡ textAfter t′ (p .screen .row) next (getD bytes at 0) = y ∙ ap (λ (n : ℕ). textAfter t′ n next (getD bytes at 0)) (sym r) in
+          let q : Settings = withScreen p (withColumn (p .screen) next) in
+          go-quiet on l (range-stored q t′ g (getD bytes at 0) next′ t″ h x z (on .range)) (on .fits) (turn-text q t′ g state len fr (getD bytes at 0) next′ t″ e h x z);
+    }
+
+pub stores-first : {row column : ℕ} {t bytes : List ℕ} {from : ℕ} (next : ℕ) (t′ : List ℕ) → (row < 5) × (column ≤ 16) × (from < length bytes) × (blank ≤ getD bytes from 0) → (next ≡ columnAfter column) × (next ≤ 16) × (t′ ≡ textAfter t row column (getD bytes from 0))
+    → Stores row column t bytes from (from + 1) next t′
+stores-first {row} {column} {t} {bytes} {from} next t′ (r, k, l, h) (x, small, y) = stores-more next t′ (stores-none row column t bytes from (omega arith) k) l h small x y
+
+pub stores-on : {row column : ℕ} {t bytes : List ℕ} {from mid at between next : ℕ} {t′ t″ : List ℕ} → Stores row column t bytes from mid between t′ → Stores row between t′ bytes mid at next t″ → Stores row column t bytes from at next t″
+stores-on first rest = record { inside = rest .inside; small = rest .small; goes = λ e r c going. rest .goes e r refl (first .goes e r c going) }

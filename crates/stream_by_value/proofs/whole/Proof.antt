@@ -1,0 +1,10 @@
+-- `stream_by_value::whole` keeps its promise. Assumes nothing.
+use mathlib.Core.Path.{refl}
+use Rattle.stream_by_value.proofs.whole.Statement.{statement}
+use Rattle.stream_by_value.proofs.whole.Tie as tie
+
+returns : tie.Need-returns
+returns c = refl
+
+pub whole-spec : {M : Type 1} → statement M
+whole-spec = tie.close (tie.spec returns)
