@@ -1,10 +1,11 @@
 #!/usr/bin/env bash
-# Tries of the programs what a stored input can't: input that comes in pieces, answers by the thousand, standard error, the
-# status of ./run, and pipes from one program to the next. A line for each test; the last line has the counts.
+# Tries of the programs what a stored input can't: their words, input that comes in pieces or fails, answers by the thousand,
+# standard error, the status of ./run and the places that it runs in, and pipes from one program to the next. A line for each
+# test; the last line has the counts.
 set -u
 cd "$(dirname "$0")/.." || exit 2
 work=$(mktemp -d) || exit 2
-trap 'rm -rf "$work"' EXIT
+trap 'chmod -R u+w "$work"; rm -rf "$work"' EXIT
 
 # A test may end in a part of a pipe, so its verdict goes to a file.
 verdict() { # ok|FAILED TEST
@@ -25,22 +26,181 @@ rt=$(readlink -f "$(command -v rt)")
 tools=${RATTLE_HOME:-$(dirname "$(dirname "$rt")")}/on/$(uname -m)/toolchain
 emulator=$tools/bin/qemu-x86_64
 [ -x "$emulator" ] || emulator=''
-program() { # NAME
-    ${emulator:+"$emulator"} "$tools/lib/ld-linux-x86-64.so.2" --library-path "$tools/lib" "target/bin/$1"
+program() { # NAME [WORDS...]
+    local name=$1
+    shift
+    ${emulator:+"$emulator"} "$tools/lib/ld-linux-x86-64.so.2" --library-path "$tools/lib" "target/bin/$name" "$@"
 }
 
 stream=examples/meter.stream
 length=$(wc -c <$stream)
 
-# ./run
+# ./run: its own words
+names=$(cd crates && printf '%s\n' */src/main.rt | cut -d / -f 1)
+readers='drive list_screen show_screen write_frame'
+without_progress() { # what was said on standard error, but for how far the proofs are, which a slow machine is told
+    grep -Ev '^run: (proving|waiting)' "$work/err"
+}
+ends() { # TEST STATUS ERROR COMMAND...: a command's status and what it says on standard error; its output is left in out
+    local test=$1 status=$2 error=$3 got
+    shift 3
+    "$@" >"$work/out" 2>"$work/err"
+    got=$?
+    printf '%s\n%s\n' "$got" "$(without_progress)" | says "$test" "$status
+$error"
+}
+silent() { # TEST: and nothing was written
+    says "$1" '' <"$work/out"
+}
 ./run >"$work/out" 2>"$work/err"
 echo $? | says "./run with no name has status 2" 2
-says "./run with no name says how to use it" "run: usage: ./run NAME [WORDS...]; the programs are:" < <(grep -o '^run: usage: .* are:' "$work/err")
-says "./run with no name lists the programs" "$(cd crates && printf '%s\n' */src/main.rt | cut -d / -f 1)" \
-    < <(sed -n 's/.*the programs are: //p' "$work/err" | tr ' ' '\n')
-./run no_such_program >"$work/out" 2>"$work/err"
-echo $? | says "./run with an unknown name has status 2" 2
-says "./run with an unknown name says so" "run: there is no program 'no_such_program'" < <(grep -o "^run: .*'" "$work/err")
+head -n 1 "$work/err" | says "./run with no name says how to use it" "usage: ./run NAME [WORDS...]"
+silent "./run with no name writes nothing"
+ends "./run --help has status 0 and complains of nothing" 0 '' ./run --help
+head -n 1 "$work/out" | says "./run --help begins with the usage" "usage: ./run NAME [WORDS...]"
+sed -n 's/^  \.\/run \([a-z_]*\).*/\1/p' "$work/out" | says "./run --help lists the programs" "$names"
+ends "./run with an unknown name" 2 "run: there is no program 'no_such_program'; the programs are: $(echo $names)" ./run no_such_program
+ends "./run with a path for a name" 2 "run: there is no program 'jetty/'; the programs are: $(echo $names)" ./run jetty/
+ends "./run --help on a full device" 1 '' sh -c './run --help 2>/dev/null >/dev/full'
+mkdir "$work/no_kit"
+for tool in sh dirname readlink sed grep; do ln -s "$(command -v $tool)" "$work/no_kit/$tool"; done
+ends "./run without the kit" 2 "run: the Rattle kit is missing: its command rt is not on the PATH" env PATH="$work/no_kit" ./run jetty
+ends "./run --help without the kit" 0 '' env PATH="$work/no_kit" ./run jetty --help
+
+# words of the programs
+for name in $names; do
+    file=''
+    case " $readers " in *" $name "*) file=' [FILE]' ;; esac
+    ends "./run $name --help has status 0 and complains of nothing" 0 '' ./run $name --help
+    head -n 1 "$work/out" | says "./run $name --help begins with its usage" "usage: ./run $name$file"
+    program $name --help </dev/null | same "./run $name --help is what the program itself says" "$work/out"
+    for words in 'one two' '--no_such_option' '-' '-h' '--'; do
+        refused=$words
+        [ "$words" != 'one two' ] || { refused=two; [ -n "$file" ] || refused=one; }
+        ends "./run $name $words: status 2, the usage and the word" 2 "usage: ./run $name$file
+this word is not taken: $refused" ./run $name $words
+        silent "./run $name $words writes nothing"
+    done
+    ends "./run $name with an empty word" 2 "usage: ./run $name$file
+this word is not taken: " ./run $name ''
+done
+
+# an input by its name
+ends "./run list_screen FILE" 0 '' ./run list_screen $stream
+same "./run list_screen FILE prints the fields" crates/list_screen/stdout <"$work/out"
+ends "./run show_screen FILE" 0 '' ./run show_screen crates/show_screen/stdin
+same "./run show_screen FILE draws the screen" crates/show_screen/stdout <"$work/out"
+ends "./run write_frame FILE" 0 '' ./run write_frame examples/menu.words
+same "./run write_frame FILE writes the frames" examples/menu.stream <"$work/out"
+ends "./run drive FILE" 0 '' ./run drive crates/drive/stdin
+same "./run drive FILE prints the answers" crates/drive/stdout <"$work/out"
+cp $stream "$work/a name with  blanks"
+ends "./run list_screen, a name with blanks" 0 '' ./run list_screen "$work/a name with  blanks"
+same "./run list_screen, a name with blanks: the fields" crates/list_screen/stdout <"$work/out"
+
+# an input that can't be read, and an output that can't be written
+for name in $readers; do
+    ends "./run $name, a file that is missing" 1 "$name: no/such/file: No such file or directory" ./run $name no/such/file
+    silent "./run $name, a file that is missing: nothing is written"
+    ends "./run $name, a folder" 1 "$name: examples: Is a directory" ./run $name examples
+    silent "./run $name, a folder: nothing is written"
+    ends "./run $name, a folder on standard input" 1 "$name: standard input: Is a directory" ./run $name <examples
+    silent "./run $name, a folder on standard input: nothing is written"
+    ends "./run $name, standard input closed" 1 "$name: standard input: Bad file descriptor" ./run $name <&-
+    silent "./run $name, standard input closed: nothing is written"
+    ends "./run $name FILE, standard input closed" 0 '' ./run $name /dev/null <&-
+done
+for name in $names; do
+    input=/dev/null
+    [ ! -f crates/$name/stdin ] || input=crates/$name/stdin
+    full() { ./run $name 2>&1 >/dev/full <$input | grep -E "^$name: standard"; }
+    full | says "./run $name on a full device complains, once" "$name: standard output: No space left on device"
+    ./run $name 2>/dev/null >/dev/full <$input
+    echo $? | says "./run $name on a full device has status 1" 1
+    ./run $name 2>"$work/err" >&- <$input
+    echo $? | says "./run $name, standard output closed, has status 1" 1
+    grep -E "^$name: standard" "$work/err" | says "./run $name, standard output closed, complains" "$name: standard output: Bad file descriptor"
+done
+
+# the status, and standard error as it comes
+ends "./run write_frame, a line that can't be taken: status 1" 1 "write_frame: line 1: no such command; the line help lists them" \
+    ./run write_frame < <(echo dance)
+ends "./run list_screen, a bad frame is no complaint" 0 '' ./run list_screen < <(printf '\eQ\r')
+./run list_screen $stream 2>&- >"$work/out"
+echo $? | says "./run list_screen, standard error closed: status 0" 0
+./run list_screen no/such/file 2>&- >"$work/out"
+echo $? | says "./run list_screen, standard error closed and a file missing: status 1" 1
+# Where this test was started with the signal ignored, the program learns of it from its write.
+gone=141 complaint=''
+[ -z "$(sh -c 'kill -PIPE $$; echo ignored')" ] || gone=1 complaint='show_screen: standard output: Broken pipe'
+{
+    sleep 0.5
+    ./run show_screen examples/menu.stream 2>"$work/err"
+    echo $? >"$work/status"
+} | true
+says "./run show_screen, nobody reads: no complaint" "$complaint" < <(without_progress)
+says "./run show_screen, nobody reads: the signal's status" $gone <"$work/status"
+./run show_screen examples/menu.stream 2>"$work/err" | head -n 1 >"$work/out"
+says "./run show_screen | head -n 1: the line" "$(head -n 1 crates/show_screen/stdout)" <"$work/out"
+mkfifo "$work/lines"
+./run write_frame <"$work/lines" >"$work/out" 2>"$work/err" &
+exec 8>"$work/lines"
+echo dance >&8
+for ((wait = 0; wait < 200; wait++)); do
+    grep -q '^write_frame: line 1' "$work/err" && break
+    sleep 0.1
+done
+grep -c '^write_frame: line 1' "$work/err" | says "./run write_frame complains while its input is still open" 1
+exec 8>&-
+wait
+
+# ./run in other places: a fresh copy, in a path with a blank, of which a small program is proved from nothing
+copy="$work/a fresh copy"
+mkdir -p "$copy/crates/tiny/src"
+tar -cf - --exclude=./target --exclude=./.git . | tar -xf - -C "$copy"
+echo 'tiny: record io libc' >>"$copy/crates.txt"
+printf 'fn main() {\n    io::write_all(1, b"tiny\\n");\n}\n' >"$copy/crates/tiny/src/main.rt"
+echo 'something else' >"$copy/crates/tiny/stdout"
+"$copy/run" tiny >"$work/out" 2>"$work/err"
+echo $? | says "a fresh copy, its path with blanks: status 0" 0
+says "a fresh copy: the program runs, though its stored output differs" tiny <"$work/out"
+grep -o 'proving record (crate 2 of 3)' "$work/err" | says "a fresh copy: what is being proved is said" 'proving record (crate 2 of 3)'
+grep -c "what the program wrote is not what its file 'stdout' has" "$work/err" | says "a stored output that differs is told" 1
+grep '^run: tiny' "$work/err" | says "a program whose stored output differs is not called unbuilt" \
+    'run: tiny is proved and built, but its stored example failed; it runs all the same'
+echo tiny >"$copy/crates/tiny/stdout"
+ends "a stored output that is right again" 0 '' "$copy/run" tiny
+"$copy/run" tiny >"$work/out" 2>"$work/err"
+says "what is built starts without a word" '' <"$work/err"
+ln -s "$copy/run" "$work/link"
+ln -s link "$work/link to a link"
+ends "./run through a symbolic link" 0 '' "$work/link to a link" tiny
+says "./run through a symbolic link: the program runs" tiny <"$work/out"
+echo 'fn main() { io::write_all(1, b"tiny\n")[3]; }' >"$copy/crates/tiny/src/main.rt"
+"$copy/run" tiny >"$work/out" 2>"$work/err"
+echo $? | says "a program that can't be built: status 1" 1
+tail -n 1 "$work/err" | says "a program that can't be built is said not to be" 'run: tiny was not built'
+
+# A checkout that is built and can't be written. To root all can be written, so there it is tried as nobody.
+rm -rf "$copy/target/bin"
+cp -R target/bin "$copy/target/bin"
+chmod -R a-w "$copy"
+chmod -R a+rX "$copy"
+chmod a+x "$work"
+as_other=''
+[ "$(id -u)" != 0 ] || as_other='setpriv --reuid=65534 --regid=65534 --clear-groups --no-new-privs'
+ends "a read-only checkout that is built" 0 '' $as_other "$copy/run" list_screen <$stream
+same "a read-only checkout that is built: the program runs" crates/list_screen/stdout <"$work/out"
+ends "a read-only checkout that is not built" 1 "run: tiny was not built, and $copy can't be written" $as_other "$copy/run" tiny
+
+# the gate
+mkdir "$work/no_cargo"
+for tool in bash dirname rt; do ln -s "$(command -v $tool)" "$work/no_cargo/$tool"; done
+(cd "$copy" && PATH="$work/no_cargo" timeout 60 "$(command -v bash)" .ci/run) 2>&1 |
+    says ".ci/run looks for cargo before it proves" "cargo is missing, with which tests/differ.sh builds its model
+0 passed, 1 failed"
+
+# what is stored
 for name in list_screen write_frame show_screen; do
     ./run $name <crates/$name/stdin 2>/dev/null | same "./run $name writes what is stored" crates/$name/stdout
 done
@@ -139,18 +299,54 @@ refused() { # LINE REASON: the second of three lines is named with its number, a
     same "write_frame writes nothing of '${1:0:24}'" "$work/others" <"$work/out"
 }
 refused 'lefty Keep' 'no such command; the line help lists them'
-refused 'mode 0 5' 'no such command; the line help lists them'
-refused 'mode' 'a number of one to three digits is wanted'
-refused 'icon P 0001' 'a number of one to three digits is wanted'
-refused 'mode 4' 'out of range'
-refused 'icon P 20' 'out of range'
-refused 'left Keep mine' 'out of range'
-refused 'picture 7 00' 'out of range'
-refused 'picture 6 20' 'out of range'
-refused 'picture 0 000' 'wanted are 1 to 96 columns, two digits 0-9 A-F each'
-refused "picture 0 $(printf '00%.0s' {1..97})" 'wanted are 1 to 96 columns, two digits 0-9 A-F each'
+for line in 'mode' 'mode five' 'mode 5 6' 'icon P 0001' 'private 1 2' 'light 1 2 3'; do
+    refused "$line" 'one number of one to three digits is wanted'
+done
+for line in 'at 1' 'at 1 2 3' 'at a 2' 'times'; do
+    refused "$line" 'two numbers of one to three digits are wanted'
+done
+for line in 'clear 5' 'display on off' 'light auto keep it'; do
+    refused "$line" 'nothing is wanted behind these words'
+done
+for line in 'icon p 3' 'icon Q 1' 'icon 3' 'icon'; do
+    refused "$line" 'icons are S U F R P W, in capital letters'
+done
+refused 'mode 4' 'out of range: mode is 0 1 5 6 or 11 12 13'
+refused 'mode 14' 'out of range: mode is 0 1 5 6 or 11 12 13'
+refused 'at 5 0' 'out of range: at is a row 0-4 and a column 0-15'
+refused 'at 0 16' 'out of range: at is a row 0-4 and a column 0-15'
+refused 'left Keep mine' 'out of range: a label has at most 7 codes, none below 0x20'
+refused 'right Keep\tit' 'out of range: a label has at most 7 codes, none below 0x20'
+refused 'icon S 2' 'out of range: icon S is 0-1'
+refused 'icon U 2' 'out of range: icon U is 0 1 or 255'
+refused 'icon F 7' 'out of range: icon F is 0-6'
+refused 'icon R 2' 'out of range: icon R is 0-1'
+refused 'icon P 20' 'out of range: icon P is 0-19'
+refused 'icon W 4' 'out of range: icon W is 0-3'
+refused 'private 11' 'out of range: private is 0-10'
+refused 'handsfree 11' 'out of range: handsfree is 0-10'
+refused 'handsfree note 11' 'out of range: handsfree is 0-10'
+refused 'mute 2' 'out of range: mute is 0-1'
+refused 'times 3 4' 'out of range: times are 4-50 and 0 or 4-50'
+refused 'times 4 51' 'out of range: times are 4-50 and 0 or 4-50'
+refused 'buzzer 256' 'out of range: buzzer is 0-255'
+refused 'light 256' 'out of range: light is 0-255'
+refused 'picture 7 00' 'out of range: picture rows are 0-6, and columns of row 6 are 00-1F'
+refused 'picture 6 20' 'out of range: picture rows are 0-6, and columns of row 6 are 00-1F'
+for line in 'picture' 'picture 0' 'picture 0 000' "picture 0 $(printf '00%.0s' {1..97})"; do
+    refused "$line" 'wanted are a row and 1 to 96 columns, two digits 0-9 A-F each'
+done
 refused 'text a\tb' 'a text has no code below 0x20'
 refused "text $(printf 'x%.0s' {1..1020})" 'longer than 1024 bytes'
+printf 'frame IK1Keep\nframe IIP20\nframe Q\nframe  two  blanks \nframe\n' >"$work/script"
+program write_frame <"$work/script" >"$work/out" 2>"$work/err"
+printf '\eIK1Keep\r\n\eIIP20\r\n\eQ\r\n\e two  blanks \r\n\e\r\n' >"$work/others"
+same "write_frame: frames go out as they are typed" "$work/others" <"$work/out"
+says "write_frame: a frame as it is typed is never refused" '' <"$work/err"
+program list_screen <"$work/out" | sed -n -e 1p -e '/^LEFT/p' -e '/^ICONS/p' |
+    says "write_frame: of frames as they are typed the good is obeyed, the bad answered" $'REPLIES 3\nLEFT [Keep]\nICONS 0 0 0 0 0 0'
+program write_frame --help | tail -n +2 >"$work/help"
+echo help | program write_frame 2>&1 >/dev/null | same "write_frame: a line help lists what --help lists" "$work/help"
 
 # the examples, and what show_screen draws
 for words in examples/*.words; do

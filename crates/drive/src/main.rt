@@ -1,4 +1,5 @@
-// A driver over the handset's libraries: it reads a script of calls from standard input and prints what each call handed back.
+// A driver over the handset's libraries: it reads a script of calls, from a file or from standard input, and prints what each
+// call handed back.
 //
 // It keeps one record, at first the power-on record. A script has one call a line: a letter alone, or a letter, one blank and
 // bytes as pairs of hexadecimal digits, of either case, with nothing between them; a blank with no bytes behind it does no harm.
@@ -75,8 +76,7 @@ ghost use lib.ListN.{length};
 ghost use Rattle.seconds.specs.Seconds.{lightPassed};
 use command::Command;
 use command::Side;
-use libc::STDIN_FILENO;
-use libc::STDOUT_FILENO;
+use program::Input;
 use record::Backlight;
 use record::Held;
 use record::Hundredths;
@@ -185,7 +185,7 @@ fn say<'a>(word: &'a [u8], bytes: &'a [u8]) {
     let said = put_pairs(&mut out, named, bytes);
     let end = put_byte(&mut out, said, LINE_FEED);
     if end <= MOST_PRINTED {
-        io::write_all(STDOUT_FILENO, &out[..end]);
+        program::write(b"drive", &out[..end]);
     }
 }
 
@@ -792,7 +792,7 @@ fn take_line(r: Record, line: &[u8]) -> Record {
     call(r, line[0], &bytes[..n])
 }
 
-// Reading. Standard input is read into one buffer, behind the line there that is not whole yet.
+// Reading. The input is read into one buffer, behind the line there that is not whole yet.
 
 // Where the line ends that begins at `start`; `end`, where all ends, if it is not whole yet.
 fn line_end(s: &[u8], start: usize, end: usize) -> usize
@@ -827,23 +827,27 @@ fn hold(s: &mut [u8], start: usize, end: usize) -> usize
     TOO_LONG
 }
 
-// Reads behind it: where all ends then. At the end of the input the line feed ends the last line, and then there is nothing.
-fn refill(s: &mut [u8], start: usize, end: usize) -> usize
+// Reads behind it: where all ends then. At the end of the input the line feed ends the last line, and then there is nothing. Of
+// an input that fails the line that is not whole is not taken.
+fn refill(input: Input, s: &mut [u8], start: usize, end: usize) -> usize
     requires { ⌜ (start ≤ end) × (end ≤ length (now s)) ⌝ }
     requires { ⌜ 16384 < length (now s) ⌝ }
     ensures { λ r. ⌜ r ≤ length (now (s .entry)) ⌝ }
 {
     let held = hold(s, start, end);
     let rest = &mut s[held..];
-    let got = libc::read(STDIN_FILENO, rest);
-    let n = io::count(got, rest);
+    let read = program::read_piece(b"drive", input, rest);
+    let n = read.length;
+    if read.failed {
+        return 0;
+    }
     if (n == 0) & (0 < held) {
         return held + 1;
     }
     held + n
 }
 
-fn main() {
+fn take_input(input: Input) {
     let mut s = io::large_buffer();
     let mut r = Record::power_on();
     let mut start = 0;
@@ -857,10 +861,30 @@ fn main() {
             start = stop + 1;
             continue;
         }
-        end = refill(&mut s, start, end);
+        end = refill(input, &mut s, start, end);
         start = 0;
         if end == 0 {
             return;
+        }
+    }
+}
+
+fn accepted() -> bool {
+    program::accepts(
+        b"drive",
+        b"usage: ./run drive [FILE]\n\
+        Makes the calls of a script in FILE, or on standard input without one, and prints what each handed back.\n\
+        The head of crates/drive/src/main.rt has the script language.\n",
+        b"",
+        true,
+    )
+}
+
+fn main() {
+    if accepted() {
+        let input = program::open_input(b"drive");
+        if 0 <= input.descriptor {
+            take_input(input);
         }
     }
 }

@@ -1,12 +1,11 @@
 // The worst day, replayed. A screen says "Mine" over the left key; the frame that makes it "Older" comes down the cord in two
 // pieces, cut at every place in turn. For each cut it prints the label between the two calls and after them. The verdict is
 // computed from the labels that were shown.
-use libc::STDOUT_FILENO;
 use record::Label;
 use record::Record;
 
 fn say(words: &[u8]) {
-    io::write_all(STDOUT_FILENO, words);
+    program::write(b"jetty", words);
 }
 
 fn say_codes(codes: &[u8], n: usize) {
@@ -28,7 +27,7 @@ fn say_number(n: usize) {
     if n < 10 {
         say(b" ");
     }
-    io::print_decimal(STDOUT_FILENO, n as u64);
+    program::write_number(b"jetty", n as u64);
 }
 
 struct Shown {
@@ -111,7 +110,7 @@ fn replay(start: Record, frame: &[u8], old: Label, new: Label) {
     say(b"verdict: WRONG, a cut shows another label or does not end in the new one\n");
 }
 
-fn main() {
+fn show() {
     let was = send(Record::power_on(), b"\x1BIK1Mine\r\n");
     let start = was.record;
     let old = left_label(start);
@@ -132,4 +131,16 @@ fn main() {
     say(b", label still ");
     say_label(left_label(kept));
     say(b"\n");
+}
+
+fn main() {
+    if program::accepts(
+        b"jetty",
+        b"usage: ./run jetty\n\
+        Replays the day that led to the letter: a label's frame is cut at every place into two calls.\n",
+        b"",
+        false,
+    ) {
+        show();
+    }
 }

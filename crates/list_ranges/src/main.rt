@@ -1,14 +1,13 @@
 // Finds by trial which values the range question takes in each field of the record, and prints a line a field in the order of
 // document 01's table. A record is put to the question for each value, the other fields as the line says (at power-on where it
 // says nothing). Of an array every place named is tried with every value.
-use libc::STDOUT_FILENO;
 use record::Record;
 use record_fields::Field;
 
 const FILLING: u16 = 0x41;
 
 fn say(words: &[u8]) {
-    io::write_all(STDOUT_FILENO, words);
+    program::write(b"list_ranges", words);
 }
 
 // Whether the value is taken at every place, and whether at any.
@@ -42,10 +41,10 @@ fn of_length(r: Record, array: Field, length: Field, n: u16) -> Record {
 
 fn say_run(first: u16, last: u16) {
     say(b" ");
-    io::print_decimal(STDOUT_FILENO, first as u64);
+    program::write_number(b"list_ranges", first as u64);
     if first < last {
         say(b"-");
-        io::print_decimal(STDOUT_FILENO, last as u64);
+        program::write_number(b"list_ranges", last as u64);
     }
 }
 
@@ -304,7 +303,7 @@ fn list_frame(r: Record) {
     );
 }
 
-fn main() {
+fn list_all() {
     let r = Record::power_on();
     list_screen(r);
     list_labels(r);
@@ -314,4 +313,16 @@ fn main() {
     list_settings(r);
     list_held(r);
     list_frame(r);
+}
+
+fn main() {
+    if program::accepts(
+        b"list_ranges",
+        b"usage: ./run list_ranges\n\
+        Asks the range question about every value of every field of the record, and prints which it takes.\n",
+        b"",
+        false,
+    ) {
+        list_all();
+    }
 }

@@ -1,17 +1,18 @@
-// Reads a stream from standard input, from the power-on record, and prints the fields of the screen.
+// Reads a stream from a file or from standard input, from the power-on record, and prints the fields of the screen. Of an input
+// that fails nothing is printed: what came before is not the stream.
 // Codes outside 0x20 to 0x7E are printed as '.'. A frame that is still open at the end is not seen.
-use libc::STDOUT_FILENO;
+use program::Input;
 use record::Label;
 use record::Record;
 use record::Settings;
 
 fn say(words: &[u8]) {
-    io::write_all(STDOUT_FILENO, words);
+    program::write(b"list_screen", words);
 }
 
 fn say_number(words: &[u8], n: u64) {
     say(words);
-    io::print_decimal(STDOUT_FILENO, n);
+    program::write_number(b"list_screen", n);
 }
 
 fn say_flag(words: &[u8], flag: bool) {
@@ -88,11 +89,7 @@ fn say_volume(p: Settings) {
     say(b"\n");
 }
 
-fn main() {
-    let heard = stream_input::hear(Record::power_on());
-    say_number(b"REPLIES ", heard.replies);
-    say(b"\n");
-    let r = heard.record;
+fn say_fields(r: Record) {
     let p = r.settings;
     let text = r.text;
     let left = p.left;
@@ -103,4 +100,34 @@ fn main() {
     say_label(b"RIGHT ", right);
     say_icons(p);
     say_volume(p);
+}
+
+fn accepted() -> bool {
+    program::accepts(
+        b"list_screen",
+        b"usage: ./run list_screen [FILE]\n\
+        Reads a stream from FILE, or from standard input without one, and prints the fields of the screen.\n",
+        b"",
+        true,
+    )
+}
+
+fn list(input: Input) {
+    let heard = stream_input::hear(input.descriptor, Record::power_on());
+    if heard.failed {
+        program::complain_of(b"list_screen", input);
+        return;
+    }
+    say_number(b"REPLIES ", heard.replies);
+    say(b"\n");
+    say_fields(heard.record);
+}
+
+fn main() {
+    if accepted() {
+        let input = program::open_input(b"list_screen");
+        if 0 <= input.descriptor {
+            list(input);
+        }
+    }
 }

@@ -264,13 +264,22 @@ pub fn open_input(name: &[u8]) -> Input {
     input
 }
 
-// Reads a piece of an input and tells how long it is: 0 at the end, and where it can't be read, which is complained of.
-pub fn read_piece(name: &[u8], input: Input, piece: &mut [u8]) -> usize
-    ensures { λ r. ⌜ Counts r (now (piece .exit)) ⌝ }
+// How long a piece is that was read, 0 at the end of the input; and whether it could not be read.
+pub struct Piece {
+    pub length: usize,
+    pub failed: bool,
+}
+
+// Reads a piece of an input, and complains if that fails.
+pub fn read_piece(name: &[u8], input: Input, piece: &mut [u8]) -> Piece
+    ensures { λ r. ⌜ Counts (r .length) (now (piece .exit)) ⌝ }
 {
     let got = libc::read(input.descriptor, piece);
     if got < 0 {
         complain_of(name, input);
     }
-    io::count(got, piece)
+    Piece {
+        length: io::count(got, piece),
+        failed: got < 0,
+    }
 }

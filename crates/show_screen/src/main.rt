@@ -1,14 +1,14 @@
-// Reads a stream from standard input, from the power-on record, and draws what a person then sees, in a terminal that takes
-// UTF-8:
+// Reads a stream from a file or from standard input, from the power-on record, and draws what a person then sees, in a terminal
+// that takes UTF-8:
 //
-//   ./run show_screen < examples/picture.stream
+//   ./run show_screen examples/picture.stream
 //
 // Each of the seven display rows is asked for by the proved row question and drawn as two lines of 48 places in a frame, 50
 // columns in all. A place is two dots wide and four high, so a picture row is drawn dot by dot in braille signs, and a code of
 // a text row, six dots wide, has three places. Codes outside 0x20 to 0x7E are drawn as '.'. The icon bar is drawn in words:
 // signal strength, missed calls, roaming, SMS, volume. The soft keys' row has a label at each side and the rocker between.
-// With the display off the frame is empty. The cursor is no part of what is seen.
-use libc::STDOUT_FILENO;
+// With the display off the frame is empty. The cursor is no part of what is seen. Of an input that fails nothing is drawn.
+use program::Input;
 use record::Label;
 use record::Record;
 use seen::Bar;
@@ -20,7 +20,7 @@ use seen::VolumePanel;
 const PLACES: usize = 48;
 
 fn say(words: &[u8]) {
-    io::write_all(STDOUT_FILENO, words);
+    program::write(b"show_screen", words);
 }
 
 // Either side of the frame.
@@ -97,7 +97,7 @@ fn say_number(n: u8) {
     if n < 10 {
         say(b" ");
     }
-    io::print_decimal(STDOUT_FILENO, n as u64);
+    program::write_number(b"show_screen", n as u64);
 }
 
 // Strength 1 is the icon without bars, 6 that with five.
@@ -261,12 +261,38 @@ fn draw_row(r: Record, row: u8) {
     }
 }
 
-fn main() {
-    let heard = stream_input::hear(Record::power_on());
-    let r = heard.record;
+fn draw(r: Record) {
     top_edge();
     for row in 0..7 {
         draw_row(r, row);
     }
     bottom_edge();
+}
+
+fn accepted() -> bool {
+    program::accepts(
+        b"show_screen",
+        b"usage: ./run show_screen [FILE]\n\
+        Reads a stream from FILE, or from standard input without one, and draws what a person then sees.\n",
+        b"",
+        true,
+    )
+}
+
+fn show(input: Input) {
+    let heard = stream_input::hear(input.descriptor, Record::power_on());
+    if heard.failed {
+        program::complain_of(b"show_screen", input);
+        return;
+    }
+    draw(heard.record);
+}
+
+fn main() {
+    if accepted() {
+        let input = program::open_input(b"show_screen");
+        if 0 <= input.descriptor {
+            show(input);
+        }
+    }
 }

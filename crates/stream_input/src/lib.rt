@@ -1,20 +1,20 @@
-// Reads a stream from standard input to its end and feeds it to a handset, in pieces, as a cord would bring it.
+// Reads a stream from an input to its end and feeds it to a handset, in pieces, as a cord would bring it.
 // What an input brings can't be promised; but whatever it brings, a record in range stays in range.
 ghost use mathlib.Core.Path.{_≡_};
 ghost use mathlib.Core.Bool.{true};
 ghost use Prim.Native.Nat.{_<_, _≤_};
 ghost use Rattle.record.specs.Range.{inRange};
-use libc::STDIN_FILENO;
 use record::Record;
 use stream::Fed;
 
 // The longest answer must fit, or a call could never get past it.
 const ROOM: usize = 64;
 
-// The record after the stream, and how many answer bytes there were.
+// The record after the stream, how many answer bytes there were, and whether the input failed before its end.
 pub struct Heard {
     pub record: Record,
     pub replies: u64,
+    pub failed: bool,
 }
 
 // A call with a buffer of its own for the answers.
@@ -35,11 +35,13 @@ fn more(heard: Heard, after: Record, written: usize) -> Heard
         return Heard {
             record: after,
             replies: replies,
+            failed: false,
         };
     }
     Heard {
         record: after,
         replies: replies + n,
+        failed: false,
     }
 }
 
@@ -76,34 +78,38 @@ fn hear_piece(heard: Heard, piece: &[u8]) -> Heard
 struct Turn {
     heard: Heard,
     ended: bool,
+    failed: bool,
 }
 
-fn hear_once(heard: Heard) -> Turn
+fn hear_once(descriptor: i32, heard: Heard) -> Turn
     ensures { λ t. ⌜ (inRange (heard .record) ≡ true → inRange (t .heard .record) ≡ true) ⌝ }
 {
     let mut buffer = io::buffer();
-    let got = libc::read(STDIN_FILENO, &mut buffer);
+    let got = libc::read(descriptor, &mut buffer);
     let n = io::count(got, &buffer);
     Turn {
         heard: hear_piece(heard, &buffer[..n]),
         ended: n == 0,
+        failed: got < 0,
     }
 }
 
-// Reads standard input to its end, from this record.
-pub fn hear(r: Record) -> Heard
+// Reads an input to its end, or to where it fails, from this record.
+pub fn hear(descriptor: i32, r: Record) -> Heard
     ensures kept { λ h. ⌜ (inRange r ≡ true → inRange (h .record) ≡ true) ⌝ }
 {
     let mut heard = Heard {
         record: r,
         replies: 0,
+        failed: false,
     };
     let mut turns: u64 = 0xFFFF_FFFF_FFFF_FFFF;
     while 0 < turns {
-        let turn = hear_once(heard);
+        let turn = hear_once(descriptor, heard);
         let after = turn.heard;
         heard = after;
         if turn.ended {
+            heard.failed = turn.failed;
             return heard;
         }
         turns -= 1;

@@ -1,39 +1,16 @@
-// Writes the frames of a collector from lines of plain words. Standard input has a command on each line; standard output gets
-// the bytes of its frame, through the proved writers. A line that can't be taken is named on standard error, with its number
-// and the reason, and nothing of it is written. Words are parted by blanks and numbers have one to three digits. An empty line
-// says nothing, and so does one that begins with #. A line has at most 1024 bytes, and may end with CR LF.
-//
-//   display on | display off
-//   mode N                      text mode 0 1 5 6, or overlay 11 12 13
-//   cursor show | cursor hide
-//   clear                       all text blank, cursor at 0 0
-//   at ROW COLUMN               the cursor: row 0-4, column 0-15
-//   left TEXT | right TEXT      a label: all behind one blank, at most 7 codes; no TEXT empties it
-//   labels empty
-//   icon LETTER N               S 0-1, U 0 1 255, F 0-6, R 0-1, P 0-19, W 0-3
-//   private N | handsfree N     the volume, 0-10; 0 for none
-//   handsfree note N            the same as handsfree N, in the note's spelling, II
-//   mute N                      0-1
-//   times N N                   Time1 4-50, Time2 0 or 4-50, in 100 ms
-//   buzzer N                    0-255, in 10 ms
-//   light N                     the duration, 1-255 s; 0 for off
-//   light on | light off
-//   light auto                  auto, its time starts anew
-//   light auto keep             auto, its time as it is
-//   light default               the duration 30 s
-//   keypad on | keypad off
-//   picture ROW COLUMNS         row 0-6; 1 to 96 columns, two digits 0-9 A-F each, blanks between them or not
-//   text TEXT                   all behind one blank, as it is and in no frame; codes 0x20-0xFF
-//   help                        these lines, on standard error
+// Writes the frames of a collector from lines of plain words. Its input, a file or standard input, has a command on each line;
+// standard output gets the bytes of its frame, through the proved writers. A line that can't be taken is named on standard error,
+// with its number and the reason, and nothing of it is written. Words are parted by blanks and numbers have one to three digits.
+// An empty line says nothing, and so does one that begins with #. A line has at most 1024 bytes, and may end with CR LF. The
+// usage below has the lines.
 ghost use Prim.Native.Nat.{_≤_};
 ghost use lib.ListN.{length};
 use command::Command;
 use command::Side;
 use libc::STDERR_FILENO;
-use libc::STDIN_FILENO;
-use libc::STDOUT_FILENO;
 use numeral::Numeral;
 use numeral::read_number;
+use program::Input;
 use record::Number;
 use writer::Written;
 
@@ -65,7 +42,8 @@ const MOST_PIECES: u64 = 0xFFFF_FFFF_FFFF_FFFF;
 enum Outcome {
     Taken,
     NoSuchCommand,
-    NoNumber,
+    NoSuchIcon,
+    BadNumbers,
     OutOfRange,
     BadColumns,
     BadText,
@@ -75,6 +53,12 @@ enum Outcome {
 struct Found {
     phrase: u8,
     at: usize,
+}
+
+// A part of a text.
+struct Part {
+    start: usize,
+    end: usize,
 }
 
 // A word as a number, and where it ends.
@@ -102,32 +86,11 @@ fn refuse(number: u64, reason: &[u8]) {
     tell(reason);
 }
 
-fn help() -> Outcome {
-    tell(
-        b"display on | display off\n\
-        mode N                    text mode 0 1 5 6, or overlay 11 12 13\n\
-        cursor show | cursor hide\n\
-        clear                     all text blank, cursor at 0 0\n\
-        at ROW COLUMN             the cursor: row 0-4, column 0-15\n\
-        left TEXT | right TEXT    a label of at most 7 codes\n\
-        labels empty\n\
-        icon LETTER N             S 0-1, U 0 1 255, F 0-6, R 0-1, P 0-19, W 0-3\n\
-        private N | handsfree N   the volume, 0-10\n\
-        handsfree note N          the same in the note's spelling\n\
-        mute N                    0-1\n\
-        times N N                 4-50, and 0 or 4-50, in 100 ms\n\
-        buzzer N                  0-255, in 10 ms\n\
-        light N                   seconds, 1-255; 0 for off\n\
-        light on | light off | light auto | light auto keep | light default\n\
-        keypad on | keypad off\n\
-        picture ROW COLUMNS       row 0-6; 1 to 96 columns, two digits 0-9 A-F each\n\
-        text TEXT                 as it is, in no frame\n\
-        help                      these lines\n",
-    );
-    Outcome::Taken
-}
-
 // Standard output.
+
+fn say(bytes: &[u8]) {
+    program::write(b"write_frame", bytes);
+}
 
 // What a writer wrote.
 fn send(room: &[u8], w: Written) -> Outcome {
@@ -137,7 +100,7 @@ fn send(room: &[u8], w: Written) -> Outcome {
         return Outcome::OutOfRange;
     };
     if n <= room.len() {
-        io::write_all(STDOUT_FILENO, &room[..n]);
+        say(&room[..n]);
     }
     Outcome::Taken
 }
@@ -167,7 +130,15 @@ fn send_text(s: &[u8]) -> Outcome {
             return Outcome::BadText;
         }
     }
-    io::write_all(STDOUT_FILENO, s);
+    say(s);
+    Outcome::Taken
+}
+
+// A frame goes out as it is typed.
+fn send_frame(body: &[u8]) -> Outcome {
+    say(b"\x1B");
+    say(body);
+    say(b"\r\n");
     Outcome::Taken
 }
 
@@ -285,6 +256,7 @@ fn find_phrase(line: &[u8], start: usize) -> Found
         b"< left\n\
         > right\n\
         = text\n\
+        ! frame\n\
         : picture\n\
         ? help\n\
         x display off\n\
@@ -307,6 +279,7 @@ fn find_phrase(line: &[u8], start: usize) -> Found
         R icon R\n\
         P icon P\n\
         W icon W\n\
+        i icon\n\
         L private\n\
         I handsfree note\n\
         J handsfree\n\
@@ -318,6 +291,58 @@ fn find_phrase(line: &[u8], start: usize) -> Found
         line,
         start,
     )
+}
+
+// The line of a table that begins with this sign: what stands behind the sign, with its line feed.
+fn entry(table: &[u8], sign: u8) -> Part
+    ensures { λ r. ⌜ (r .start ≤ r .end) × (r .end ≤ length (now (table .entry))) ⌝ }
+{
+    let mut start = 0;
+    for i in 0..table.len() {
+        if table[i] != LINE_FEED {
+            continue;
+        }
+        if table[start] == sign {
+            return Part {
+                start: start + 1,
+                end: i + 1,
+            };
+        }
+        start = i + 1;
+    }
+    Part { start: 0, end: 0 }
+}
+
+fn tell_entry(table: &[u8], sign: u8) {
+    let part = entry(table, sign);
+    let start = part.start;
+    let end = part.end;
+    tell(&table[start..end]);
+}
+
+// The ranges of the phrases, by the same signs.
+fn tell_range(phrase: u8) {
+    tell_entry(
+        b"< a label has at most 7 codes, none below 0x20\n\
+        > a label has at most 7 codes, none below 0x20\n\
+        : picture rows are 0-6, and columns of row 6 are 00-1F\n\
+        D mode is 0 1 5 6 or 11 12 13\n\
+        S icon S is 0-1\n\
+        U icon U is 0 1 or 255\n\
+        F icon F is 0-6\n\
+        R icon R is 0-1\n\
+        P icon P is 0-19\n\
+        W icon W is 0-3\n\
+        L private is 0-10\n\
+        I handsfree is 0-10\n\
+        J handsfree is 0-10\n\
+        M mute is 0-1\n\
+        B buzzer is 0-255\n\
+        n light is 0-255\n\
+        H at is a row 0-4 and a column 0-15\n\
+        T times are 4-50 and 0 or 4-50\n",
+        phrase,
+    );
 }
 
 // How many numbers a phrase of the table wants.
@@ -376,7 +401,6 @@ fn command_of(phrase: u8, n: u16, m: u16) -> Command {
     }
 }
 
-// A line that begins with no phrase comes here as a whole, and so has words where none is wanted.
 fn obey_command(phrase: u8, words: &[u8]) -> Outcome {
     let most = wanted(phrase);
     let first = next_number(words, 0, 0 < most);
@@ -384,10 +408,10 @@ fn obey_command(phrase: u8, words: &[u8]) -> Outcome {
     let n = first.number;
     let m = second.number;
     if seek(words, second.end, false) < words.len() {
-        return Outcome::NoSuchCommand;
+        return Outcome::BadNumbers;
     }
     if (n == NO_NUMBER) | (m == NO_NUMBER) {
-        return Outcome::NoNumber;
+        return Outcome::BadNumbers;
     }
     send_command(command_of(phrase, n, m))
 }
@@ -449,7 +473,7 @@ fn obey_picture(words: &[u8]) -> Outcome {
     let n = row.number;
     let end = row.end;
     if n == NO_NUMBER {
-        return Outcome::NoNumber;
+        return Outcome::BadColumns;
     }
     if LAST_ROW < n {
         return Outcome::OutOfRange;
@@ -459,27 +483,84 @@ fn obey_picture(words: &[u8]) -> Outcome {
 
 // Lines.
 
+// The usage, which --help asks for; its lines, which a line help asks for. Tells whether the program goes on.
+fn usage(asked_by_line: bool) -> bool {
+    let text = b"usage: ./run write_frame [FILE]\n\
+        Reads lines from FILE, or from standard input without one, and writes the bytes of their frames. The lines:\n\
+        display on | display off\n\
+        mode N                    text mode 0 1 5 6, or overlay 11 12 13\n\
+        cursor show | cursor hide\n\
+        clear                     all text blank, cursor at 0 0\n\
+        at ROW COLUMN             the cursor: row 0-4, column 0-15\n\
+        left TEXT | right TEXT    a label: all behind one blank, at most 7 codes; no TEXT empties it\n\
+        labels empty              both\n\
+        icon LETTER N             S 0-1, U 0 1 255, F 0-6, R 0-1, P 0-19, W 0-3\n\
+        private N | handsfree N   the volume, 0-10; 0 for none\n\
+        handsfree note N          the same as handsfree N, in the note's spelling, II\n\
+        mute N                    0-1\n\
+        times N N                 Time1 4-50, Time2 0 or 4-50, in 100 ms\n\
+        buzzer N                  0-255, in 10 ms\n\
+        light N                   the duration, 1-255 s; 0 for off\n\
+        light on | light off\n\
+        light auto                auto, its time starts anew\n\
+        light auto keep           auto, its time as it is\n\
+        light default             the duration 30 s\n\
+        keypad on | keypad off\n\
+        picture ROW COLUMNS       row 0-6; 1 to 96 columns, two digits 0-9 A-F each, blanks between them or not\n\
+        text TEXT                 all behind one blank, as it is and in no frame; codes 0x20-0xFF\n\
+        frame TEXT                a frame as it is typed, good, bad or out of range: ESC, all behind one blank, CR LF\n\
+        help                      these lines, on standard error\n";
+    if asked_by_line {
+        program::tell_help(text);
+        return true;
+    }
+    program::accepts(b"write_frame", text, b"", true)
+}
+
+fn help() -> Outcome {
+    usage(true);
+    Outcome::Taken
+}
+
 // A phrase of the table with all that stands behind it.
 fn obey_phrase(phrase: u8, rest: &[u8]) -> Outcome {
     match phrase {
+        NO_PHRASE => Outcome::NoSuchCommand,
+        b'i' => Outcome::NoSuchIcon,
         b'<' => send_label(Side::Left, rest),
         b'>' => send_label(Side::Right, rest),
         b'=' => send_text(rest),
+        b'!' => send_frame(rest),
         b':' => obey_picture(rest),
         b'?' => help(),
         _ => obey_command(phrase, rest),
     }
 }
 
-fn tell_outcome(outcome: Outcome, number: u64) {
+fn refuse_range(phrase: u8, number: u64) {
+    refuse(number, b": out of range:");
+    tell_range(phrase);
+}
+
+// A phrase that wants no number wants no word at all behind it.
+fn refuse_numbers(wanted: u8, number: u64) {
+    match wanted {
+        1 => refuse(number, b": one number of one to three digits is wanted\n"),
+        2 => refuse(number, b": two numbers of one to three digits are wanted\n"),
+        _ => refuse(number, b": nothing is wanted behind these words\n"),
+    }
+}
+
+fn tell_outcome(outcome: Outcome, phrase: u8, number: u64) {
     match outcome {
         Outcome::Taken => {}
         Outcome::NoSuchCommand => refuse(number, b": no such command; the line help lists them\n"),
-        Outcome::NoNumber => refuse(number, b": a number of one to three digits is wanted\n"),
-        Outcome::OutOfRange => refuse(number, b": out of range\n"),
+        Outcome::NoSuchIcon => refuse(number, b": icons are S U F R P W, in capital letters\n"),
+        Outcome::BadNumbers => refuse_numbers(wanted(phrase), number),
+        Outcome::OutOfRange => refuse_range(phrase, number),
         Outcome::BadColumns => refuse(
             number,
-            b": wanted are 1 to 96 columns, two digits 0-9 A-F each\n",
+            b": wanted are a row and 1 to 96 columns, two digits 0-9 A-F each\n",
         ),
         Outcome::BadText => refuse(number, b": a text has no code below 0x20\n"),
     }
@@ -495,7 +576,8 @@ fn obey(line: &[u8], number: u64) {
     }
     let found = find_phrase(line, start);
     let at = found.at;
-    tell_outcome(obey_phrase(found.phrase, &line[at..]), number);
+    let phrase = found.phrase;
+    tell_outcome(obey_phrase(phrase, &line[at..]), phrase, number);
 }
 
 // How long a line is without the CR that may end it.
@@ -552,13 +634,18 @@ fn take_piece(reading: Reading, piece: &[u8], line: &mut [u8]) -> Reading {
     now
 }
 
-fn main() {
+// Of an input that fails the line that is not whole is not taken.
+fn take_input(input: Input) {
     let mut line = [0u8; 1024];
     let mut piece = io::buffer();
     let mut reading = Reading { number: 1, held: 0 };
     let mut left = MOST_PIECES;
     while 0 < left {
-        let n = io::count(libc::read(STDIN_FILENO, &mut piece), &piece);
+        let read = program::read_piece(b"write_frame", input, &mut piece);
+        let n = read.length;
+        if read.failed {
+            return;
+        }
         if n == 0 {
             break;
         }
@@ -567,4 +654,13 @@ fn main() {
     }
     // The last line may lack its LF.
     take_line(&line, reading.held, reading.number);
+}
+
+fn main() {
+    if usage(false) {
+        let input = program::open_input(b"write_frame");
+        if 0 <= input.descriptor {
+            take_input(input);
+        }
+    }
 }

@@ -7,10 +7,10 @@ use Rattle.stream_input.proofs.hear.Statement.{statement}
 use Rattle.stream_input.proofs.hear.Tie as tie
 
 abbrev Inv-loop : tie.InvT-loop
-Inv-loop heard₀ turns₀ heard turns = inRange (heard₀ .record) ≡ true → inRange (heard .record) ≡ true
+Inv-loop descriptor heard₀ turns₀ heard turns = inRange (heard₀ .record) ≡ true → inRange (heard .record) ≡ true
 
 abbrev μ-loop : tie.MeasureT-loop
-μ-loop heard₀ turns₀ heard turns = turns
+μ-loop descriptor heard₀ turns₀ heard turns = turns
 
 loop-holds : tie.Need-loop-holds Inv-loop μ-loop
 loop-holds c = λ h. h

@@ -12,11 +12,11 @@ enum-told c = search needs
 returns : tie.Need-returns
 returns c = search needs
 
-slice-aggregate-write-all : tie.Need-slice-aggregate-write-all
-slice-aggregate-write-all c = sym (length-take-le _ _ (omega arith))
+slice-aggregate-say : tie.Need-slice-aggregate-say
+slice-aggregate-say c = sym (length-take-le _ _ (omega arith))
 
-write-all-requires : tie.Need-write-all-requires
-write-all-requires c κs = search needs
+say-requires : tie.Need-say-requires
+say-requires c κs = search needs
 
 returns-2 : tie.Need-returns-2
 returns-2 c = search needs
@@ -27,4 +27,4 @@ returns-3 c = search needs
 pub send-spec : {M : Type 1} → statement M
 send-spec =
     tie.close
-    (tie.spec enum-told returns slice-aggregate-write-all write-all-requires returns-2 returns-3)
+    (tie.spec enum-told returns slice-aggregate-say say-requires returns-2 returns-3)

@@ -2,14 +2,14 @@
 use mathlib.Core.Path.{_≡_}
 use lib.ListN.{length}
 use borrow.Author.Needs.{needs}
-use Rattle.write_frame.proofs.main.Statement.{statement}
-use Rattle.write_frame.proofs.main.Tie as tie
+use Rattle.write_frame.proofs.take_input.Statement.{statement}
+use Rattle.write_frame.proofs.take_input.Tie as tie
 
 abbrev Inv-loop : tie.InvT-loop
-Inv-loop line₀ piece₀ reading₀ left₀ line piece reading left = (length line ≡ 1024) × (length piece ≡ 4096)
+Inv-loop input line₀ piece₀ reading₀ left₀ t8 line piece reading left = (length line ≡ 1024) × (length piece ≡ 4096)
 
 abbrev μ-loop : tie.MeasureT-loop
-μ-loop line₀ piece₀ reading₀ left₀ line piece reading left = left
+μ-loop input line₀ piece₀ reading₀ left₀ t8 line piece reading left = left
 
 buffer-requires : tie.Need-buffer-requires Inv-loop μ-loop
 buffer-requires c κs = search needs
@@ -17,17 +17,17 @@ buffer-requires c κs = search needs
 loop-holds : tie.Need-loop-holds Inv-loop μ-loop
 loop-holds c = search needs
 
-slice-aggregate-read : tie.Need-slice-aggregate-read Inv-loop μ-loop
-slice-aggregate-read c = search needs
+slice-aggregate-read-piece : tie.Need-slice-aggregate-read-piece Inv-loop μ-loop
+slice-aggregate-read-piece c = search needs
 
-read-requires : tie.Need-read-requires Inv-loop μ-loop
-read-requires c κs = search needs
+slice-aggregate-read-piece-2 : tie.Need-slice-aggregate-read-piece-2 Inv-loop μ-loop
+slice-aggregate-read-piece-2 c = search needs
 
-slice-aggregate-count : tie.Need-slice-aggregate-count Inv-loop μ-loop
-slice-aggregate-count c = search needs
+read-piece-requires : tie.Need-read-piece-requires Inv-loop μ-loop
+read-piece-requires c κs = search needs
 
-count-requires : tie.Need-count-requires Inv-loop μ-loop
-count-requires c κs = search needs
+returns : tie.Need-returns Inv-loop μ-loop
+returns c = search needs
 
 array-share-prefix-piece : tie.Need-array-share-prefix-piece Inv-loop μ-loop
 array-share-prefix-piece c = search needs
@@ -56,21 +56,21 @@ slice-aggregate-take-line c = search needs
 take-line-requires : tie.Need-take-line-requires Inv-loop μ-loop
 take-line-requires c κs = search needs
 
-returns : tie.Need-returns Inv-loop μ-loop
-returns c = search needs
+returns-2 : tie.Need-returns-2 Inv-loop μ-loop
+returns-2 c = search needs
 
-pub main-spec : {M : Type 1} → statement M
-main-spec =
+pub take-input-spec : {M : Type 1} → statement M
+take-input-spec =
     tie.close
     (tie.spec
     Inv-loop
     μ-loop
     buffer-requires
     loop-holds
-    slice-aggregate-read
-    read-requires
-    slice-aggregate-count
-    count-requires
+    slice-aggregate-read-piece
+    slice-aggregate-read-piece-2
+    read-piece-requires
+    returns
     array-share-prefix-piece
     slice-aggregate-take-piece
     slice-aggregate-take-piece-2
@@ -80,4 +80,4 @@ main-spec =
     loop-again
     slice-aggregate-take-line
     take-line-requires
-    returns)
+    returns-2)

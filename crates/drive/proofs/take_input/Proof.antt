@@ -1,16 +1,16 @@
--- `drive::main` keeps its promise. Assumes nothing.
+-- `drive::take_input` keeps its promise. Assumes nothing.
 use Prim.Native.Nat.{_≤_}
 use mathlib.Core.Path.{_≡_}
 use lib.ListN.{length}
 use borrow.Author.Needs.{needs}
-use Rattle.drive.proofs.main.Statement.{statement}
-use Rattle.drive.proofs.main.Tie as tie
+use Rattle.drive.proofs.take_input.Statement.{statement}
+use Rattle.drive.proofs.take_input.Tie as tie
 
 abbrev Inv-loop : tie.InvT-loop
-Inv-loop s₀ r₀ start₀ end₀ turns₀ s r start end turns = (start ≤ end) × (end ≤ 65536) × (65536 ≡ length s)
+Inv-loop input s₀ r₀ start₀ end₀ turns₀ s r start end turns = (start ≤ end) × (end ≤ 65536) × (65536 ≡ length s)
 
 abbrev μ-loop : tie.MeasureT-loop
-μ-loop s₀ r₀ start₀ end₀ turns₀ s r start end turns = turns
+μ-loop input s₀ r₀ start₀ end₀ turns₀ s r start end turns = turns
 
 large-buffer-requires : tie.Need-large-buffer-requires Inv-loop μ-loop
 large-buffer-requires c κs = search needs
@@ -69,8 +69,8 @@ loop-again-2 c = search needs
 returns-2 : tie.Need-returns-2 Inv-loop μ-loop
 returns-2 c = search needs
 
-pub main-spec : {M : Type 1} → statement M
-main-spec =
+pub take-input-spec : {M : Type 1} → statement M
+take-input-spec =
     tie.close
     (tie.spec
     Inv-loop

@@ -1,20 +1,14 @@
 -- The seven rows are asked for in turn. Assumes nothing.
 use Prim.Native.Nat.{_-_, _≤_}
 use borrow.Author.Needs.{needs}
-use Rattle.show_screen.proofs.main.Statement.{statement}
-use Rattle.show_screen.proofs.main.Tie as tie
+use Rattle.show_screen.proofs.draw.Statement.{statement}
+use Rattle.show_screen.proofs.draw.Tie as tie
 
 abbrev Inv-loop : tie.InvT-loop
 Inv-loop r row₀ row = row ≤ 7
 
 abbrev μ-loop : tie.MeasureT-loop
 μ-loop r row₀ row = 7 - row
-
-power-on-requires : tie.Need-power-on-requires Inv-loop μ-loop
-power-on-requires c κs = search needs
-
-hear-requires : tie.Need-hear-requires Inv-loop μ-loop
-hear-requires c κs = search needs
 
 top-edge-requires : tie.Need-top-edge-requires Inv-loop μ-loop
 top-edge-requires c κs = search needs
@@ -40,14 +34,12 @@ bottom-edge-requires c κs = search needs
 returns : tie.Need-returns Inv-loop μ-loop
 returns c = search needs
 
-pub main-spec : {M : Type 1} → statement M
-main-spec =
+pub draw-spec : {M : Type 1} → statement M
+draw-spec =
     tie.close
     (tie.spec
     Inv-loop
     μ-loop
-    power-on-requires
-    hear-requires
     top-edge-requires
     loop-holds
     draw-row-requires
