@@ -46,8 +46,7 @@ ends() { # TEST STATUS ERROR COMMAND...: a command's status and what it says on 
     shift 3
     "$@" >"$work/out" 2>"$work/err"
     got=$?
-    printf '%s\n%s\n' "$got" "$(without_progress)" | says "$test" "$status
-$error"
+    echo "$(without_progress) [$got]" | says "$test" "$error [$status]"
 }
 silent() { # TEST: and nothing was written
     says "$1" '' <"$work/out"
@@ -196,7 +195,7 @@ ends "a read-only checkout that is not built" 1 "run: tiny was not built, and $c
 # the gate
 mkdir "$work/no_cargo"
 for tool in bash dirname rt; do ln -s "$(command -v $tool)" "$work/no_cargo/$tool"; done
-(cd "$copy" && PATH="$work/no_cargo" timeout 60 "$(command -v bash)" .ci/run) 2>&1 |
+(cd "$copy" && timeout 60 env PATH="$work/no_cargo" bash .ci/run) 2>&1 |
     says ".ci/run looks for cargo before it proves" "cargo is missing, with which tests/differ.sh builds its model
 0 passed, 1 failed"
 
@@ -338,9 +337,9 @@ for line in 'picture' 'picture 0' 'picture 0 000' "picture 0 $(printf '00%.0s' {
 done
 refused 'text a\tb' 'a text has no code below 0x20'
 refused "text $(printf 'x%.0s' {1..1020})" 'longer than 1024 bytes'
-printf 'frame IK1Keep\nframe IIP20\nframe Q\nframe  two  blanks \nframe\n' >"$work/script"
+printf 'frame IK1Keep\nframe IP20\nframe Q\nframe  two  blanks \nframe\n' >"$work/script"
 program write_frame <"$work/script" >"$work/out" 2>"$work/err"
-printf '\eIK1Keep\r\n\eIIP20\r\n\eQ\r\n\e two  blanks \r\n\e\r\n' >"$work/others"
+printf '\eIK1Keep\r\n\eIP20\r\n\eQ\r\n\e two  blanks \r\n\e\r\n' >"$work/others"
 same "write_frame: frames go out as they are typed" "$work/others" <"$work/out"
 says "write_frame: a frame as it is typed is never refused" '' <"$work/err"
 program list_screen <"$work/out" | sed -n -e 1p -e '/^LEFT/p' -e '/^ICONS/p' |
