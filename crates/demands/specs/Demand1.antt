@@ -2,37 +2,38 @@
 -- refused and handed back as it came, with no lent byte altered. A bad frame gets one question mark, an out-of-range one gets
 -- silence, and neither changes text, icon, label, picture or setting." Statements first; each call's own clause is told by these
 -- definitions. Assumes nothing.
-use Prim.Native.Nat.{ℕ, _<_, _≤_}
+use Prim.Native.Nat.{ℕ, suc, _<_, _≤_}
 use mathlib.Core.Path.{_≡_, refl}
 use mathlib.Core.Bool.{true, false, cond, not}
 use mathlib.Core.List.{List, [], _∷_}
 use lib.Dec.{ltb}
-use lib.ListN.{length}
+use lib.ListN.{length, drop}
 use borrow.Author.Tests.{le-leb, lt-leb}
 use Rattle.lists.specs.Codes.{questionMark}
 use Rattle.lists.specs.Every.{every}
 use Rattle.record.specs.declared.Record.{Record}
 use Rattle.record.specs.declared.Backlight.{Backlight}
-use Rattle.record.specs.Number.{paperNumber}
+use Rattle.record.specs.Number.{paperNumber, numbered}
 use Rattle.record.specs.Range.{inRange, backlightInRange}
 use Rattle.command.specs.Order.{Order}
 use Rattle.command.specs.Grammar.{Spells}
 use Rattle.command.specs.InRange.{inRangeInMode}
-use Rattle.command.specs.Agree.{agree, bad-frame}
-use Rattle.effect.specs.Core.{Core}
-use Rattle.effect.specs.Obey.{isGood}
-use Rattle.effect.specs.Keeps.{out-of-range-keeps}
-use Rattle.parting.specs.Rules.{closed, abandoned, limit}
-use Rattle.parting.specs.Meaning.{close, act}
-use Rattle.stream.specs.Stream.{handset, obeyFrame, fedOf, answersAfter}
+use Rattle.effect.specs.Core.{Core, coreOf}
+use Rattle.parting.specs.Rules.{Body, closed, abandoned, keep, limit}
+use Rattle.parting.specs.Meaning.{with, close, act}
+use Rattle.stream.specs.Stream.{handset, recordOf, fedOf, answersAfter}
+use Rattle.stream.specs.Demand.{fedBack}
 use Rattle.key_entry.specs.Rules.{listed}
 use Rattle.key_log.specs.Log.{outcome, handedBack, bufferAfter}
-use Rattle.key_log.specs.Laws.{answers-1, answers-5, answers-4, answers-0}
+use Rattle.key_log.specs.Laws.{ends-with-1, ends-with-5, ends-with-4, ends-with-0}
 use Rattle.seconds.specs.Seconds.{passed, lightPassed}
 use Rattle.seconds.specs.Laws.{second-done, second-refused, light-done, light-refused}
-use Rattle.seen.specs.Rows.{rowSeen, smsSeen, volumeSeen}
-use Rattle.seen.specs.Laws.{row-number, panel-numbers}
+use Rattle.seen_panels.specs.declared.SmsPanel.the-variants as Sms
+use Rattle.seen_panels.specs.declared.VolumePanel.the-variants as Sound
+use Rattle.seen.specs.Rows.{nothingSeen, rowSeen, smsSeen, volumeSeen}
+use Rattle.seen.specs.Laws.{row-number, row-refused, panel-numbers, panels-refused}
 use Rattle.writer.specs.Writing.{writtenOf, roomAfter}
+use Rattle.demands.specs.Frames.{asked, silent, wholeFrame, closed-asked, closed-passed-over, bad-whole, bad-without-room, passed-over-whole}
 
 -- what a refusal hands back of a call that takes a record and lends a buffer: its number, the record as it came, no byte used or
 -- written, the buffer as it was
@@ -58,26 +59,38 @@ pub record Demand1 : Type 0 where
   pub log-done : (r : Record) (ticks edges : List ℕ) (room : ℕ) → inRange r ≡ true → length ticks ≡ length edges → every listed edges ≡ true
       → paperNumber (outcome r ticks edges room .number) ≡ 0
   -- The second: 1 and the same record, else 0; in place: by the backlight's own ranges.
-  pub second-answers : (r : Record) → inRange r ≡ false → (paperNumber (passed r .number) ≡ 1) × (passed r .after ≡ r)
+  pub second-refuses : (r : Record) → inRange r ≡ false → (paperNumber (passed r .number) ≡ 1) × (passed r .after ≡ r)
   pub second-passes : (r : Record) → inRange r ≡ true → paperNumber (passed r .number) ≡ 0
-  pub light-answers : (b : Backlight) → backlightInRange b ≡ false → (paperNumber (lightPassed b .number) ≡ 1) × (lightPassed b .backlight ≡ b)
+  pub light-refuses : (b : Backlight) → backlightInRange b ≡ false → (paperNumber (lightPassed b .number) ≡ 1) × (lightPassed b .backlight ≡ b)
   pub light-passes : (b : Backlight) → backlightInRange b ≡ true → paperNumber (lightPassed b .number) ≡ 0
-  -- The questions: 1, then 4 for a row above 6, else 0.
-  pub row-answers : (r : Record) (row : ℕ) → paperNumber (rowSeen r row .number) ≡ cond (not (inRange r)) 1 (cond (ltb 6 row) 4 0)
-  pub panels-answer : (r : Record) → (paperNumber (smsSeen r .number) ≡ cond (not (inRange r)) 1 0) × (paperNumber (volumeSeen r .number) ≡ cond (not (inRange r)) 1 0)
+  -- The questions: 1, then 4 for a row above 6, else 0; and where one is refused it tells nothing.
+  pub row-number-is : (r : Record) (row : ℕ) → paperNumber (rowSeen r row .number) ≡ cond (not (inRange r)) 1 (cond (ltb 6 row) 4 0)
+  pub row-refuses : (r : Record) (row : ℕ)
+      → (inRange r ≡ false → rowSeen r row ≡ nothingSeen (numbered 1)) × (inRange r ≡ true → 6 < row → rowSeen r row ≡ nothingSeen (numbered 4))
+  pub panel-numbers-are : (r : Record) → (paperNumber (smsSeen r .number) ≡ cond (not (inRange r)) 1 0) × (paperNumber (volumeSeen r .number) ≡ cond (not (inRange r)) 1 0)
+  pub panels-refuse : (r : Record) → inRange r ≡ false
+      → (smsSeen r ≡ record { number = numbered 1; panel = Sms.Nothing }) × (volumeSeen r ≡ record { number = numbered 1; panel = Sound.Nothing })
   -- The writers: 2, then 3, nothing written then, count 0; else 0. `good` is whether the command, label or row is in range.
   pub writer-refuses-2 : (frame room : List ℕ) → (paperNumber (writtenOf false frame room .number) ≡ 2) × (writtenOf false frame room .count ≡ 0) × (roomAfter false frame room ≡ room)
   pub writer-refuses-3 : (frame room : List ℕ) → length room < length frame
       → (paperNumber (writtenOf true frame room .number) ≡ 3) × (writtenOf true frame room .count ≡ 0) × (roomAfter true frame room ≡ room)
   pub writer-done : (frame room : List ℕ) → length frame ≤ length room → (paperNumber (writtenOf true frame room .number) ≡ 0) × (writtenOf true frame room .count ≡ length frame)
-  -- A bad frame gets one question mark, and nothing changes.
-  pub bad-frame-asked : (c : Core) (frame : List ℕ) → ((o : Order) → Spells o frame → ⊥) → obeyFrame c frame ≡ record { core = c; answers = questionMark ∷ [] }
-  -- So do one that ESC abandons, and one that is closed with more than 250 bytes.
-  pub abandoned-asked : (c : Core) (body : List ℕ) → act handset c (abandoned body) ≡ record { core = c; answers = questionMark ∷ [] }
-  pub overlong-asked : (c : Core) (body : List ℕ) → limit < length body → act handset c (closed body) ≡ record { core = c; answers = questionMark ∷ [] }
-  -- A frame with a number out of range gets silence, and nothing changes.
+  -- A bad frame gets one question mark, and nothing changes: as a part of the stream,
+  pub bad-frame-asked : (c : Core) (frame : List ℕ) → ((o : Order) → Spells o frame → ⊥) → act handset c (closed frame) ≡ asked c
+  -- (so do one that ESC abandons, and one that is closed with more than 250 bytes)
+  pub abandoned-asked : (c : Core) (body : List ℕ) → act handset c (abandoned body) ≡ asked c
+  pub overlong-asked : (c : Core) (body : List ℕ) → limit < length body → act handset c (closed body) ≡ asked c
+  -- and of the call on ESC, frame, CR, from a record in range with no frame open: with room for the mark, and without, where the call
+  -- stops before the CR and the frame stays open.
+  pub bad-frame-called : (r : Record) → inRange r ≡ true → r .frame .state ≡ 0 → (frame : List ℕ) → Body frame → ((o : Order) → Spells o frame → ⊥) → (lent : List ℕ) → 1 ≤ length lent
+      → fedBack r (wholeFrame frame) lent ≡ record { after = r; used = length (wholeFrame frame); written = 1; buffer = questionMark ∷ drop 1 lent }
+  pub bad-frame-waits : (r : Record) → inRange r ≡ true → r .frame .state ≡ 0 → (frame : List ℕ) → Body frame → ((o : Order) → Spells o frame → ⊥)
+      → fedBack r (wholeFrame frame) [] ≡ record { after = recordOf (r .held) (with (coreOf r) (keep frame)); used = suc (length frame); written = 0; buffer = [] }
+  -- A frame with a number out of range gets silence, and nothing changes: as a part, and of the call.
   pub out-of-range-silent : (c : Core) (frame : List ℕ) (o : Order) → Spells o frame → inRangeInMode (c .settings .screen .mode) o ≡ false
-      → obeyFrame c frame ≡ record { core = c; answers = [] }
+      → act handset c (closed frame) ≡ silent c
+  pub out-of-range-called : (r : Record) → inRange r ≡ true → r .frame .state ≡ 0 → (frame : List ℕ) (o : Order) → Spells o frame → (lent : List ℕ) → inRangeInMode (r .settings .screen .mode) o ≡ false
+      → fedBack r (wholeFrame frame) lent ≡ record { after = r; used = length (wholeFrame frame); written = 0; buffer = lent }
 
 -- The proof ---------------------------------------------------------------------------------------------------------
 
@@ -87,24 +100,26 @@ demand1 =
     record {
       feed-refuses = λ r bytes before h. rw h (record { named = refl; as-it-came = refl; none-used = refl; none-written = refl; untouched = refl });
       feed-done = λ r bytes room h. rw h;
-      log-refuses-1 = λ r ticks edges before h. rw (answers-1 r ticks edges (length before) h) (record { named = refl; as-it-came = refl; none-used = refl; none-written = refl; untouched = refl });
-      log-refuses-5 = λ r ticks edges before h d. rw (answers-5 r ticks edges (length before) h d) (record { named = refl; as-it-came = refl; none-used = refl; none-written = refl; untouched = refl });
-      log-refuses-4 = λ r ticks edges before h e k. rw (answers-4 r ticks edges (length before) h e k) (record { named = refl; as-it-came = refl; none-used = refl; none-written = refl; untouched = refl });
-      log-done = λ r ticks edges room h e k. rw (answers-0 r ticks edges room h e k);
-      second-answers = second-refused;
+      log-refuses-1 = λ r ticks edges before h. rw (ends-with-1 r ticks edges (length before) h) (record { named = refl; as-it-came = refl; none-used = refl; none-written = refl; untouched = refl });
+      log-refuses-5 = λ r ticks edges before h d. rw (ends-with-5 r ticks edges (length before) h d) (record { named = refl; as-it-came = refl; none-used = refl; none-written = refl; untouched = refl });
+      log-refuses-4 = λ r ticks edges before h e k. rw (ends-with-4 r ticks edges (length before) h e k) (record { named = refl; as-it-came = refl; none-used = refl; none-written = refl; untouched = refl });
+      log-done = λ r ticks edges room h e k. rw (ends-with-0 r ticks edges room h e k);
+      second-refuses = second-refused;
       second-passes = λ r h. second-done r h .0;
-      light-answers = light-refused;
+      light-refuses = light-refused;
       light-passes = λ b h. light-done b h .0;
-      row-answers = row-number;
-      panels-answer = panel-numbers;
+      row-number-is = row-number;
+      row-refuses = row-refused;
+      panel-numbers-are = panel-numbers;
+      panels-refuse = panels-refused;
       writer-refuses-2 = λ frame room. (refl, refl, refl);
       writer-refuses-3 = λ frame room l. rw (lt-leb (length frame) (length room) l) (refl, refl, refl);
       writer-done = λ frame room l. rw (le-leb (length frame) (length room) l) (refl, refl);
-      bad-frame-asked = λ c frame h. rw (bad-frame frame .1 h);
+      bad-frame-asked = closed-asked;
       abandoned-asked = λ c body. refl;
       overlong-asked = λ c body l. rw (lt-leb (length body) limit l);
-      out-of-range-silent = λ c frame o s h.
-          let found = agree o frame .1 s in
-          let same = out-of-range-keeps c frame o found h in
-          λ j. record { core = same j; answers = cond (isGood (found j)) [] (questionMark ∷ []) };
+      bad-frame-called = bad-whole;
+      bad-frame-waits = bad-without-room;
+      out-of-range-silent = closed-passed-over;
+      out-of-range-called = passed-over-whole;
     }

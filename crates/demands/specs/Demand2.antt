@@ -1,79 +1,108 @@
 -- DEMAND 2. "Every good frame has the effect that document 01 takes from Application Note 1901, and no other effect. Key logs,
 -- seconds and the question of a row are answered by its rules. What your writers write for a command reads back as that command."
 -- Statements first. Assumes nothing.
-use Prim.Native.Nat.{ℕ, _≤_}
-use mathlib.Core.Path.{_≡_, _∙_}
-use mathlib.Core.Bool.{true, cond}
-use mathlib.Core.List.{List, [], _∷_}
-use lib.ListN.{length}
-use Rattle.lists.specs.Codes.{questionMark}
+use Prim.Native.Nat.{ℕ, _+_, _*_, _<_, _≤_}
+use mathlib.Core.Logic.{_⊎_, _≢_}
+use mathlib.Core.Path.{_≡_}
+use mathlib.Core.Bool.{true, false}
+use mathlib.Core.List.{List, _∷_}
+use lib.ListN.{length, drop, getD}
 use Rattle.lists.specs.Every.{every}
 use Rattle.record.specs.declared.Record.{Record}
-use Rattle.record.specs.declared.Number.the-variants.{Done}
-use Rattle.record.specs.Range.{inRange}
+use Rattle.record.specs.declared.Backlight.{Backlight}
+use Rattle.record.specs.Number.{numbered}
+use Rattle.record.specs.Range.{inRange, backlightInRange}
 use Rattle.picture.specs.Data.{Bytes}
 use Rattle.command.specs.declared.Command.{Command}
 use Rattle.command.specs.declared.Side.{Side}
 use Rattle.command.specs.Order.{Order, plain, label, draw}
 use Rattle.command.specs.Grammar.{Spells}
 use Rattle.command.specs.InRange.{commandInRange, mostRows, inRangeInMode}
-use Rattle.command.specs.Agree.{agree, one-order}
-use Rattle.effect.specs.Core.{Core}
+use Rattle.command.specs.Agree.{one-order}
+use Rattle.effect.specs.Core.{Core, coreOf}
 use Rattle.effect.specs.Effect.{effect, carryOut}
-use Rattle.effect.specs.Obey.{obeyOrder, isGood}
-use Rattle.effect.specs.Untouched.{groupOf, without, untouched}
-use Rattle.stream.specs.Stream.{obeyFrame}
-use Rattle.turns.specs.Room.{run}
-use Rattle.key_entry.specs.Rules.{listed, step}
-use Rattle.key_log.specs.Log.{entries, outcome}
-use Rattle.key_log.specs.Laws.{answers-0}
-use Rattle.seconds.specs.Seconds.{passed, dimmed}
-use Rattle.seconds.specs.Laws.{second-done}
+use Rattle.effect.specs.Fields.{Field, read, sets}
+use Rattle.effect.specs.Untouched.{stays, other-rows-stay, past-data-stays, fields-are-all}
+use Rattle.parting.specs.Rules.{closed}
+use Rattle.parting.specs.Meaning.{act}
+use Rattle.stream.specs.Stream.{handset}
+use Rattle.stream.specs.Demand.{fedBack}
+use Rattle.key_entry.specs.Rules.{Entry, listed, step}
+use Rattle.key_log.specs.Log.{entries, outcome, handedBack, bufferAfter}
+use Rattle.key_log.specs.declared.Logged.{Logged}
+use Rattle.key_log.specs.Laws.{LogDone, log-done, log-stops-exactly, log-done-fixes}
+use Rattle.seconds.specs.Seconds.{passed, dimmed, lightPassed, lowered}
+use Rattle.seconds.specs.Laws.{second-done, light-done}
+use Rattle.seen_panels.specs.Panels.{smsPanel, volumePanel}
 use Rattle.seen.specs.Places.{rowOwner}
-use Rattle.seen.specs.Rows.{contents, rowSeen}
-use Rattle.seen.specs.Laws.{seen-row}
+use Rattle.seen.specs.Rows.{contents, rowSeen, smsSeen, volumeSeen}
+use Rattle.seen.specs.Laws.{seen-row, panels-told}
 use Rattle.writer_ranges.specs.Fitting.{isLabel, isRow}
 use Rattle.writer.specs.Writing.{bodyOf, labelBody, rowBody}
-use Rattle.writer.specs.ReadBack.{ReadsBack, command-reads-back, label-reads-back, row-reads-back}
+use Rattle.writer.specs.ReadBack.{AfterZero, command-written, label-written, row-written}
+use Rattle.demands.specs.Frames.{silent, wholeFrame, withCore, closed-obeyed, good-whole}
 
 pub record Demand2 : Type 0 where
   -- A frame is good when the grammar has an order that it spells, and it spells no second one.
   pub one-meaning : (o other : Order) (frame : List ℕ) → Spells o frame → Spells other frame → o ≡ other
-  -- A good frame in range has its order's effect, in silence.
-  pub obeyed : (c : Core) (frame : List ℕ) (o : Order) → Spells o frame → inRangeInMode (c .settings .screen .mode) o ≡ true
-      → obeyFrame c frame ≡ record { core = effect o c; answers = [] }
-  -- And no other effect: what the order's group does not name is as it was.
-  pub no-other : (o : Order) (c : Core) → without (groupOf o) (carryOut o c) ≡ without (groupOf o) c
-  -- A key log of listed edges is taken by the rules.
-  pub logs : (r : Record) (ticks edges : List ℕ) (room : ℕ) → inRange r ≡ true → length ticks ≡ length edges → every listed edges ≡ true
-      → outcome r ticks edges room ≡ record { number = Done; ran = run step r (entries ticks edges) room }
-  -- A second lowers the seconds left by one, not below 0.
+  -- A good frame in range has its order's effect, in silence: as a part of the stream,
+  pub obeyed : (c : Core) (frame : List ℕ) (o : Order) → Spells o frame → inRangeInMode (c .settings .screen .mode) o ≡ true → act handset c (closed frame) ≡ silent (effect o c)
+  -- and of the call on ESC, frame, CR, from a record in range with no frame open, whatever the room.
+  pub obeyed-called : (r : Record) → inRange r ≡ true → r .frame .state ≡ 0 → (frame : List ℕ) (o : Order) → Spells o frame → (lent : List ℕ) → inRangeInMode (r .settings .screen .mode) o ≡ true
+      → fedBack r (wholeFrame frame) lent ≡ record { after = withCore r (effect o (coreOf r)); used = length (wholeFrame frame); written = 0; buffer = lent }
+  -- And no other effect. A field that document 01's table does not name for the order is as it was.
+  pub no-other : (o : Order) (f : Field) (c : Core) → sets o f ≡ false → read f (carryOut o c) ≡ read f c
+  -- Of the picture, a picture frame leaves every column of the other rows as it was, and in its own row every column past the data.
+  pub no-other-row : (r : ℕ) (columns : List ℕ) (c : Core) (other k : ℕ) → length columns ≤ 96 → k < 96 → other ≢ r
+      → getD (carryOut (draw r columns) c .picture) (other * 96 + k) 0 ≡ getD (c .picture) (other * 96 + k) 0
+  pub none-past-the-data : (r : ℕ) (columns : List ℕ) (c : Core) (k : ℕ) → length columns ≤ k
+      → getD (carryOut (draw r columns) c .picture) (r * 96 + k) 0 ≡ getD (c .picture) (r * 96 + k) 0
+  -- And the fields are all that a stream can change: where each is as it was, nothing has changed.
+  pub no-other-field : (c d : Core) → ((f : Field) → read f c ≡ read f d) → c ≡ d
+  -- A key log of listed edges is taken by the rules: record, counts and buffer, whatever was lent, are what its used entries do;
+  pub logs : (r : Record) (ticks edges lent : List ℕ) → inRange r ≡ true → length ticks ≡ length edges → every listed edges ≡ true
+      → (let o = outcome r ticks edges (length lent) in LogDone r (entries ticks edges) lent (handedBack o) (bufferAfter o lent))
+  -- it stops exactly before the first entry whose code has no room;
+  pub log-stops : (r : Record) (ticks edges lent : List ℕ) → inRange r ≡ true → length ticks ≡ length edges → every listed edges ≡ true
+      → (let back = handedBack (outcome r ticks edges (length lent)) in
+      (back .used ≡ length (entries ticks edges))
+      ⊎ ((next : Entry) × (rest : List Entry) × (drop (back .used) (entries ticks edges) ≡ next ∷ rest) × (length lent < back .written + length (step (back .record) next .answers))))
+  -- and nothing else is a log taken by the rules.
+  pub logs-only-so : {r : Record} {log : List Entry} {lent : List ℕ} {back other : Logged} {buffer buffer′ : List ℕ}
+      → LogDone r log lent back buffer → LogDone r log lent other buffer′ → (back ≡ other) × (buffer ≡ buffer′)
+  -- A second lowers the seconds left by one, not below 0: of a record, and of a backlight in place.
   pub seconds : (r : Record) → inRange r ≡ true → passed r .after ≡ dimmed r
-  -- A row shows the contents of its owner.
+  pub seconds-in-place : (b : Backlight) → backlightInRange b ≡ true → lightPassed b .backlight ≡ lowered b
+  -- A row shows the contents of its owner; the panels' questions tell what the panels show.
   pub rows : (r : Record) (row : ℕ) → inRange r ≡ true → row ≤ 6 → rowSeen r row ≡ contents r (rowOwner r row)
-  -- What is written for a command, a label or a picture row reads back as that.
-  pub commands-read-back : (c : Command) → commandInRange mostRows c ≡ true → ReadsBack (plain c) (bodyOf c)
-  pub labels-read-back : (side : Side) (codes : List ℕ) → isLabel codes ≡ true → ReadsBack (label side codes) (labelBody side codes)
-  pub rows-read-back : (row : ℕ) (columns : List ℕ) → isRow row columns ≡ true → Bytes columns → ReadsBack (draw row columns) (rowBody row columns)
+  pub panels : (r : Record) → inRange r ≡ true
+      → (smsSeen r ≡ record { number = numbered 0; panel = smsPanel (r .settings .icons) }) × (volumeSeen r ≡ record { number = numbered 0; panel = volumePanel (r .settings .volume) })
+  -- What is written for a command, a label or a picture row reads back as that: after number 0 the bytes counted part into one closed
+  -- frame and one skipped LF, the frame spells that order, and the other places of the room are as they were.
+  pub commands-read-back : (c : Command) (room : List ℕ) → AfterZero (plain c) (commandInRange mostRows c) (bodyOf c) room
+  pub labels-read-back : (side : Side) (codes room : List ℕ) → AfterZero (label side codes) (isLabel codes) (labelBody side codes) room
+  pub rows-read-back : (row : ℕ) (columns room : List ℕ) → Bytes columns → AfterZero (draw row columns) (isRow row columns) (rowBody row columns) room
 
 -- The proof ---------------------------------------------------------------------------------------------------------
-
-carried : (c : Core) (o : Order) → inRangeInMode (c .settings .screen .mode) o ≡ true → carryOut o c ≡ effect o c
-unfolding carryOut
-carried c o h = rw h
 
 pub demand2 : Demand2
 demand2 =
     record {
       one-meaning = one-order;
-      obeyed = λ c frame o s h.
-          let found = agree o frame .1 s in
-          (λ j. record { core = obeyOrder c (found j); answers = cond (isGood (found j)) [] (questionMark ∷ []) }) ∙ (λ j. record { core = carried c o h j; answers = [] });
-      no-other = untouched;
-      logs = answers-0;
+      obeyed = closed-obeyed;
+      obeyed-called = good-whole;
+      no-other = stays;
+      no-other-row = other-rows-stay;
+      none-past-the-data = past-data-stays;
+      no-other-field = fields-are-all;
+      logs = log-done;
+      log-stops = log-stops-exactly;
+      logs-only-so = log-done-fixes;
       seconds = λ r h. second-done r h .1;
+      seconds-in-place = λ b h. light-done b h .1;
       rows = seen-row;
-      commands-read-back = command-reads-back;
-      labels-read-back = label-reads-back;
-      rows-read-back = row-reads-back;
+      panels = panels-told;
+      commands-read-back = command-written;
+      labels-read-back = label-written;
+      rows-read-back = row-written;
     }

@@ -11,13 +11,19 @@ use Rattle.record.specs.declared.Record.{Record}
 use Rattle.record.specs.Range.{inRange}
 use Rattle.parting.specs.Rules.{Stands}
 use Rattle.stream.specs.Stream.{stateOf, fedOf}
-use Rattle.stream.specs.Demand.{FeedDemand3, feed-demand3, fed-in-range}
+use Rattle.stream.specs.Demand.{Calling, fedBack, FeedDemand3, feed-demand3, feed-demand3-fixes, fed-in-range, stands-for-bytes}
 
--- `FeedDemand3 r before` has the letter's sentences one by one, of the stream call `fedOf`.
+-- `FeedDemand3 call r before` has the letter's sentences one by one, of anything that takes stream calls.
 pub record Demand3 : Type 0 where
-  pub streams : (r : Record) (before : List ℕ) → inRange r ≡ true → Stands (stateOf r .frame) before → FeedDemand3 r before
-  -- and the record comes back within its ranges, so that it holds of the next call too
+  -- Whatever the frame in a record in range is, there are bytes that it stands for;
+  pub standing-first : (r : Record) → inRange r ≡ true → (before : List ℕ) × Stands (stateOf r .frame) before
+  -- the stream call meets the sentences;
+  pub streams : (r : Record) (before : List ℕ) → inRange r ≡ true → Stands (stateOf r .frame) before → FeedDemand3 fedBack r before
+  -- nothing else does: neither another record nor another used or written count nor another buffer;
+  pub only-so : (r : Record) (before : List ℕ) → inRange r ≡ true → Stands (stateOf r .frame) before
+      → (call : Calling) → FeedDemand3 call r before → (bytes lent : List ℕ) → call r bytes lent ≡ fedBack r bytes lent
+  -- and the record comes back within its ranges, so that it holds of the next call too.
   pub in-range-again : (r : Record) (bytes : List ℕ) (room : ℕ) → inRange r ≡ true → inRange (fedOf r bytes room .record) ≡ true
 
 pub demand3 : Demand3
-demand3 = record { streams = feed-demand3; in-range-again = fed-in-range }
+demand3 = record { standing-first = stands-for-bytes; streams = feed-demand3; only-so = feed-demand3-fixes; in-range-again = fed-in-range }

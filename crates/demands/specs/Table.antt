@@ -1,50 +1,56 @@
 -- THE P LINES of document 01 ("Proved and run"), in its words and its order, as one table under one statement. Each line: what the
--- definitions give, computed, and what the paper says. Streams go through the stream call's own run from the power-on record, keys
--- through the log's rules. Assumes nothing.
+-- definitions give, computed, and what the paper says. Streams go through the stream call from the power-on record, with room and
+-- the kept record, keys through the key log call, the volume panel through its question. Assumes nothing.
 use Prim.Native.Nat.{ℕ}
 use mathlib.Core.Path.{_≡_, refl}
-use mathlib.Core.List.{List, [], _∷_, _++_, map}
-use lib.ListN.{length, replicate}
+use mathlib.Core.List.{List, [], _∷_, _++_, map, zipWith}
+use lib.ListN.{length, take, replicate}
 use Rattle.lists.specs.Codes.{ascii, escape, carriageReturn, questionMark}
 use Rattle.lists.specs.Padded.{padded}
+use Rattle.record.specs.declared.Record.{Record}
 use Rattle.record.specs.PowerOn.{powerOn}
+use Rattle.record.specs.Range.{inRange, textInRange, labelInRange, pictureInRange, frameInRange}
 use Rattle.numeral.specs.Numeral.{digitOf}
 use Rattle.picture.specs.Reading.{hexOf, timesOf, items, columnsOf}
 use Rattle.picture.specs.Writing.{hexCode, itemText, encode}
 use Rattle.command.specs.Reading.{twoNumbers, withNumber, numberFrame, displayOf, lightOf, isText, labelRead, afterI, cursorSign, positionOf, readOf, opensPicture, rowAndData, drawnRow, pictureOf, orderOf}
-use Rattle.effect.specs.Core.{Core}
 use Rattle.effect.specs.Effect.{blanks, drawn, carryOut, storeText}
 use Rattle.turns.specs.Room
-use Rattle.turns.specs.Taking
-use Rattle.turns.specs.Taking.{Taken}
 use Rattle.parting.specs.Rules.{keep}
-use Rattle.parting.specs.Reading.{step, reading}
-use Rattle.parting.specs.Meaning.{State}
-use Rattle.stream.specs.Stream.{handset, frameIn, stateOf}
+use Rattle.parting.specs.Reading.{step}
+use Rattle.stream.specs.Stream.{frameIn, fedOf, answersAfter}
 use Rattle.key_entry.specs.Codes.{codeOf}
 use Rattle.key_entry.specs.Rules as Keys
-use Rattle.key_entry.specs.Rules.{Entry, entry, elapsed, keyed}
-use Rattle.seen_panels.specs.Panels.{volumePanel}
+use Rattle.key_entry.specs.Rules.{elapsed, keyed}
+use Rattle.key_log.specs.Log.{outcome, handedBack, bufferAfter}
 use Rattle.seen_panels.specs.declared.VolumePanel.{VolumePanel}
 use Rattle.seen_panels.specs.declared.VolumePanel.the-variants as Sound
+use Rattle.seen.specs.Rows.{volumeSeen}
 
 -- a frame on the cord, and streams of them
 abbrev frame : List ℕ → List ℕ
 frame body = escape ∷ (body ++ carriageReturn ∷ [])
 
--- what the handset has done after a stream, from the power-on record
-abbrev after : List ℕ → Taken (State Core)
-after stream = reading handset (stateOf powerOn) stream
+-- room for as many answers as these lines get, and more
+abbrev room : List ℕ
+room = replicate 4 0
 
--- the answers; the cursor's row and column; icon P
+-- what the stream call hands back, from the power-on record
+abbrev after : List ℕ → Record
+after bytes = fedOf powerOn bytes (length room) .record
+
+-- the answers; the cursor's row and column; icon P; the first columns of picture row 0
 abbrev said : List ℕ → List ℕ
-said stream = after stream .answers
+said bytes = take (fedOf powerOn bytes (length room) .written) (answersAfter powerOn bytes room)
 
 abbrev position : List ℕ → List ℕ
-position stream = let s = after stream .state .core .settings .screen in s .row ∷ s .column ∷ []
+position bytes = let s = after bytes .settings .screen in s .row ∷ s .column ∷ []
 
 abbrev iconP : List ℕ → List ℕ
-iconP stream = after stream .state .core .settings .icons .p ∷ []
+iconP bytes = after bytes .settings .icons .p ∷ []
+
+abbrev drawnFirst : ℕ → List ℕ → List ℕ
+drawnFirst n bytes = take n (after bytes .picture)
 
 -- the volume panel: nothing, Mute, private or handsfree at a level
 abbrev nothing : List ℕ
@@ -60,11 +66,11 @@ told (Sound.Private n) = n ∷ []
 told (Sound.Handsfree n) = n ∷ []
 
 abbrev volume : List ℕ → List ℕ
-volume stream = told (volumePanel (after stream .state .core .settings .volume))
+volume bytes = told (volumeSeen (after bytes) .panel)
 
--- the codes that a key log sends, from the power-on record (Time1 12)
-abbrev sends : List Entry → List ℕ
-sends log = Taking.reading Keys.step powerOn log .answers
+-- the codes that a key log sends, from the power-on record (Time1 12): tick readings, edges
+abbrev sends : List ℕ → List ℕ → List ℕ
+sends ticks edges = let o = outcome powerOn ticks edges (length room) in take (handedBack o .written) (bufferAfter o room)
 
 -- key "1" is key 6
 abbrev keyOne : ℕ
@@ -99,18 +105,19 @@ table =
     -- IP0001 '?'
     ∷ (said (frame (ascii "IP0001")), questionMark ∷ [])
     -- c00dFFg331B2Cf00: 26 columns
-    ∷ (length (columnsOf (ascii "c00dFFg331B2Cf00")) ∷ [], 26 ∷ [])
+    ∷ (drawnFirst 26 (frame (ascii "Gr0,c00dFFg331B2Cf00z")), replicate 4 0x00 ++ replicate 5 0xFF ++ replicate 8 0x33 ++ (0x1B ∷ 0x2C ∷ []) ++ replicate 7 0x00)
+    ∷ (columnsOf (ascii "c00dFFg331B2Cf00"), replicate 4 0x00 ++ replicate 5 0xFF ++ replicate 8 0x33 ++ (0x1B ∷ 0x2C ∷ []) ++ replicate 7 0x00)
     -- a lone y, or ff: '?'
     ∷ (said (frame (ascii "Gr0,yz")), questionMark ∷ [])
     ∷ (said (frame (ascii "Gr0,ffz")), questionMark ∷ [])
     -- 27 columns of 0 are written y0000
     ∷ (encode (replicate 27 0), ascii "y0000")
     -- key "1" pressed at 65530, Time1 12: poll at 113 nothing
-    ∷ (sends (entry 65530 keyOne ∷ entry 113 poll ∷ []), [])
+    ∷ (sends (65530 ∷ 113 ∷ []) (keyOne ∷ poll ∷ []), [])
     -- at 114 B1
-    ∷ (sends (entry 65530 keyOne ∷ entry 114 poll ∷ []), 0xB1 ∷ [])
+    ∷ (sends (65530 ∷ 114 ∷ []) (keyOne ∷ poll ∷ []), 0xB1 ∷ [])
     -- release at 113: 31
-    ∷ (sends (entry 65530 keyOne ∷ entry 113 releaseOne ∷ []), 0x31 ∷ [])
+    ∷ (sends (65530 ∷ 113 ∷ []) (keyOne ∷ releaseOne ∷ []), 0x31 ∷ [])
     -- IL4, IM1, IL0 shows nothing
     ∷ (volume (frame (ascii "IL4") ++ frame (ascii "IM1") ++ frame (ascii "IL0")), nothing)
     -- then IL4 shows Mute
@@ -119,5 +126,5 @@ table =
 
 -- EVERY P LINE HOLDS.
 pub p-lines : map (λ (l : List ℕ × List ℕ). l .0) table ≡ map (λ (l : List ℕ × List ℕ). l .1) table
-unfolding digitOf padded hexOf timesOf items columnsOf hexCode itemText twoNumbers withNumber numberFrame displayOf lightOf isText labelRead afterI cursorSign positionOf readOf opensPicture rowAndData drawnRow pictureOf orderOf blanks drawn carryOut storeText keep step Taking.reading frameIn Keys.step keyed elapsed codeOf
+unfolding inRange textInRange labelInRange pictureInRange frameInRange digitOf padded hexOf timesOf items columnsOf hexCode itemText twoNumbers withNumber numberFrame displayOf lightOf isText labelRead afterI cursorSign positionOf readOf opensPicture rowAndData drawnRow pictureOf orderOf blanks drawn carryOut storeText keep step Room.run frameIn fedOf answersAfter outcome zipWith Keys.step keyed elapsed codeOf volumeSeen
 p-lines = refl

@@ -1,7 +1,6 @@
 -- Worked cases of what frames do, from the power-on record on, computed from the definitions. Assumes nothing.
 use Prim.Native.Nat.{ℕ, _*_}
 use Prim.Native.Char.{code}
-use mathlib.Core.Bool.{Bool, cond}
 use mathlib.Core.List.{List, [], _∷_, _++_, map}
 use mathlib.Core.Path.{_≡_, refl}
 use lib.ListN.{take, drop, replicate}
@@ -14,6 +13,7 @@ use Rattle.command.specs.Reading.{twoNumbers, withNumber, numberFrame, displayO
 use Rattle.effect.specs.Core.{Core, coreOf}
 use Rattle.effect.specs.Effect.{blanks, drawn, carryOut, storeText}
 use Rattle.effect.specs.Obey.{obeyOrder}
+use Rattle.effect.specs.Fields.{bit}
 
 -- frames, one after the other
 abbrev pub obeying : Core → List (List ℕ) → Core
@@ -26,10 +26,6 @@ after frames = obeying (coreOf powerOn) frames
 -- the power-on core with an A written
 abbrev pub written : Core
 written = storeText (coreOf powerOn) (code "A")
-
--- fields as numbers; a flag is 0 or 1
-abbrev bit : Bool → ℕ
-bit b = cond b 1 0
 
 -- display, text mode, overlay, cursor row and column
 abbrev screen : Core → List ℕ

@@ -2,7 +2,7 @@
 use Prim.Native.Nat.{ℕ, _+_, _*_, _-_, _%_, _<_, _≤_}
 use native.Mathlib.Omega.{arith}
 use native.Mathlib.Nat.{mod-lt}
-use mathlib.Core.Bool.{Bool, true, false, true≢false, cond, not, _&&_, _||_}
+use mathlib.Core.Bool.{Bool, true, false, true≢false, cond, not, _&&_, _||_, or-true}
 use mathlib.Core.List.{List, [], _∷_, map}
 use mathlib.Core.Option.{Option, none, some}
 use mathlib.Core.Path.{_≡_, refl, sym, ap, _∙_}
@@ -111,10 +111,6 @@ or-right {a = false} h e = h
 or-left : {a b : Bool} → (a || b) ≡ true → b ≡ false → a ≡ true
 or-left {a = true} h e = refl
 or-left {a = false} h e = absurd (true≢false (sym h ∙ e))
-
-or-true : (a : Bool) → (a || true) ≡ true
-or-true true = refl
-or-true false = refl
 
 -- position 0,0 is in every mode
 home : (mode : ℕ) → (ltb 0 (rowsOf mode) && leb 0 (rowEndOf mode)) ≡ true

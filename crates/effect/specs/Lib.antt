@@ -4,4 +4,5 @@ pub mod Obey
 pub mod Sets
 pub mod Keeps
 pub mod Cases
+pub mod Fields
 pub mod Untouched

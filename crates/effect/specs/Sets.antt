@@ -1,13 +1,20 @@
--- A test that holds over a part of a list holds after stores of values that pass it. Assumes nothing.
+-- What stores leave as it was: the places outside them, and a test over a part of a list that the values stored pass. Assumes nothing.
 use Prim.Native.Nat.{ℕ, zero, suc, _+_, _<_, _≤_}
 use native.Mathlib.Omega.{arith}
 use mathlib.Core.Bool.{Bool, true}
 use mathlib.Core.List.{List, [], _∷_}
-use mathlib.Core.Path.{_≡_, refl}
-use lib.ListN.{length, set, replicate}
-use lib.Seq.{sets, slice}
+use mathlib.Core.Path.{_≡_, refl, _∙_}
+use lib.ListN.{length, set, replicate, getD}
+use lib.Seq.{sets, slice, getD-set-other}
 use Rattle.lists.specs.Both.{both, and-both}
 use Rattle.lists.specs.Every.{every}
+
+-- A place outside the stores, past the last if not before the first, is as it was.
+pub sets-outside : (l : List ℕ) (i : ℕ) (vs : List ℕ) (j : ℕ) → (i ≤ j → i + length vs ≤ j) → getD (sets l i vs) j 0 ≡ getD l j 0
+sets-outside l i [] j h = refl
+sets-outside l i (v ∷ vs) j h =
+    sets-outside (set l i v) (suc i) vs j (λ r. omega (arith, h (omega arith)))
+    ∙ getD-set-other l i j v 0 (λ e. omega (arith, h (omega arith)))
 
 module _ (test : ℕ → Bool) where
   pub every-set : (l : List ℕ) (i v : ℕ) → test v ≡ true → every test l ≡ true → every test (set l i v) ≡ true

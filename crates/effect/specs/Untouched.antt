@@ -1,95 +1,58 @@
--- What an order does not name stays as it was: each order belongs to a group of fields, and all fields outside it are untouched.
--- Assumes nothing.
+-- No order has an effect besides those that the table of Fields.antt names. Assumes nothing.
+use Prim.Native.Nat.{ℕ, _+_, _*_, _<_, _≤_}
+use native.Mathlib.Omega.{arith}
 use mathlib.Core.Bool.{Bool, true, false, cond}
-use mathlib.Core.List.{[]}
-use mathlib.Core.Path.{_≡_, refl}
-use Rattle.record.specs.PowerOn.{powerOn, timesAtPowerOn}
-use Rattle.record.specs.With.{withShown, withLeft, withRight, withTimes, withBuzzer, withIconS, withIconU, withIconF, withIconR, withIconP, withIconW}
+use mathlib.Core.List.{List, [], _∷_, map}
+use mathlib.Core.Logic.{_≢_}
+use mathlib.Core.Path.{_≡_, refl, ap, sym, _∙_}
+use lib.Dec.{eqb}
+use lib.ListN.{length, getD, drop, length-map}
+use Rattle.lists.specs.Tests.{by-test, either-way}
+use Rattle.record.specs.declared.Label.{Label}
 use Rattle.command.specs.Order.{Order, plain, label, draw}
-use Rattle.command.specs.InRange.{inRangeInMode}
+use Rattle.command.specs.InRange.{isOverlay, inRangeInMode}
 use Rattle.command.specs.declared.Command.the-variants.{DisplayOff, DisplayOn, Mode, CursorShown, CursorHidden, Clear, Position, LabelsEmpty, IconS, IconU, IconF, IconR, IconP, IconW, Private, Handsfree, HandsfreeOfNote, Mute, KeyTimes, Buzzer, Light, LightOn, LightAutoStart, LightAuto, DefaultDuration, KeypadSet, KeypadCleared}
 use Rattle.command.specs.declared.Side.the-variants.{Left, Right}
-use Rattle.effect.specs.Core.{Core, onSettings, onText, onPicture, onScreen, onIcons, onVolume, onBacklight}
-use Rattle.effect.specs.Effect.{effect, carryOut}
+use Rattle.effect.specs.Core.{Core}
+use Rattle.effect.specs.Effect.{keptIn, drawn, effect, carryOut}
+use Rattle.effect.specs.Sets.{sets-outside}
+use Rattle.effect.specs.Fields.{Field, display, mode, overlay, row, column, text, shown, leftLabel, rightLabel, iconS, iconU, iconF, iconR, iconP, iconW, which, level, mute, hidden, time1, time2, buzzer, light, duration, secondsLeft, keypad, picture, number, bit, read, sets}
 
--- text, position, clear, display and mode are one group; the icons are a group each
-pub data Group : Type 0 where
-  screen : Group
-  shown : Group
-  leftLabel : Group
-  rightLabel : Group
-  labels : Group
-  iconS : Group
-  iconU : Group
-  iconF : Group
-  iconR : Group
-  iconP : Group
-  iconW : Group
-  volume : Group
-  times : Group
-  buzzer : Group
-  backlight : Group
-  picture : Group
+allFields : List Field
+allFields =
+    display ∷ mode ∷ overlay ∷ row ∷ column ∷ text ∷ shown ∷
+    leftLabel ∷ rightLabel ∷
+    iconS ∷ iconU ∷ iconF ∷ iconR ∷ iconP ∷ iconW ∷
+    which ∷ level ∷ mute ∷ hidden ∷
+    time1 ∷ time2 ∷ buzzer ∷
+    light ∷ duration ∷ secondsLeft ∷ keypad ∷
+    picture ∷ []
 
-abbrev pub groupOf : Order → Group
-groupOf (plain DisplayOff) = screen
-groupOf (plain DisplayOn) = screen
-groupOf (plain (Mode n)) = screen
-groupOf (plain CursorShown) = shown
-groupOf (plain CursorHidden) = shown
-groupOf (plain Clear) = screen
-groupOf (plain (Position row column)) = screen
-groupOf (plain LabelsEmpty) = labels
-groupOf (label Left t) = leftLabel
-groupOf (label Right t) = rightLabel
-groupOf (plain (IconS n)) = iconS
-groupOf (plain (IconU n)) = iconU
-groupOf (plain (IconF n)) = iconF
-groupOf (plain (IconR n)) = iconR
-groupOf (plain (IconP n)) = iconP
-groupOf (plain (IconW n)) = iconW
-groupOf (plain (Private n)) = volume
-groupOf (plain (Handsfree n)) = volume
-groupOf (plain (HandsfreeOfNote n)) = volume
-groupOf (plain (Mute n)) = volume
-groupOf (plain (KeyTimes time1 time2)) = times
-groupOf (plain (Buzzer n)) = buzzer
-groupOf (plain (Light n)) = backlight
-groupOf (plain LightOn) = backlight
-groupOf (plain LightAutoStart) = backlight
-groupOf (plain LightAuto) = backlight
-groupOf (plain DefaultDuration) = backlight
-groupOf (plain KeypadSet) = backlight
-groupOf (plain KeypadCleared) = backlight
-groupOf (draw row columns) = picture
+-- What a list made from all fields has for a field stands at the place of its number.
+at-place : {A : Type 0} (g : Field → A) (d : A) (f : Field) → getD (map g allFields) (number f) d ≡ g f
+unfolding allFields
+at-place g d =
+    elim [ display ↦ refl | mode ↦ refl | overlay ↦ refl | row ↦ refl | column ↦ refl | text ↦ refl | shown ↦ refl | leftLabel ↦ refl | rightLabel ↦ refl | iconS ↦ refl | iconU ↦ refl | iconF ↦ refl | iconR ↦ refl | iconP ↦ refl | iconW ↦ refl | which ↦ refl | level ↦ refl | mute ↦ refl | hidden ↦ refl | time1 ↦ refl | time2 ↦ refl | buzzer ↦ refl | light ↦ refl | duration ↦ refl | secondsLeft ↦ refl | keypad ↦ refl | picture ↦ refl ]
 
--- the core without a group: its fields at their power-on values, all others as they are
-abbrev pub without : Group → Core → Core
-without screen c = onText (onScreen c (powerOn .settings .screen)) []
-without shown c = onSettings c (withShown (c .settings) false)
-without leftLabel c = onSettings c (withLeft (c .settings) (powerOn .settings .left))
-without rightLabel c = onSettings c (withRight (c .settings) (powerOn .settings .right))
-without labels c = onSettings c (withRight (withLeft (c .settings) (powerOn .settings .left)) (powerOn .settings .right))
-without iconS c = onIcons c (withIconS (c .settings .icons) 0)
-without iconU c = onIcons c (withIconU (c .settings .icons) 0)
-without iconF c = onIcons c (withIconF (c .settings .icons) 0)
-without iconR c = onIcons c (withIconR (c .settings .icons) 0)
-without iconP c = onIcons c (withIconP (c .settings .icons) 0)
-without iconW c = onIcons c (withIconW (c .settings .icons) 0)
-without volume c = onVolume c (powerOn .settings .volume)
-without times c = onSettings c (withTimes (c .settings) timesAtPowerOn)
-without buzzer c = onSettings c (withBuzzer (c .settings) (powerOn .settings .buzzer))
-without backlight c = onBacklight c (powerOn .settings .backlight)
-without picture c = onPicture c []
+-- No two fields have one number.
+pub one-field : (f g : Field) → number f ≡ number g → f ≡ g
+one-field f g e =
+    let at = at-place (λ (x : Field). x) display in
+    sym (at f) ∙ ap (λ (n : ℕ). getD (map (λ (x : Field). x) allFields) n display) e ∙ at g
 
-effect-stays : (o : Order) (c : Core) → without (groupOf o) (effect o c) ≡ without (groupOf o) c
+-- what stands in a field, unless the order may set it
+abbrev besides : Order → Core → Field → List ℕ
+besides o c f = cond (sets o f) [] (read f c)
+
+effect-stays : (o : Order) (c : Core) → map (besides o (effect o c)) allFields ≡ map (besides o c) allFields
+unfolding allFields
 effect-stays (plain DisplayOff) c = refl
 effect-stays (plain DisplayOn) c = refl
-effect-stays (plain (Mode n)) c = refl
+effect-stays (plain (Mode n)) c = by-test (isOverlay n) (λ e. rw e) (λ e. rw e)
 effect-stays (plain CursorShown) c = refl
 effect-stays (plain CursorHidden) c = refl
 effect-stays (plain Clear) c = refl
-effect-stays (plain (Position row column)) c = refl
+effect-stays (plain (Position r k)) c = refl
 effect-stays (plain LabelsEmpty) c = refl
 effect-stays (label Left t) c = refl
 effect-stays (label Right t) c = refl
@@ -99,26 +62,80 @@ effect-stays (plain (IconF n)) c = refl
 effect-stays (plain (IconR n)) c = refl
 effect-stays (plain (IconP n)) c = refl
 effect-stays (plain (IconW n)) c = refl
-effect-stays (plain (Private n)) c = refl
-effect-stays (plain (Handsfree n)) c = refl
-effect-stays (plain (HandsfreeOfNote n)) c = refl
-effect-stays (plain (Mute n)) c = refl
-effect-stays (plain (KeyTimes time1 time2)) c = refl
+effect-stays (plain (Private n)) c = by-test (eqb n 0) (λ e. rw e) (λ e. rw e)
+effect-stays (plain (Handsfree n)) c = by-test (eqb n 0) (λ e. rw e) (λ e. rw e)
+effect-stays (plain (HandsfreeOfNote n)) c = by-test (eqb n 0) (λ e. rw e) (λ e. rw e)
+effect-stays (plain (Mute n)) c = by-test (eqb n 0) (λ e. rw e) (λ e. rw e)
+effect-stays (plain (KeyTimes t u)) c = refl
 effect-stays (plain (Buzzer n)) c = refl
-effect-stays (plain (Light n)) c = refl
+effect-stays (plain (Light n)) c = by-test (eqb n 0) (λ e. rw e) (λ e. rw e)
 effect-stays (plain LightOn) c = refl
 effect-stays (plain LightAutoStart) c = refl
 effect-stays (plain LightAuto) c = refl
 effect-stays (plain DefaultDuration) c = refl
 effect-stays (plain KeypadSet) c = refl
 effect-stays (plain KeypadCleared) c = refl
-effect-stays (draw row columns) c = refl
+effect-stays (draw r columns) c = refl
 
--- Every order leaves all fields outside its group as they were.
-pub untouched : (o : Order) (c : Core) → without (groupOf o) (carryOut o c) ≡ without (groupOf o) c
+effect-at : (o : Order) (f : Field) (c : Core) → besides o (effect o c) f ≡ besides o c f
+effect-at o f c =
+    sym (at-place (besides o (effect o c)) [] f) ∙ ap (λ (l : List (List ℕ)). getD l (number f) []) (effect-stays o c) ∙ at-place (besides o c) [] f
+
+-- A field that an order may not set is as it was.
+pub stays : (o : Order) (f : Field) (c : Core) → sets o f ≡ false → read f (carryOut o c) ≡ read f c
 unfolding carryOut
-untouched o c = cases (inRangeInMode (c .settings .screen .mode) o)
-  where
-    cases : (b : Bool) → without (groupOf o) (cond b (effect o c) c) ≡ without (groupOf o) c
-    cases true = effect-stays o c
-    cases false = refl
+stays o f c h =
+    either-way (λ (d : Core). read f d ≡ read f c) (inRangeInMode (c .settings .screen .mode) o) (λ e. rw h at (effect-at o f c)) (λ e. refl)
+
+-- A picture frame sets as many places of the picture as it has columns, from column 0 of its row on. A place outside them, past the
+-- last if not before the first, is as it was.
+pub drawn-alone : (r : ℕ) (columns : List ℕ) (c : Core) (i : ℕ) → (r * 96 ≤ i → r * 96 + length columns ≤ i)
+    → getD (carryOut (draw r columns) c .picture) i 0 ≡ getD (c .picture) i 0
+unfolding carryOut drawn
+drawn-alone r columns c i outside =
+    either-way (λ (d : Core). getD (d .picture) i 0 ≡ getD (c .picture) i 0) (inRangeInMode (c .settings .screen .mode) (draw r columns))
+    (λ e. sets-outside (c .picture) (r * 96) (map (keptIn r) columns) i (rw length-map outside)) (λ e. refl)
+
+-- So every column of another row is as it was ..
+pub other-rows-stay : (r : ℕ) (columns : List ℕ) (c : Core) (other k : ℕ) → length columns ≤ 96 → k < 96 → other ≢ r
+    → getD (carryOut (draw r columns) c .picture) (other * 96 + k) 0 ≡ getD (c .picture) (other * 96 + k) 0
+other-rows-stay r columns c other k most h differs = drawn-alone r columns c (other * 96 + k) (omega arith)
+
+-- .. and so is every column of that row past the data.
+pub past-data-stays : (r : ℕ) (columns : List ℕ) (c : Core) (k : ℕ) → length columns ≤ k
+    → getD (carryOut (draw r columns) c .picture) (r * 96 + k) 0 ≡ getD (c .picture) (r * 96 + k) 0
+past-data-stays r columns c k past = drawn-alone r columns c (r * 96 + k) (omega arith)
+
+-- a core made of what stands in its fields
+made : (Field → List ℕ) → Core
+made found =
+    let one : Field → ℕ = λ f. getD (found f) 0 0 in
+    let flag : Field → Bool = λ f. eqb (getD (found f) 0 0) 1 in
+    let codes : Field → Label = λ f. record { len = getD (found f) 0 0; codes = drop 1 (found f) } in
+    record {
+      settings = record {
+        screen = record { display = flag display; mode = one mode; overlay = one overlay; row = one row; column = one column };
+        shown = flag shown;
+        left = codes leftLabel;
+        right = codes rightLabel;
+        icons = record { s = one iconS; u = one iconU; f = one iconF; r = one iconR; p = one iconP; w = one iconW };
+        volume = record { which = one which; level = one level; mute = flag mute; hidden = flag hidden };
+        times = record { time1 = record { 0 = one time1 }; time2 = record { 0 = one time2 } };
+        buzzer = record { 0 = one buzzer };
+        backlight = record { mode = one light; duration = record { 0 = one duration }; left = record { 0 = one secondsLeft }; keypad = flag keypad };
+      };
+      text = found text;
+      picture = found picture;
+    }
+
+flag-read : (b : Bool) → eqb (bit b) 1 ≡ b
+flag-read true = refl
+flag-read false = refl
+
+made-again : (c : Core) → made (λ f. read f c) ≡ c
+unfolding made
+made-again c = simp flag-read
+
+-- The fields are all that a core has: two cores with the same in every field are one.
+pub fields-are-all : (c d : Core) → ((f : Field) → read f c ≡ read f d) → c ≡ d
+fields-are-all c d same = sym (made-again c) ∙ (λ j. made (λ f. same f j)) ∙ made-again d

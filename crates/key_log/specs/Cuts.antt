@@ -7,14 +7,14 @@ use lib.ListN.{length, drop, length-map}
 use Rattle.lists.specs.Both.{both, and-both}
 use Rattle.lists.specs.Every.{every}
 use Rattle.record.specs.declared.Record.{Record}
-use Rattle.record.specs.declared.Number.the-variants.{Done}
+use Rattle.record.specs.Number.{numbered}
 use Rattle.record.specs.Range.{inRange}
 use Rattle.turns.specs.Taking.{reading}
 use Rattle.turns.specs.Room.{Ran, run, run-keeps}
 use Rattle.turns.specs.Calls.{Call, offered, offered-append, Session, session, takenIn, sessions-alike, calls-end-as-one}
 use Rattle.key_entry.specs.Rules.{Entry, listed, step}
 use Rattle.key_log.specs.Log.{entries, Outcome, outcome}
-use Rattle.key_log.specs.Laws.{answers-0}
+use Rattle.key_log.specs.Laws.{ends-with-0}
 use Rattle.key_log.specs.Ranges.{step-in-range}
 
 -- the two slices that hold a list of entries
@@ -44,10 +44,10 @@ same-entries (e ∷ log) = ap (λ (t : List Entry). e ∷ t) (same-entries log)
 
 -- A listed log from a record in range is taken by the rules.
 pub logged-runs : (r : Record) (log : List Entry) (room : ℕ) → inRange r ≡ true → every listed (edgesOf log) ≡ true
-    → logged r log room ≡ record { number = Done; ran = run step r log room }
+    → logged r log room ≡ record { number = numbered 0; ran = run step r log room }
 logged-runs r log room good all =
-    answers-0 r (ticksOf log) (edgesOf log) room good (length-map log (λ (e : Entry). e .tick) ∙ sym (length-map log (λ (e : Entry). e .edge))) all
-    ∙ ap (λ (t : List Entry). record { number = Done; ran = run step r t room }) (same-entries log)
+    ends-with-0 r (ticksOf log) (edgesOf log) room good (length-map log (λ (e : Entry). e .tick) ∙ sym (length-map log (λ (e : Entry). e .edge))) all
+    ∙ ap (λ (t : List Entry). record { number = numbered 0; ran = run step r t room }) (same-entries log)
 
 -- The edges of two logs together are listed where those of each are.
 listed-front : (log more : List Entry) → every listed (edgesOf (log ++ more)) ≡ true → every listed (edgesOf log) ≡ true

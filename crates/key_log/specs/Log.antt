@@ -10,7 +10,7 @@ use Rattle.record.specs.declared.Record.{Record}
 use Rattle.record.specs.declared.Held.{Held}
 use Rattle.record.specs.declared.Backlight.{Backlight}
 use Rattle.record.specs.declared.Number.{Number}
-use Rattle.record.specs.declared.Number.the-variants.{Done, FieldOutOfRange, NotListed, UnequalLengths}
+use Rattle.record.specs.Number.{numbered}
 use Rattle.record.specs.Range.{inRange}
 use Rattle.turns.specs.Room.{Ran, run, stopped}
 use Rattle.turns.specs.Loop.{holding}
@@ -33,10 +33,10 @@ refused number r = record { number = number; ran = stopped r }
 -- 1 a field out of range; 5 slices of unequal length; 4 an edge byte not listed, anywhere in the log; else the rules, entry by entry
 unfoldable pub outcome : Record → List ℕ → List ℕ → ℕ → Outcome
 outcome r ticks edges room =
-    cond (not (inRange r)) (refused FieldOutOfRange r)
-    (cond (not (eqb (length ticks) (length edges))) (refused UnequalLengths r)
-    (cond (not (every listed edges)) (refused NotListed r)
-    (record { number = Done; ran = run step r (entries ticks edges) room })))
+    cond (not (inRange r)) (refused (numbered 1) r)
+    (cond (not (eqb (length ticks) (length edges))) (refused (numbered 5) r)
+    (cond (not (every listed edges)) (refused (numbered 4) r)
+    (record { number = numbered 0; ran = run step r (entries ticks edges) room })))
 
 -- what the call hands back
 abbrev pub handedBack : Outcome → Logged
@@ -48,9 +48,9 @@ bufferAfter o before = holding (o .ran .answers) before
 
 -- the work is done, with this held key and this backlight in the record
 abbrev pub doneWith : Record → Held → Backlight → ℕ → ℕ → Logged
-doneWith r held light used written = record { number = Done; «record» = withKeys r held light; used = used; written = written }
+doneWith r held light used written = record { number = numbered 0; «record» = withKeys r held light; used = used; written = written }
 
 -- the loop's part of the promise: what it hands back and leaves in the buffer is the run of the rules
 pub record Takes (l : Logged) (r : Record) (ticks edges before after : List ℕ) : Type 0 where
-  pub back : l ≡ handedBack (record { number = Done; ran = run step r (entries ticks edges) (length before) })
-  pub buffer : after ≡ bufferAfter (record { number = Done; ran = run step r (entries ticks edges) (length before) }) before
+  pub back : l ≡ handedBack (record { number = numbered 0; ran = run step r (entries ticks edges) (length before) })
+  pub buffer : after ≡ bufferAfter (record { number = numbered 0; ran = run step r (entries ticks edges) (length before) }) before

@@ -8,7 +8,7 @@ use borrow.Author.Tests.{eq-eqb, ne-eqb}
 use Rattle.record.specs.declared.Record.{Record}
 use Rattle.record.specs.declared.Held.{Held}
 use Rattle.record.specs.declared.Backlight.{Backlight}
-use Rattle.record.specs.declared.Number.the-variants.{Done}
+use Rattle.record.specs.Number.{numbered}
 use Rattle.turns.specs.Taking.{silently}
 use Rattle.turns.specs.Room.{run}
 use Rattle.turns.specs.Loop.{Account, Going, still, go-quiet, go-one, go-stop, go-end}
@@ -72,6 +72,6 @@ pub takes : {r : Record} (ticks edges : List ℕ) {before : List ℕ} {held : He
     → Takes l r ticks edges before codes
 takes ticks edges l e account =
     record {
-      back = e ∙ (λ j. record { number = Done; «record» = account .state j; used = account .used j; written = account .written j });
+      back = e ∙ (λ j. record { number = numbered 0; «record» = account .state j; used = account .used j; written = account .written j });
       buffer = account .buffer;
     }

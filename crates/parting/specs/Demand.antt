@@ -3,12 +3,12 @@
 use Prim.Native.Nat.{ℕ, zero, suc, _≤_, _<_}
 use native.Mathlib.Omega.{arith}
 use mathlib.Core.Logic.{_⊎_}
-use mathlib.Core.Path.{_≡_, sym, ap, _∙_}
+use mathlib.Core.Path.{_≡_, sym, _∙_, subst}
 use mathlib.Core.List.{List, [], _∷_, _++_}
 use lib.ListN.{length, take, replicate, length-replicate}
 use Rattle.lists.specs.Codes.{blank}
 use Rattle.turns.specs.Room.{takenOf, run-stops, only-one}
-use Rattle.turns.specs.Calls.{cuts-do-not-matter, last-takes-all, rest-answers}
+use Rattle.turns.specs.Calls.{cuts-do-not-matter, last-takes-all}
 use Rattle.parting.specs.Rules.{Body, empty, collect, Parted, Parting, Frame, noFrame, openFrame, overlong, limit, Stands, none-stands, open-stands, overlong-stands, FrameInRange}
 use Rattle.parting.specs.Meaning.{Meaning, State, Taken, taking}
 use Rattle.parting.specs.Exactly.{ExactlyOne, exactly-one}
@@ -34,9 +34,12 @@ pub record Demand3 (M : Meaning) (call : State (M .Core) → List ℕ → ℕ �
   -- Cutting the stream elsewhere changes nothing, if each call's unused bytes are offered again first and none is left in the end.
   pub anywhere : (state : State (M .Core)) {before : List ℕ} (calls : List Call) {parted : Parted} → Stands (state .frame) before
       → Parting (before ++ offered calls) parted → session call state [] calls .unused ≡ [] → takenIn (session call state [] calls) ≡ taking M (state .core) parted
-  -- And none is left if the room in the end takes all answers.
-  pub none-left : (state : State (M .Core)) {before : List ℕ} (calls : List Call) (last : Call) {parted : Parted} → Stands (state .frame) before
-      → Parting (before ++ offered (calls ++ last ∷ [])) parted → length (taking M (state .core) parted .answers) ≤ last .room → session call state [] (calls ++ last ∷ []) .unused ≡ []
+  -- And none is left if the room in the end takes the answers that are still to come: `waiting` is what the frame that is then open
+  -- stands for.
+  pub none-left : (state : State (M .Core)) (calls : List Call) (last : Call) {waiting : List ℕ} {parted : Parted}
+      → (let s = session call state [] calls in
+      Stands (s .state .frame) waiting → Parting (waiting ++ (s .unused ++ last .entries)) parted → length (taking M (s .state .core) parted .answers) ≤ last .room
+      → session call state [] (calls ++ last ∷ []) .unused ≡ [])
 
 -- The proof ---------------------------------------------------------------------------------------------------------
 
@@ -50,7 +53,9 @@ demand3 M =
       fits = λ state bytes room. run-stops (step M) state bytes room .fits;
       stops = λ state bytes room standing p. rw (← stream M state _ standing p) (run-stops (step M) state bytes room .stops);
       anywhere = λ state calls standing p none. cuts-do-not-matter (step M) state calls none ∙ stream M state _ standing p;
-      none-left = λ state calls last standing p room. last-takes-all (step M) state [] calls last (omega (arith, rest-answers (step M) state calls last, ap (λ (t : Taken (M .Core)). length (t .answers)) (stream M state _ standing p)));
+      none-left = λ state calls last standing p room.
+          let s = session (run M) state [] calls in
+          last-takes-all (step M) state [] calls last (subst (λ (t : Taken (M .Core)). length (t .answers) ≤ last .room) (sym (stream M (s .state) (s .unused ++ last .entries) standing p)) room);
     }
 
 -- some bytes for each frame in range
@@ -58,16 +63,17 @@ filled : (n : ℕ) → Body (replicate n blank)
 filled zero = empty
 filled (suc n) = collect {b = blank} (record { not-escape = λ e. omega arith; not-return = λ e. omega arith }) (filled n)
 
-standing : (frame : Frame) → FrameInRange frame → (before : List ℕ) × Stands frame before
-standing noFrame h = (_, none-stands)
-standing (openFrame body) h = (_, open-stands (h .0) (h .1))
-standing overlong h = (_, overlong-stands (filled (suc limit)) (omega (arith, length-replicate (suc limit) blank)))
+-- EVERY FRAME IN RANGE STANDS FOR SOME BYTES, so what is said of them is said of every record in range.
+pub stands-for-some : (frame : Frame) → FrameInRange frame → (before : List ℕ) × Stands frame before
+stands-for-some noFrame h = (_, none-stands)
+stands-for-some (openFrame body) h = (_, open-stands (h .0) (h .1))
+stands-for-some overlong h = (_, overlong-stands (filled (suc limit)) (omega (arith, length-replicate (suc limit) blank)))
 
 -- DEMAND 3 FIXES the answer: from a record in range nothing else meets it, in record, used, or answers.
 pub demand3-fixes : (M : Meaning) (call : State (M .Core) → List ℕ → ℕ → Ran (M .Core)) → Demand3 M call
     → (state : State (M .Core)) → FrameInRange (state .frame) → (bytes : List ℕ) (room : ℕ) → call state bytes room ≡ run M state bytes room
 demand3-fixes M call demand state range bytes room =
-    let stands = standing (state .frame) range .1 in
+    let stands = stands-for-some (state .frame) range .1 in
     let now = exactly-one (take (call state bytes room .used) bytes) stands in
     let next = exactly-one (take (suc (call state bytes room .used)) bytes) stands in
     only-one (step M)

@@ -1,5 +1,9 @@
--- The paper's number of each call that ended, by its name ("Numbers handed back"). Assumes nothing.
-use Prim.Native.Nat.{ℕ}
+-- How a call ended: the paper's numbers ("Numbers handed back") and their names. Definitions name a case by its number. Assumes nothing.
+use Prim.Native.Nat.{ℕ, zero, suc, _≤_}
+use native.Mathlib.Omega.{arith}
+use mathlib.Core.Path.{_≡_, refl}
+use mathlib.Core.Bool.{cond}
+use lib.Dec.{eqb}
 use Rattle.record.specs.declared.Number.{Number}
 use Rattle.record.specs.declared.Number.the-variants.{Done, FieldOutOfRange, CommandOutOfRange, NoRoom, NotListed, UnequalLengths}
 
@@ -13,3 +17,31 @@ paperNumber CommandOutOfRange = 2
 paperNumber NoRoom = 3
 paperNumber NotListed = 4
 paperNumber UnequalLengths = 5
+
+-- the case of a number; the paper has none above 5
+abbrev pub numbered : ℕ → Number
+numbered n =
+    cond (eqb n 0) Done
+    (cond (eqb n 1) FieldOutOfRange
+    (cond (eqb n 2) CommandOutOfRange
+    (cond (eqb n 3) NoRoom
+    (cond (eqb n 4) NotListed
+    UnequalLengths))))
+
+-- Each number names its own case, and each case is named by its number.
+pub number-of-case : (n : ℕ) → n ≤ 5 → paperNumber (numbered n) ≡ n
+number-of-case zero h = refl
+number-of-case (suc zero) h = refl
+number-of-case (suc (suc zero)) h = refl
+number-of-case (suc (suc (suc zero))) h = refl
+number-of-case (suc (suc (suc (suc zero)))) h = refl
+number-of-case (suc (suc (suc (suc (suc zero))))) h = refl
+number-of-case (suc (suc (suc (suc (suc (suc n)))))) h = absurd (omega arith)
+
+pub case-of-number : (number : Number) → numbered (paperNumber number) ≡ number
+case-of-number Done = refl
+case-of-number FieldOutOfRange = refl
+case-of-number CommandOutOfRange = refl
+case-of-number NoRoom = refl
+case-of-number NotListed = refl
+case-of-number UnequalLengths = refl

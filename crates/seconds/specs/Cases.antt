@@ -4,7 +4,7 @@ use mathlib.Core.Path.{_≡_, refl}
 use mathlib.Core.Bool.{true}
 use mathlib.Core.List.{[], _∷_, map}
 use Rattle.record.specs.declared.Number.{Number}
-use Rattle.record.specs.declared.Number.the-variants.{Done, FieldOutOfRange}
+use Rattle.record.specs.Number.{numbered}
 use Rattle.record.specs.declared.Backlight.{Backlight}
 use Rattle.seconds.specs.Seconds.{lightPassed}
 use Rattle.seconds.specs.declared.LightPassed.{LightPassed}
@@ -19,14 +19,14 @@ ends number backlight = record { number = number; backlight = backlight }
 -- they were: seconds left while the light is on, a duration of 0, a mode above 2.
 pub light-cases :
     map lightPassed (light 2 30 30 ∷ light 2 30 1 ∷ light 2 30 0 ∷ light 2 1 255 ∷ light 0 30 0 ∷ light 1 30 5 ∷ light 2 0 5 ∷ light 3 30 0 ∷ [])
-    ≡ ends Done (light 2 30 29)
-    ∷ ends Done (light 2 30 0)
-    ∷ ends Done (light 2 30 0)
-    ∷ ends Done (light 2 1 254)
-    ∷ ends Done (light 0 30 0)
-    ∷ ends FieldOutOfRange (light 1 30 5)
-    ∷ ends FieldOutOfRange (light 2 0 5)
-    ∷ ends FieldOutOfRange (light 3 30 0)
+    ≡ ends (numbered 0) (light 2 30 29)
+    ∷ ends (numbered 0) (light 2 30 0)
+    ∷ ends (numbered 0) (light 2 30 0)
+    ∷ ends (numbered 0) (light 2 1 254)
+    ∷ ends (numbered 0) (light 0 30 0)
+    ∷ ends (numbered 1) (light 1 30 5)
+    ∷ ends (numbered 1) (light 2 0 5)
+    ∷ ends (numbered 1) (light 3 30 0)
     ∷ []
 unfolding lightPassed
 light-cases = refl

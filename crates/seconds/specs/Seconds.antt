@@ -3,7 +3,7 @@ use Prim.Native.Nat.{_-_}
 use mathlib.Core.Bool.{not, cond}
 use Rattle.record.specs.Range.{backlightInRange, inRange}
 use Rattle.record.specs.With.{withSettings, withBacklight, withSecondsLeft}
-use Rattle.record.specs.declared.Number.the-variants.{Done, FieldOutOfRange}
+use Rattle.record.specs.Number.{numbered}
 use Rattle.record.specs.declared.Backlight.{Backlight}
 use Rattle.record.specs.declared.Record.{Record}
 use Rattle.seconds.specs.declared.Passed.{Passed}
@@ -16,8 +16,8 @@ lowered b = withSecondsLeft b (record { 0 = b .left .0 - 1 })
 -- on the backlight alone: number 1 for its own ranges, and then it is handed back as it was
 unfoldable pub lightPassed : Backlight → LightPassed
 lightPassed b =
-    cond (not (backlightInRange b)) (record { number = FieldOutOfRange; backlight = b })
-    (record { number = Done; backlight = lowered b })
+    cond (not (backlightInRange b)) (record { number = numbered 1; backlight = b })
+    (record { number = numbered 0; backlight = lowered b })
 
 -- the record with one second less
 abbrev pub dimmed : Record → Record
@@ -26,5 +26,5 @@ dimmed r = withSettings r (withBacklight (r .settings) (lowered (r .settings .ba
 -- on the record: number 1 for any field out of range, and then it is handed back as it was
 unfoldable pub passed : Record → Passed
 passed r =
-    cond (not (inRange r)) (record { number = FieldOutOfRange; after = r })
-    (record { number = Done; after = dimmed r })
+    cond (not (inRange r)) (record { number = numbered 1; after = r })
+    (record { number = numbered 0; after = dimmed r })

@@ -9,7 +9,7 @@ use Rattle.record.specs.PowerOn.{powerOn}
 use Rattle.record.specs.Range.{inRange, textInRange, labelInRange, pictureInRange, frameInRange}
 use Rattle.record.specs.With.{withSettings, withText, withScreen, withMode, withOverlay, withDisplay}
 use Rattle.record.specs.declared.Number.{Number}
-use Rattle.record.specs.declared.Number.the-variants.{Done, FieldOutOfRange, NotListed}
+use Rattle.record.specs.Number.{numbered}
 use Rattle.record.specs.declared.Icons.{Icons}
 use Rattle.record.specs.declared.Record.{Record}
 use Rattle.record.specs.declared.Volume.{Volume}
@@ -80,17 +80,17 @@ pub row-cases :
     ∷ (powerOn, 7)
     ∷ (screen 2 0, 7)
     ∷ [])
-    ≡ (Done, IconBar)
-    ∷ (Done, TextRow 0)
-    ∷ (Done, SoftKeys)
-    ∷ (Done, PictureRow 5)
-    ∷ (Done, Nothing)
-    ∷ (Done, PictureRow 6)
-    ∷ (Done, TextRow 3)
-    ∷ (Done, TextRow 4)
-    ∷ (Done, Nothing)
-    ∷ (NotListed, Nothing)
-    ∷ (FieldOutOfRange, Nothing)
+    ≡ (numbered 0, IconBar)
+    ∷ (numbered 0, TextRow 0)
+    ∷ (numbered 0, SoftKeys)
+    ∷ (numbered 0, PictureRow 5)
+    ∷ (numbered 0, Nothing)
+    ∷ (numbered 0, PictureRow 6)
+    ∷ (numbered 0, TextRow 3)
+    ∷ (numbered 0, TextRow 4)
+    ∷ (numbered 0, Nothing)
+    ∷ (numbered 4, Nothing)
+    ∷ (numbered 1, Nothing)
     ∷ [])
     × (rowSeen written 2 .owner ≡ TextRow 1)
     × (rowSeen written 2 .codes ≡ ascii "Meter           ")

@@ -10,12 +10,14 @@ use lib.Seq.{getD-drop, getD-take}
 use borrow.Author.Tests.{leb-true, lt-ltb, le-ltb}
 use Rattle.lists.specs.Tests.{by-test}
 use Rattle.lists.specs.Both.{both}
-use Rattle.record.specs.Number.{paperNumber}
+use Rattle.record.specs.Number.{paperNumber, numbered}
 use Rattle.record.specs.Range.{inRange}
 use Rattle.record.specs.With.{withSettings, withScreen, withShown, withRow, withColumn}
-use Rattle.record.specs.declared.Number.the-variants.{Done, NotListed}
 use Rattle.record.specs.declared.Record.{Record}
 use Rattle.record.specs.declared.Screen.{Screen}
+use Rattle.seen_panels.specs.Panels.{smsPanel, volumePanel}
+use Rattle.seen_panels.specs.declared.SmsPanel.the-variants as Sms
+use Rattle.seen_panels.specs.declared.VolumePanel.the-variants as Sound
 use Rattle.seen.specs.declared.Owner.{Owner}
 use Rattle.seen.specs.declared.Owner.the-variants.{Nothing, IconBar, TextRow, PictureRow, SoftKeys}
 use Rattle.seen.specs.declared.Row.{Row}
@@ -29,7 +31,7 @@ seen-row r row ok h = rw (ok, le-ltb 6 row h)
 
 -- Numbers -------------------------------------------------------------------------------------------------------
 
-contents-done : (r : Record) (o : Owner) → contents r o .number ≡ Done
+contents-done : (r : Record) (o : Owner) → contents r o .number ≡ numbered 0
 unfolding contents
 contents-done r Nothing = refl
 contents-done r IconBar = refl
@@ -50,6 +52,23 @@ pub panel-numbers : (r : Record)
     → (paperNumber (smsSeen r .number) ≡ cond (not (inRange r)) 1 0) × (paperNumber (volumeSeen r .number) ≡ cond (not (inRange r)) 1 0)
 unfolding smsSeen volumeSeen
 panel-numbers r = by-test (inRange r) (λ ok. (rw ok, rw ok)) (λ bad. (rw bad, rw bad))
+
+-- A question that is refused tells nothing: the whole of what comes back, for number 1 and for number 4.
+pub row-refused : (r : Record) (row : ℕ)
+    → (inRange r ≡ false → rowSeen r row ≡ nothingSeen (numbered 1)) × (inRange r ≡ true → 6 < row → rowSeen r row ≡ nothingSeen (numbered 4))
+unfolding rowSeen
+row-refused r row = (λ bad. rw bad, λ ok above. rw (ok, lt-ltb 6 row above))
+
+pub panels-refused : (r : Record) → inRange r ≡ false
+    → (smsSeen r ≡ record { number = numbered 1; panel = Sms.Nothing }) × (volumeSeen r ≡ record { number = numbered 1; panel = Sound.Nothing })
+unfolding smsSeen volumeSeen
+panels-refused r bad = (rw bad, rw bad)
+
+-- Else the panels' questions tell what the panels show.
+pub panels-told : (r : Record) → inRange r ≡ true
+    → (smsSeen r ≡ record { number = numbered 0; panel = smsPanel (r .settings .icons) }) × (volumeSeen r ≡ record { number = numbered 0; panel = volumePanel (r .settings .volume) })
+unfolding smsSeen volumeSeen
+panels-told r ok = (rw ok, rw ok)
 
 -- Display off -----------------------------------------------------------------------------------------------------
 
@@ -115,7 +134,7 @@ pub cursor-unseen : (r : Record) (shown : Bool) (row column : ℕ) → inRange r
     × (volumeSeen (withCursor r shown row column) ≡ volumeSeen r)
 unfolding rowSeen smsSeen volumeSeen ownerOn covered underBar underLabels underText
 cursor-unseen r shown row column ok ok′ =
-    (λ at. rw (ok, ok′) (ap (λ (q : Row). cond (ltb 6 at) (nothingSeen NotListed) q) (contents-alike r shown row column (rowOwner r at))), rw (ok, ok′), rw (ok, ok′))
+    (λ at. rw (ok, ok′) (ap (λ (q : Row). cond (ltb 6 at) (nothingSeen (numbered 4)) q) (contents-alike r shown row column (rowOwner r at))), rw (ok, ok′), rw (ok, ok′))
 
 -- The contents ----------------------------------------------------------------------------------------------------
 

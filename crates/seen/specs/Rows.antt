@@ -10,7 +10,7 @@ use Rattle.record.specs.declared.Record.{Record}
 use Rattle.record.specs.declared.Settings.{Settings}
 use Rattle.record.specs.declared.Label.{Label}
 use Rattle.record.specs.declared.Number.{Number}
-use Rattle.record.specs.declared.Number.the-variants.{Done, FieldOutOfRange, NotListed}
+use Rattle.record.specs.Number.{numbered}
 use Rattle.seen_panels.specs.Panels.{smsPanel, volumePanel}
 use Rattle.seen.specs.Places.{rowOwner}
 use Rattle.seen.specs.declared.Owner.{Owner}
@@ -67,26 +67,26 @@ nothingSeen a = record { number = a; owner = Nothing; codes = noCodes; columns =
 
 -- the contents of a row, by its owner
 unfoldable pub contents : Record → Owner → Row
-contents r Nothing = nothingSeen Done
-contents r IconBar = record { number = Done; owner = IconBar; codes = noCodes; columns = noColumns; bar = barOf (r .settings); labels = noLabels }
-contents r (TextRow n) = record { number = Done; owner = TextRow n; codes = textRow r n; columns = noColumns; bar = noBar; labels = noLabels }
-contents r (PictureRow n) = record { number = Done; owner = PictureRow n; codes = noCodes; columns = pictureRow r n; bar = noBar; labels = noLabels }
-contents r SoftKeys = record { number = Done; owner = SoftKeys; codes = noCodes; columns = noColumns; bar = noBar; labels = labelsOf (r .settings) }
+contents r Nothing = nothingSeen (numbered 0)
+contents r IconBar = record { number = numbered 0; owner = IconBar; codes = noCodes; columns = noColumns; bar = barOf (r .settings); labels = noLabels }
+contents r (TextRow n) = record { number = numbered 0; owner = TextRow n; codes = textRow r n; columns = noColumns; bar = noBar; labels = noLabels }
+contents r (PictureRow n) = record { number = numbered 0; owner = PictureRow n; codes = noCodes; columns = pictureRow r n; bar = noBar; labels = noLabels }
+contents r SoftKeys = record { number = numbered 0; owner = SoftKeys; codes = noCodes; columns = noColumns; bar = noBar; labels = labelsOf (r .settings) }
 
 -- The questions ---------------------------------------------------------------------------------------------------
 
 -- number 1 for a field out of range, then 4 for a display row above 6: then it tells nothing
 unfoldable pub rowSeen : Record → ℕ → Row
 rowSeen r row =
-    cond (not (inRange r)) (nothingSeen FieldOutOfRange)
-    (cond (ltb 6 row) (nothingSeen NotListed) (contents r (rowOwner r row)))
+    cond (not (inRange r)) (nothingSeen (numbered 1))
+    (cond (ltb 6 row) (nothingSeen (numbered 4)) (contents r (rowOwner r row)))
 
 unfoldable pub smsSeen : Record → SmsSeen
 smsSeen r =
-    cond (not (inRange r)) (record { number = FieldOutOfRange; panel = Sms.Nothing })
-    (record { number = Done; panel = smsPanel (r .settings .icons) })
+    cond (not (inRange r)) (record { number = numbered 1; panel = Sms.Nothing })
+    (record { number = numbered 0; panel = smsPanel (r .settings .icons) })
 
 unfoldable pub volumeSeen : Record → VolumeSeen
 volumeSeen r =
-    cond (not (inRange r)) (record { number = FieldOutOfRange; panel = Sound.Nothing })
-    (record { number = Done; panel = volumePanel (r .settings .volume) })
+    cond (not (inRange r)) (record { number = numbered 1; panel = Sound.Nothing })
+    (record { number = numbered 0; panel = volumePanel (r .settings .volume) })

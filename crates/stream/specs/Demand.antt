@@ -7,41 +7,48 @@ use mathlib.Core.Bool.{true}
 use mathlib.Core.List.{List, [], _∷_, _++_}
 use lib.ListN.{length, take, drop, replicate, length-replicate}
 use lib.Seq.{take-append-seam}
-use Rattle.record.specs.declared.Number.the-variants.{Done}
+use Rattle.record.specs.Number.{numbered}
 use Rattle.record.specs.declared.Held.{Held}
 use Rattle.record.specs.declared.Record.{Record}
 use Rattle.record.specs.Range.{inRange}
 use Rattle.record.specs.Laws.{ranges, in-range}
-use Rattle.turns.specs.Room.{Ran, takenOf}
+use Rattle.turns.specs.Room.{Ran, Stops, run-stops, only-one}
 use Rattle.turns.specs.Taking.{Taken}
 use Rattle.turns.specs.Calls.{Session, session, takenIn, sessions-alike, session-keeps}
 use Rattle.parting.specs.Rules.{Parted, Parting, Stands}
 use Rattle.parting.specs.Meaning.{State, taking}
+use Rattle.parting.specs.Reading.{step}
+use Rattle.parting.specs.Stream.{stream}
 use Rattle.parting.specs.Room.{run}
 use Rattle.parting.specs.Calls.{Call, offered}
 use Rattle.parting.specs.Kept.{Sound, Keeps, run-keeps}
 use Rattle.parting.specs.Exactly.{ExactlyOne, exactly-one}
-use Rattle.parting.specs.Demand.{Demand3, demand3}
+use Rattle.parting.specs.Demand.{Demand3, demand3, stands-for-some}
 use Rattle.effect.specs.Core.{Core, coreOf}
 use Rattle.effect.specs.Keeps.{CoreInRange, core-of-record, record-of-core, obey-keeps, store-keeps}
 use Rattle.stream.specs.declared.Small.{Small}
 use Rattle.stream.specs.declared.AfterBytes.{AfterBytes}
 use Rattle.stream_places.specs.Places.{emptied}
-use Rattle.stream.specs.Stream.{handset, keptFrame, stateOf, recordOf, together, standing, fedBy, fedOf, answersAfter, Ready, Reads}
+use Rattle.stream.specs.Stream.{handset, keptFrame, stateOf, recordOf, together, standing, fedBy, fedOf, writtenOver, answersAfter, Ready, Reads}
 use Rattle.stream.specs.Turns.{put-together}
 use Rattle.stream.specs.Frames.{places-of, frame-read, frame-back, frame-kept, frame-same}
 
--- what a call writes into a room of so many places (it does not depend on what stood there before)
-abbrev pub writtenBy : Record → List ℕ → ℕ → List ℕ
-writtenBy r bytes room = take (fedOf r bytes room .written) (answersAfter r bytes (replicate room 0))
+-- what a stream call hands back beside its number, and what then stands in the buffer that it was lent
+pub record HandedBack : Type 0 where
+  pub after : Record
+  pub used : ℕ
+  pub written : ℕ
+  pub buffer : List ℕ
 
--- what a call does: the record, the bytes used, the bytes written
-abbrev pub fedRan : Record → List ℕ → ℕ → Ran Record
-fedRan r bytes room = record { state = fedOf r bytes room .record; used = fedOf r bytes room .used; answers = writtenBy r bytes room }
+-- anything that takes a stream call: a record, bytes, and the buffer that is lent
+abbrev pub Calling : Type 0
+Calling = Record → List ℕ → List ℕ → HandedBack
 
--- CALLS IN ORDER: each is offered what the one before left unused, then its own bytes
-abbrev pub feeding : Record → List ℕ → List Call → Session Record ℕ
-feeding = session fedRan
+-- THE STREAM CALL of this program
+abbrev pub fedBack : Calling
+fedBack r bytes lent =
+    let fed = fedOf r bytes (length lent) in
+    record { after = fed .record; used = fed .used; written = fed .written; buffer = answersAfter r bytes lent }
 
 -- the record and the answers of taking parts in order, from this record; its held key stays
 abbrev pub takenFrom : Record → Parted → Taken Record
@@ -49,25 +56,46 @@ takenFrom r parted =
     let taken = taking handset (coreOf r) parted in
     record { state = recordOf (r .held) (taken .state); answers = taken .answers }
 
+-- what is handed back when so many bytes were used and these are their parts: the record; how many answer bytes there are; the
+-- answers, and behind them what stood in the buffer
+abbrev pub partsTaken : Record → Parted → ℕ → List ℕ → HandedBack
+partsTaken r parted used lent =
+    let taken = takenFrom r parted in
+    record { after = taken .state; used = used; written = length (taken .answers); buffer = writtenOver (taken .answers) lent }
+
+-- CALLS IN ORDER: each is offered what the one before left unused, then its own bytes. What a call writes does not depend on what
+-- stood in its buffer (`in-order` below), so here zeros stand there.
+abbrev pub ranOf : Calling → Record → List ℕ → ℕ → Ran Record
+ranOf call r bytes room =
+    let back = call r bytes (replicate room 0) in
+    record { state = back .after; used = back .used; answers = take (back .written) (back .buffer) }
+
+abbrev pub inCalls : Calling → Record → List Call → Session Record ℕ
+inCalls call r calls = session (ranOf call) r [] calls
+
 -- THE STATEMENT. In all of it the record is in range and `before` is what its open frame stands for.
-pub record FeedDemand3 (r : Record) (before : List ℕ) : Type 0 where
+pub record FeedDemand3 (call : Calling) (r : Record) (before : List ℕ) : Type 0 where
   -- Any byte stream, the open frame standing first, parts in exactly one way.
   pub one-parting : (bytes : List ℕ) → ExactlyOne (before ++ bytes)
-  -- The record and the question marks of a call are those of taking the parts of its used bytes in order.
-  pub in-order : (bytes : List ℕ) (room : ℕ) {parted : Parted} → Parting (before ++ take (fedOf r bytes room .used) bytes) parted
-      → takenOf (fedRan r bytes room) ≡ takenFrom r parted
+  -- The record and the question marks of a call are those of taking the parts of its used bytes in order; so is the written count,
+  -- and the buffer, whatever was lent.
+  pub in-order : (bytes lent : List ℕ) {parted : Parted} → Parting (before ++ take (call r bytes lent .used) bytes) parted
+      → call r bytes lent ≡ partsTaken r parted (call r bytes lent .used) lent
   -- It uses no more than it was offered, writes no more than there is room for, and stops nowhere but before a byte whose whole
   -- answer does not fit.
-  pub within : (bytes : List ℕ) (room : ℕ) → fedOf r bytes room .used ≤ length bytes
-  pub fits : (bytes : List ℕ) (room : ℕ) → length (writtenBy r bytes room) ≤ room
-  pub stops : (bytes : List ℕ) (room : ℕ) {parted : Parted} → Parting (before ++ take (suc (fedOf r bytes room .used)) bytes) parted
-      → (fedOf r bytes room .used ≡ length bytes) ⊎ (room < length (takenFrom r parted .answers))
+  pub within : (bytes lent : List ℕ) → call r bytes lent .used ≤ length bytes
+  pub fits : (bytes lent : List ℕ) → call r bytes lent .written ≤ length lent
+  pub stops : (bytes lent : List ℕ) {parted : Parted} → Parting (before ++ take (suc (call r bytes lent .used)) bytes) parted
+      → (call r bytes lent .used ≡ length bytes) ⊎ (length lent < length (takenFrom r parted .answers))
   -- Cutting the stream elsewhere changes nothing, if each call's unused bytes are offered again first and none is left in the end;
-  pub anywhere : (calls : List Call) {parted : Parted} → Parting (before ++ offered calls) parted → feeding r [] calls .unused ≡ []
-      → takenIn (feeding r [] calls) ≡ takenFrom r parted
-  -- and none is left if the room in the end takes all answers.
-  pub none-left : (calls : List Call) (last : Call) {parted : Parted} → Parting (before ++ offered (calls ++ last ∷ [])) parted
-      → length (takenFrom r parted .answers) ≤ last .room → feeding r [] (calls ++ last ∷ []) .unused ≡ []
+  pub anywhere : (calls : List Call) {parted : Parted} → Parting (before ++ offered calls) parted → inCalls call r calls .unused ≡ []
+      → takenIn (inCalls call r calls) ≡ takenFrom r parted
+  -- and none is left if the room in the end takes the answers that are still to come: `waiting` is what the frame that is then open
+  -- stands for.
+  pub none-left : (calls : List Call) (last : Call) {waiting : List ℕ} {parted : Parted}
+      → (let s = inCalls call r calls in
+      Stands (stateOf (s .state) .frame) waiting → Parting (waiting ++ (s .unused ++ last .entries)) parted → length (takenFrom (s .state) parted .answers) ≤ last .room
+      → inCalls call r (calls ++ last ∷ []) .unused ≡ [])
 
 -- The proof ---------------------------------------------------------------------------------------------------------
 
@@ -81,10 +109,10 @@ module _ (small : Small) (t g fr bytes before : List ℕ) {done : AfterBytes} {t
   reads-on : Reads (stateOf (together small t g fr)) bytes before done t′ g′ fr′ after
   reads-on = subst (λ (m : ℕ). Reads (standing (small .settings) t g (small .state) m fr) bytes before done t′ g′ fr′ after) e reads
 
-  pub feeds : record { number = Done; «record» = together (record { settings = done .settings; held = small .held; state = done .state; len = done .len }) t′ g′ (emptied fr′ (done .len)); used = done .used; written = done .written }
+  pub feeds : record { number = numbered 0; «record» = together (record { settings = done .settings; held = small .held; state = done .state; len = done .len }) t′ g′ (emptied fr′ (done .len)); used = done .used; written = done .written }
       ≡ fedOf (together small t g fr) bytes (length before)
   unfolding fedOf
-  feeds = rw h (λ j. record { number = Done; «record» = put-together (small .held) reads-on j; used = reads-on .account .used j; written = reads-on .account .written j })
+  feeds = rw h (λ j. record { number = numbered 0; «record» = put-together (small .held) reads-on j; used = reads-on .account .used j; written = reads-on .account .written j })
 
   pub answers-fed : after ≡ answersAfter (together small t g fr) bytes before
   unfolding answersAfter
@@ -116,11 +144,20 @@ fed-held : (r : Record) (bytes : List ℕ) (room : ℕ) → inRange r ≡ true �
 unfolding fedOf
 fed-held r bytes room h = rw h
 
--- The call is the theory's run, as the record shows it.
+-- What comes back of a run, with the held key and the buffer that was lent.
+abbrev pub ranBack : Held → Ran (State Core) → List ℕ → HandedBack
+ranBack held ran lent = record { after = recordOf held (ran .state); used = ran .used; written = length (ran .answers); buffer = writtenOver (ran .answers) lent }
+
+-- The call is the theory's run, in record, counts and buffer;
+pub back-is-run : (r : Record) (bytes lent : List ℕ) → inRange r ≡ true → fedBack r bytes lent ≡ ranBack (r .held) (run handset (stateOf r) bytes (length lent)) lent
+unfolding fedOf answersAfter
+back-is-run r bytes lent h = rw h
+
+-- and as the record shows it.
 abbrev pub shownRan : Ran Record → Ran (State Core)
 shownRan ran = record { state = stateOf (ran .state); used = ran .used; answers = ran .answers }
 
-pub fed-is-run : (r : Record) (bytes : List ℕ) (room : ℕ) → inRange r ≡ true → shownRan (fedRan r bytes room) ≡ run handset (stateOf r) bytes room
+pub fed-is-run : (r : Record) (bytes : List ℕ) (room : ℕ) → inRange r ≡ true → shownRan (ranOf fedBack r bytes room) ≡ run handset (stateOf r) bytes room
 unfolding fedOf answersAfter
 fed-is-run r bytes room h =
     let ran = run handset (stateOf r) bytes room in
@@ -132,80 +169,110 @@ shown-back : (s : Record) (held : Held) (state : State Core) → inRange s ≡ t
 shown-back s held state h e f = sym (record-same s h) ∙ (λ j. recordOf (e j) (f j))
 
 -- Calls in order of the one are calls in order of the other,
-feeding-shown : (r : Record) (calls : List Call) → inRange r ≡ true
-    → record { state = stateOf (feeding r [] calls .state); unused = feeding r [] calls .unused; answers = feeding r [] calls .answers } ≡ session (run handset) (stateOf r) [] calls
-feeding-shown r calls h =
-    sessions-alike stateOf fedRan (run handset) (λ s entries. inRange s ≡ true)
-    (record { same = λ s entries later room good. fed-is-run s entries room good; kept = λ s entries later room good. fed-in-range s entries room good }) r [] calls h
+calls-shown : (r : Record) (calls : List Call) → inRange r ≡ true
+    → record { state = stateOf (inCalls fedBack r calls .state); unused = inCalls fedBack r calls .unused; answers = inCalls fedBack r calls .answers } ≡ session (run handset) (stateOf r) [] calls
+calls-shown r calls h =
+    sessions-alike stateOf (ranOf fedBack) (run handset) (λ s entries. inRange s ≡ true)
+    (record { same = λ s entries later room good. fed-is-run s entries room good; kept = λ s entries later room good. fed-in-range s entries _ good }) r [] calls h
 
 -- and they keep the record in range, with its held key.
 record Same (held : Held) (s : Record) : Type 0 where
   good : inRange s ≡ true
   key : s .held ≡ held
 
-feeding-same : (r : Record) (calls : List Call) → inRange r ≡ true → Same (r .held) (feeding r [] calls .state)
-feeding-same r calls h =
-    session-keeps fedRan (Same (r .held))
-    (λ s entries room k. record { good = fed-in-range s entries room (k .good); key = fed-held s entries room (k .good) ∙ k .key })
+calls-same : (r : Record) (calls : List Call) → inRange r ≡ true → Same (r .held) (inCalls fedBack r calls .state)
+calls-same r calls h =
+    session-keeps (ranOf fedBack) (Same (r .held))
+    (λ s entries room k. record { good = fed-in-range s entries _ (k .good); key = fed-held s entries _ (k .good) ∙ k .key })
     r [] calls (record { good = h; key = refl })
+
+-- EVERY RECORD IN RANGE has bytes that its open frame stands for.
+pub stands-for-bytes : (r : Record) → inRange r ≡ true → (before : List ℕ) × Stands (stateOf r .frame) before
+stands-for-bytes r h = stands-for-some (stateOf r .frame) (state-in-range r h .frame)
 
 -- THE STREAM CALL MEETS DEMAND 3.
 module _ (r : Record) (before : List ℕ) (h : inRange r ≡ true) (stands : Stands (stateOf r .frame) before) where
   theory : Demand3 handset (run handset)
   theory = demand3 handset
 
-  module _ (bytes : List ℕ) (room : ℕ) where
+  module _ (bytes lent : List ℕ) where
+    abbrev back : HandedBack
+    back = fedBack r bytes lent
+
     abbrev ran : Ran (State Core)
-    ran = run handset (stateOf r) bytes room
+    ran = run handset (stateOf r) bytes (length lent)
 
-    alike : shownRan (fedRan r bytes room) ≡ ran
-    alike = fed-is-run r bytes room h
+    is-run : back ≡ ranBack (r .held) ran lent
+    is-run = back-is-run r bytes lent h
 
-    used : fedOf r bytes room .used ≡ ran .used
-    used = ap (λ (t : Ran (State Core)). t .used) alike
+    used : back .used ≡ ran .used
+    used = ap (λ (b : HandedBack). b .used) is-run
 
-    answers : writtenBy r bytes room ≡ ran .answers
-    answers = ap (λ (t : Ran (State Core)). t .answers) alike
-
-    -- the record of a call is its state's, with the held key
-    whole : takenOf (fedRan r bytes room) ≡ record { state = recordOf (r .held) (ran .state); answers = ran .answers }
-    whole = λ j. record { state = shown-back (fedOf r bytes room .record) (r .held) (ran .state) (fed-in-range r bytes room h) (fed-held r bytes room h) (ap (λ (t : Ran (State Core)). t .state) alike) j; answers = answers j }
-
-    parts-in-order : {parted : Parted} → Parting (before ++ take (fedOf r bytes room .used) bytes) parted → takenOf (fedRan r bytes room) ≡ takenFrom r parted
+    parts-in-order : {parted : Parted} → Parting (before ++ take (back .used) bytes) parted → back ≡ partsTaken r parted (back .used) lent
     parts-in-order {parted} p =
-        whole ∙ ap (λ (t : Taken (State Core)). record { state = recordOf (r .held) (t .state); answers = t .answers })
-        (theory .in-order (stateOf r) bytes room stands (subst (λ (n : ℕ). Parting (before ++ take n bytes) parted) used p))
+        let taken = theory .in-order (stateOf r) bytes (length lent) stands (subst (λ (n : ℕ). Parting (before ++ take n bytes) parted) used p) in
+        is-run ∙ (λ j. record { after = recordOf (r .held) (taken j .state); used = sym used j; written = length (taken j .answers); buffer = writtenOver (taken j .answers) lent })
 
-    stops-there : {parted : Parted} → Parting (before ++ take (suc (fedOf r bytes room .used)) bytes) parted
-        → (fedOf r bytes room .used ≡ length bytes) ⊎ (room < length (takenFrom r parted .answers))
+    stops-there : {parted : Parted} → Parting (before ++ take (suc (back .used)) bytes) parted → (back .used ≡ length bytes) ⊎ (length lent < length (takenFrom r parted .answers))
     stops-there {parted} p =
-        subst (λ (n : ℕ). (n ≡ length bytes) ⊎ (room < length (takenFrom r parted .answers))) (sym used)
-        (theory .stops (stateOf r) bytes room stands (subst (λ (n : ℕ). Parting (before ++ take (suc n) bytes) parted) used p))
+        subst (λ (n : ℕ). (n ≡ length bytes) ⊎ (length lent < length (takenFrom r parted .answers))) (sym used)
+        (theory .stops (stateOf r) bytes (length lent) stands (subst (λ (n : ℕ). Parting (before ++ take (suc n) bytes) parted) used p))
 
   module _ (calls : List Call) where
     abbrev shown : Session (State Core) ℕ
-    shown = record { state = stateOf (feeding r [] calls .state); unused = feeding r [] calls .unused; answers = feeding r [] calls .answers }
+    shown = record { state = stateOf (inCalls fedBack r calls .state); unused = inCalls fedBack r calls .unused; answers = inCalls fedBack r calls .answers }
 
-    unused : feeding r [] calls .unused ≡ session (run handset) (stateOf r) [] calls .unused
-    unused = ap (λ (s : Session (State Core) ℕ). s .unused) (feeding-shown r calls h)
+    unused : inCalls fedBack r calls .unused ≡ session (run handset) (stateOf r) [] calls .unused
+    unused = ap (λ (s : Session (State Core) ℕ). s .unused) (calls-shown r calls h)
 
-    cut-anywhere : {parted : Parted} → Parting (before ++ offered calls) parted → feeding r [] calls .unused ≡ [] → takenIn (feeding r [] calls) ≡ takenFrom r parted
+    cut-anywhere : {parted : Parted} → Parting (before ++ offered calls) parted → inCalls fedBack r calls .unused ≡ [] → takenIn (inCalls fedBack r calls) ≡ takenFrom r parted
     cut-anywhere {parted} p none =
-        let end : takenIn shown ≡ taking handset (coreOf r) parted = ap takenIn (feeding-shown r calls h) ∙ theory .anywhere (stateOf r) calls stands p (sym unused ∙ none) in
-        let kept = feeding-same r calls h in
+        let end : takenIn shown ≡ taking handset (coreOf r) parted = ap takenIn (calls-shown r calls h) ∙ theory .anywhere (stateOf r) calls stands p (sym unused ∙ none) in
+        let kept = calls-same r calls h in
         λ j. record {
-          state = shown-back (feeding r [] calls .state) (r .held) (taking handset (coreOf r) parted .state) (kept .good) (kept .key) (ap (λ (t : Taken (State Core)). t .state) end) j;
+          state = shown-back (inCalls fedBack r calls .state) (r .held) (taking handset (coreOf r) parted .state) (kept .good) (kept .key) (ap (λ (t : Taken (State Core)). t .state) end) j;
           answers = end j .answers;
         }
 
-  pub feed-demand3 : FeedDemand3 r before
+  rest-taken : (calls : List Call) (last : Call) {waiting : List ℕ} {parted : Parted}
+      → (let s = inCalls fedBack r calls in
+      Stands (stateOf (s .state) .frame) waiting → Parting (waiting ++ (s .unused ++ last .entries)) parted → length (takenFrom (s .state) parted .answers) ≤ last .room
+      → inCalls fedBack r (calls ++ last ∷ []) .unused ≡ [])
+  rest-taken calls last {waiting} {parted} stood p room =
+      unused (calls ++ last ∷ [])
+      ∙ subst
+      (λ (s : Session (State Core) ℕ).
+      Stands (s .state .frame) waiting → Parting (waiting ++ (s .unused ++ last .entries)) parted → length (taking handset (s .state .core) parted .answers) ≤ last .room
+      → session (run handset) (stateOf r) [] (calls ++ last ∷ []) .unused ≡ [])
+      (sym (calls-shown r calls h)) (theory .none-left (stateOf r) calls last) stood p room
+
+  pub feed-demand3 : FeedDemand3 fedBack r before
   feed-demand3 =
       record {
         one-parting = λ bytes. exactly-one bytes stands;
-        in-order = λ bytes room p. parts-in-order bytes room p;
-        within = λ bytes room. subst (λ (n : ℕ). n ≤ length bytes) (sym (used bytes room)) (theory .within (stateOf r) bytes room);
-        fits = λ bytes room. subst (λ (a : List ℕ). length a ≤ room) (sym (answers bytes room)) (theory .fits (stateOf r) bytes room);
-        stops = λ bytes room p. stops-there bytes room p;
+        in-order = λ bytes lent p. parts-in-order bytes lent p;
+        within = λ bytes lent. subst (λ (n : ℕ). n ≤ length bytes) (sym (used bytes lent)) (theory .within (stateOf r) bytes (length lent));
+        fits = λ bytes lent. subst (λ (b : HandedBack). b .written ≤ length lent) (sym (is-run bytes lent)) (theory .fits (stateOf r) bytes (length lent));
+        stops = λ bytes lent p. stops-there bytes lent p;
         anywhere = λ calls p none. cut-anywhere calls p none;
-        none-left = λ calls last p room. unused (calls ++ last ∷ []) ∙ theory .none-left (stateOf r) calls last stands p room;
+        none-left = λ calls last stood p room. rest-taken calls last stood p room;
       }
+
+  -- AND NOTHING ELSE DOES: whatever meets the statement hands back this record, these counts and this buffer.
+  pub feed-demand3-fixes : (call : Calling) → FeedDemand3 call r before → (bytes lent : List ℕ) → call r bytes lent ≡ fedBack r bytes lent
+  feed-demand3-fixes call demand bytes lent =
+      let used = call r bytes lent .used in
+      let now = exactly-one (take used bytes) stands in
+      let next = exactly-one (take (suc used) bytes) stands in
+      let told = demand .in-order bytes lent (now .parting) in
+      let taken = taking handset (coreOf r) (now .parted) in
+      let one : Stops (step handset) (stateOf r) bytes (length lent) (record { state = taken .state; used = used; answers = taken .answers }) =
+      record {
+        within = demand .within bytes lent;
+        does = sym (stream handset (stateOf r) _ stands (now .parting));
+        fits = subst (λ (b : HandedBack). b .written ≤ length lent) told (demand .fits bytes lent);
+        stops = rw (stream handset (stateOf r) _ stands (next .parting)) (demand .stops bytes lent (next .parting));
+      }
+      in
+      told ∙ ap (λ (ran : Ran (State Core)). ranBack (r .held) ran lent) (only-one (step handset) one (run-stops (step handset) (stateOf r) bytes (length lent)))
+      ∙ sym (back-is-run r bytes lent h)

@@ -7,7 +7,7 @@ use lib.Dec.{eqb, ltb}
 use lib.ListN.{length, take, drop, set}
 use Rattle.lists.specs.Codes.{carriageReturn, questionMark}
 use Rattle.lists.specs.Padded.{padded}
-use Rattle.record.specs.declared.Number.the-variants.{Done, FieldOutOfRange}
+use Rattle.record.specs.Number.{numbered}
 use Rattle.record.specs.declared.Settings.{Settings}
 use Rattle.record.specs.declared.Held.{Held}
 use Rattle.record.specs.declared.Frame.{Frame as KeptFrame}
@@ -56,10 +56,10 @@ recordOf held s = record { settings = s .core .settings; text = s .core .text; p
 
 -- THE STREAM CALL: number 1 and the record as it came for one out of range; else number 0 and the run
 abbrev pub fedBy : Held → Ran Core → Fed
-fedBy held ran = record { number = Done; «record» = recordOf held (ran .state); used = ran .used; written = length (ran .answers) }
+fedBy held ran = record { number = numbered 0; «record» = recordOf held (ran .state); used = ran .used; written = length (ran .answers) }
 
 abbrev pub refused : Record → Fed
-refused r = record { number = FieldOutOfRange; «record» = r; used = 0; written = 0 }
+refused r = record { number = numbered 1; «record» = r; used = 0; written = 0 }
 
 unfoldable pub fedOf : Record → List ℕ → ℕ → Fed
 fedOf r bytes room = cond (inRange r) (fedBy (r .held) (run handset (stateOf r) bytes room)) (refused r)

@@ -1,11 +1,10 @@
 -- CALLS IN ORDER: each call is offered what the one before left unused, then its own entries. So long as in the end none is left,
 -- neither the cuts nor the rooms matter. Assumes nothing.
 use Prim.Native.Nat.{ℕ, _≤_}
-use native.Mathlib.Omega.{arith}
 use mathlib.Core.Path.{_≡_, refl, sym, ap, _∙_, subst}
 use mathlib.Core.List.{List, [], _∷_, _++_, append-assoc, append-nil}
 use lib.Seq.{drop-length}
-use lib.ListN.{length, length-append, take, drop, take-append-drop}
+use lib.ListN.{length, take, drop, take-append-drop}
 use Rattle.turns.specs.Taking.{Taken, answering, reading, cut-anywhere}
 use Rattle.turns.specs.Room.{Ran, run, run-stops, room-for-all}
 
@@ -32,13 +31,13 @@ takenIn s = record { state = s .state; answers = s .answers }
 abbrev pub preceded : {State Entry : Type 0} → List ℕ → Session State Entry → Session State Entry
 preceded answers later = record { state = later .state; unused = later .unused; answers = answers ++ later .answers }
 
--- CALLS IN ORDER, of anything that answers a call
-module _ {State Entry : Type 0} (answer : State → List Entry → ℕ → Ran State) where
+-- CALLS IN ORDER, of any device
+module _ {State Entry : Type 0} (device : State → List Entry → ℕ → Ran State) where
   unfoldable pub session : State → List Entry → List (Call Entry) → Session State Entry
   session state unused [] = record { state = state; unused = unused; answers = [] }
   session state unused (call ∷ calls) =
       let entries = unused ++ call .entries in
-      let ran = answer state entries (call .room) in
+      let ran = device state entries (call .room) in
       preceded (ran .answers) (session (ran .state) (drop (ran .used) entries) calls)
 
 -- The proof ---------------------------------------------------------------------------------------------------------
@@ -94,26 +93,7 @@ module _ {State Entry : Type 0} (step : State → Entry → Taken State) where
       → takenIn (session (run step) state [] (calls ++ last ∷ [])) ≡ reading step state (offered (calls ++ last ∷ []))
   calls-end-as-one state calls last h = cuts-do-not-matter state (calls ++ last ∷ []) (last-takes-all state [] calls last h)
 
-  -- What is still to be answered is no more than all answers.
-  pub rest-answers : (state : State) (calls : List (Call Entry)) (last : Call Entry)
-      → (let s = session (run step) state [] calls in
-      length (reading step (s .state) (s .unused ++ last .entries) .answers) ≤ length (reading step state (offered (calls ++ last ∷ [])) .answers))
-  unfolding offered
-  rest-answers state calls last =
-      let s : Session State Entry = session (run step) state [] calls in
-      let read = session-reads state [] calls in
-      let rest : List Entry = s .unused ++ last .entries in
-      let whole : offered (calls ++ last ∷ []) ≡ read .0 ++ rest =
-      offered-append calls (last ∷ []) ∙ ap (λ (l : List Entry). offered calls ++ l) (append-nil (last .entries))
-      ∙ ap (λ (l : List Entry). l ++ last .entries) (sym (read .1)) ∙ append-assoc (read .0) (s .unused) (last .entries)
-      in
-      let all : reading step state (offered (calls ++ last ∷ [])) ≡ answering (s .answers) (reading step (s .state) rest) =
-      ap (reading step state) whole ∙ cut-anywhere step state (read .0) rest
-      ∙ ap (λ (t : Taken State). answering (t .answers) (reading step (t .state) rest)) (sym (read .2))
-      in
-      omega (arith, ap (λ (t : Taken State). length (t .answers)) all, length-append (s .answers) (reading step (s .state) rest .answers))
-
--- Two things that answer calls, over states of which one shows the other, make sessions alike: so long as some fact of the state and
+-- Two devices, over states of which one shows the other, make sessions alike: so long as some fact of the state and
 -- the entries still to come is kept, and where it holds they answer alike.
 module _ {State Shown Entry : Type 0} (shown : State → Shown) (one : State → List Entry → ℕ → Ran State) (other : Shown → List Entry → ℕ → Ran Shown)
     (Fact : State → List Entry → Type 0) where
@@ -137,11 +117,11 @@ module _ {State Shown Entry : Type 0} (shown : State → Shown) (one : State →
       ∙ ap (λ (r : Ran Shown). preceded (r .answers) (session other (r .state) (drop (r .used) entries) calls)) (alike .same state entries (offered calls) (call .room) here)
 
 -- A fact of the state that every call keeps is kept by calls in order.
-pub session-keeps : {State Entry : Type 0} (answer : State → List Entry → ℕ → Ran State) (Fact : State → Type 0)
-    → ((state : State) (entries : List Entry) (room : ℕ) → Fact state → Fact (answer state entries room .state))
-    → (state : State) (unused : List Entry) (calls : List (Call Entry)) → Fact state → Fact (session answer state unused calls .state)
+pub session-keeps : {State Entry : Type 0} (device : State → List Entry → ℕ → Ran State) (Fact : State → Type 0)
+    → ((state : State) (entries : List Entry) (room : ℕ) → Fact state → Fact (device state entries room .state))
+    → (state : State) (unused : List Entry) (calls : List (Call Entry)) → Fact state → Fact (session device state unused calls .state)
 unfolding session
-session-keeps answer Fact kept state unused [] h = h
-session-keeps answer Fact kept state unused (call ∷ calls) h =
-    let ran = answer state (unused ++ call .entries) (call .room) in
-    session-keeps answer Fact kept (ran .state) (drop (ran .used) (unused ++ call .entries)) calls (kept state (unused ++ call .entries) (call .room) h)
+session-keeps device Fact kept state unused [] h = h
+session-keeps device Fact kept state unused (call ∷ calls) h =
+    let ran = device state (unused ++ call .entries) (call .room) in
+    session-keeps device Fact kept (ran .state) (drop (ran .used) (unused ++ call .entries)) calls (kept state (unused ++ call .entries) (call .room) h)

@@ -6,7 +6,7 @@ use mathlib.Core.Path.{_≡_, _∙_, ap}
 use lib.ListN.{length, drop}
 use borrow.Author.Tests.{le-leb, lt-leb}
 use Rattle.lists.specs.Codes.{escape, carriageReturn, lineFeed}
-use Rattle.record.specs.declared.Number.the-variants.{Done, CommandOutOfRange, NoRoom}
+use Rattle.record.specs.Number.{numbered}
 use Rattle.writer.specs.declared.Line.{Line}
 use Rattle.writer.specs.declared.Written.{Written}
 use Rattle.writer.specs.Writing.{frameOf, reply, writtenOf, roomAfter}
@@ -17,15 +17,15 @@ abbrev pub Right : Bool → List ℕ → List ℕ → Written → List ℕ → T
 Right ok frame room written after = (written ≡ writtenOf ok frame room) × (after ≡ roomAfter ok frame room)
 
 module _ (frame room : List ℕ) where
-  pub refused : (ok : Bool) → ok ≡ false → Right ok frame room (reply CommandOutOfRange 0) room
+  pub refused : (ok : Bool) → ok ≡ false → Right ok frame room (reply (numbered 2) 0) room
   unfolding writtenOf roomAfter
   refused ok e = (rw e, rw e)
 
-  pub no-room : (n : ℕ) → n ≡ length frame → length room < n → Right true frame room (reply NoRoom 0) room
+  pub no-room : (n : ℕ) → n ≡ length frame → length room < n → Right true frame room (reply (numbered 3) 0) room
   unfolding writtenOf roomAfter
   no-room n e h = (rw (← e, lt-leb n (length room) h), rw (← e, lt-leb n (length room) h))
 
-  pub wrote : (n : ℕ) (front : List ℕ) → n ≡ length frame → front ≡ frame → n ≤ length room → Right true frame room (reply Done n) (front ++ drop n room)
+  pub wrote : (n : ℕ) (front : List ℕ) → n ≡ length frame → front ≡ frame → n ≤ length room → Right true frame room (reply (numbered 0) n) (front ++ drop n room)
   unfolding writtenOf roomAfter
   wrote n front e f h = (rw (← e, le-leb n (length room) h), rw (← e, le-leb n (length room) h, f))
 

@@ -11,8 +11,9 @@ use borrow.Author.Tests.{leb-true}
 use Rattle.lists.specs.Both.{both}
 use Rattle.lists.specs.Every.{every}
 use Rattle.record.specs.Range.{isCode}
-use Rattle.record.specs.declared.Number.the-variants.{Done, CommandOutOfRange, NoRoom}
+use Rattle.record.specs.Number.{numbered}
 use Rattle.writer_ranges.specs.Fitting.{isLabel, isRow}
+use Rattle.writer.specs.declared.Written.{Written}
 use Rattle.writer.specs.Writing.{reply, writtenOf, roomAfter}
 
 pub label-told : (codes : List ℕ) → isLabel codes ≡ true → (length codes ≤ 7) × (every isCode codes ≡ true)
@@ -31,16 +32,21 @@ row-told row columns h =
     let v = both (w .0) in
     record { least = leb-true 1 (length columns) (v .0); most = leb-true (length columns) 96 (v .1); low = leb-true row 6 (w .1) }
 
--- Where a writer ends with number 0, the order was in range, the first count bytes of the room are the frame, and the others are as they were.
-pub done-told : (ok : Bool) (frame room : List ℕ) → writtenOf ok frame room .number ≡ Done
-    → (ok ≡ true) × (take (writtenOf ok frame room .count) (roomAfter ok frame room) ≡ frame) × (drop (writtenOf ok frame room .count) (roomAfter ok frame room) ≡ drop (length frame) room)
+-- Where a writer ends with number 0, the order was in range, the count is the frame's length, the first count bytes of the room are
+-- the frame, and the others are as they were.
+pub record Wrote (ok : Bool) (frame room : List ℕ) (back : Written) (after : List ℕ) : Type 0 where
+  pub in-range : ok ≡ true
+  pub count : back .count ≡ length frame
+  pub first : take (back .count) after ≡ frame
+  pub others : drop (back .count) after ≡ drop (back .count) room
+
+pub done-told : (ok : Bool) (frame room : List ℕ) → writtenOf ok frame room .number ≡ numbered 0 → Wrote ok frame room (writtenOf ok frame room) (roomAfter ok frame room)
 unfolding writtenOf roomAfter
 done-told ok frame room h = cases ok (leb (length frame) (length room)) h
   where
-    cases : (inside fits : Bool) → cond inside (cond fits (reply Done (length frame)) (reply NoRoom 0)) (reply CommandOutOfRange 0) .number ≡ Done
-        → (inside ≡ true)
-        × (take (cond inside (cond fits (reply Done (length frame)) (reply NoRoom 0)) (reply CommandOutOfRange 0) .count) (cond inside (cond fits (frame ++ drop (length frame) room) room) room) ≡ frame)
-        × (drop (cond inside (cond fits (reply Done (length frame)) (reply NoRoom 0)) (reply CommandOutOfRange 0) .count) (cond inside (cond fits (frame ++ drop (length frame) room) room) room) ≡ drop (length frame) room)
-    cases true true h = (refl, take-append-seam frame (drop (length frame) room), drop-at frame (drop (length frame) room) (length frame) refl)
+    cases : (inside fits : Bool) → cond inside (cond fits (reply (numbered 0) (length frame)) (reply (numbered 3) 0)) (reply (numbered 2) 0) .number ≡ numbered 0
+        → Wrote inside frame room (cond inside (cond fits (reply (numbered 0) (length frame)) (reply (numbered 3) 0)) (reply (numbered 2) 0)) (cond inside (cond fits (frame ++ drop (length frame) room) room) room)
+    cases true true h =
+        record { in-range = refl; count = refl; first = take-append-seam frame (drop (length frame) room); others = drop-at frame (drop (length frame) room) (length frame) refl }
     cases true false h = let z : _≡_ {A = ℕ} 0 1 = cc in absurd (omega arith)
     cases false fits h = let z : _≡_ {A = ℕ} 0 1 = cc in absurd (omega arith)

@@ -4,13 +4,14 @@ use Prim.Native.Nat.{ℕ, _<_, _≤_}
 use native.Mathlib.Omega.{arith}
 use mathlib.Core.Bool.{Bool, true, false, not, _&&_, _||_, true≢false}
 use mathlib.Core.List.{List, [], _∷_, _++_, append-nil, append-assoc}
-use mathlib.Core.Path.{_≡_, refl, sym, _∙_, ap}
+use mathlib.Core.Path.{_≡_, refl, sym, _∙_, ap, subst}
 use lib.Dec.{leb, ltb, eqb}
-use lib.ListN.{length}
+use lib.ListN.{length, take, drop}
 use borrow.Author.Tests.{leb-true, ltb-true, eqb-true}
 use Rattle.lists.specs.Codes.{ascii, carriageReturn, lineFeed}
 use Rattle.lists.specs.Both.{both}
 use Rattle.lists.specs.Every.{every}
+use Rattle.record.specs.Number.{numbered}
 use Rattle.record.specs.Range.{isCode, isFrameByte, modeInRange, overlayInRange, iconUInRange, time1InRange, time2InRange}
 use Rattle.numeral.specs.Numeral.{decimal}
 use Rattle.numeral.specs.Laws.{written}
@@ -25,8 +26,9 @@ use Rattle.command.specs.declared.Command.the-variants.{DisplayOff, DisplayOn, 
 use Rattle.command.specs.declared.Side.{Side}
 use Rattle.command.specs.declared.Side.the-variants.{Left, Right}
 use Rattle.writer_ranges.specs.Fitting.{isLabel, isRow}
-use Rattle.writer.specs.Writing.{bodyOf, labelBody, rowBody, frameOf}
-use Rattle.writer.specs.Laws.{label-told, row-told}
+use Rattle.writer.specs.declared.Written.{Written}
+use Rattle.writer.specs.Writing.{bodyOf, labelBody, rowBody, frameOf, writtenOf, roomAfter}
+use Rattle.writer.specs.Laws.{label-told, row-told, done-told}
 use Rattle.writer.specs.Plain.{first-and-others, spells-within}
 
 -- a body reads back as an order: it spells it, its frame's bytes are that closed frame and an LF that is skipped, and it is not long
@@ -159,3 +161,37 @@ row-reads-back row cs h b =
     let w = row-told row cs h in
     reads-back (draw row cs) (rowBody row cs)
     (signs (ascii "Gr") (one-digit (omega (arith, w .low)) (signs (ascii ",") (data-of (draws-encoded cs (w .least) (w .most) b) (signs-alone (ascii "z"))))))
+
+-- WHAT IS WRITTEN READS BACK, said of what a writer hands back and of the room that it was lent: the bytes that it counts part into
+-- one closed frame and one skipped LF, the frame spells the order, and the places behind them are as they were.
+pub record WritesBack (order : Order) (back : Written) (room after : List ℕ) : Type 0 where
+  pub frame : List ℕ
+  pub spells : Spells order frame
+  pub parts : Parting (take (back .count) after) (then (closed frame) (then (skipped lineFeed) done))
+  pub others : drop (back .count) after ≡ drop (back .count) room
+
+-- whatever is written for an order whose body reads back as it
+abbrev pub AfterZero : Order → Bool → List ℕ → List ℕ → Type 0
+AfterZero order ok body room =
+    writtenOf ok (frameOf body) room .number ≡ numbered 0 → WritesBack order (writtenOf ok (frameOf body) room) room (roomAfter ok (frameOf body) room)
+
+after-zero : (order : Order) (ok : Bool) (body room : List ℕ) → (ok ≡ true → ReadsBack order body) → AfterZero order ok body room
+after-zero order ok body room reads h =
+    let w = done-told ok (frameOf body) room h in
+    let back = reads (w .in-range) in
+    record {
+      frame = body;
+      spells = back .spells;
+      parts = subst (λ (bytes : List ℕ). Parting bytes (then (closed body) (then (skipped lineFeed) done))) (sym (w .first)) (back .parts);
+      others = w .others;
+    }
+
+-- The three writers, after number 0.
+pub command-written : (c : Command) (room : List ℕ) → AfterZero (plain c) (commandInRange mostRows c) (bodyOf c) room
+command-written c room = after-zero (plain c) (commandInRange mostRows c) (bodyOf c) room (command-reads-back c)
+
+pub label-written : (side : Side) (t room : List ℕ) → AfterZero (label side t) (isLabel t) (labelBody side t) room
+label-written side t room = after-zero (label side t) (isLabel t) (labelBody side t) room (label-reads-back side t)
+
+pub row-written : (row : ℕ) (columns room : List ℕ) → Bytes columns → AfterZero (draw row columns) (isRow row columns) (rowBody row columns) room
+row-written row columns room bytes = after-zero (draw row columns) (isRow row columns) (rowBody row columns) room (λ h. row-reads-back row columns h bytes)

@@ -7,7 +7,7 @@ use lib.Dec.{leb}
 use lib.ListN.{length, drop}
 use Rattle.lists.specs.Codes.{ascii, escape, carriageReturn, lineFeed}
 use Rattle.record.specs.declared.Number.{Number}
-use Rattle.record.specs.declared.Number.the-variants.{Done, CommandOutOfRange, NoRoom}
+use Rattle.record.specs.Number.{numbered}
 use Rattle.numeral.specs.Spelt.{digitCode}
 use Rattle.numeral.specs.Numeral.{decimal}
 use Rattle.picture.specs.Writing.{encode}
@@ -68,8 +68,8 @@ reply number count = record { number = number; count = count }
 unfoldable pub writtenOf : Bool → List ℕ → List ℕ → Written
 writtenOf inRange frame room =
     cond inRange
-    (cond (leb (length frame) (length room)) (reply Done (length frame)) (reply NoRoom 0))
-    (reply CommandOutOfRange 0)
+    (cond (leb (length frame) (length room)) (reply (numbered 0) (length frame)) (reply (numbered 3) 0))
+    (reply (numbered 2) 0)
 
 -- the frame, and behind it the rest of the room as it was
 unfoldable pub roomAfter : Bool → List ℕ → List ℕ → List ℕ

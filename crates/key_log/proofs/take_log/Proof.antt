@@ -2,7 +2,7 @@
 use mathlib.Core.Path.{refl, sym, _∙_}
 use lib.ListN.{length}
 use borrow.Author.Tests.{not-true, not-false}
-use Rattle.key_log.specs.Laws.{answers-1, answers-5, answers-4, answers-0, kept}
+use Rattle.key_log.specs.Laws.{ends-with-1, ends-with-5, ends-with-4, ends-with-0, kept}
 use borrow.Author.Needs.{needs}
 use Rattle.key_log.proofs.take_log.Statement.{statement}
 use Rattle.key_log.proofs.take_log.Tie as tie
@@ -17,7 +17,7 @@ returns : tie.Need-returns
 returns c =
     let start = c .before .before .before .before .before .before .args in
     let bad = sym (c .before .before .in-range .ensures) ∙ not-true _ (c .before .if1 .taken) in
-    kept (start .codes .now) (answers-1 (start .r) (start .ticks .now) (start .edges .now) (length (start .codes .now)) bad) (c .refuse .ensures) refl
+    kept (start .codes .now) (ends-with-1 (start .r) (start .ticks .now) (start .edges .now) (length (start .codes .now)) bad) (c .refuse .ensures) refl
 
 refuse-requires-2 : tie.Need-refuse-requires-2
 refuse-requires-2 c κs = search needs
@@ -26,7 +26,7 @@ returns-2 : tie.Need-returns-2
 returns-2 c =
     let start = c .before .before .before .before .before .before .before .args in
     let good = sym (c .before .before .before .in-range .ensures) ∙ not-false _ (c .before .before .if1 .left) in
-    kept (start .codes .now) (answers-5 (start .r) (start .ticks .now) (start .edges .now) (length (start .codes .now)) good (c .before .if2 .taken)) (c .refuse2 .ensures) refl
+    kept (start .codes .now) (ends-with-5 (start .r) (start .ticks .now) (start .edges .now) (length (start .codes .now)) good (c .before .if2 .taken)) (c .refuse2 .ensures) refl
 
 all-listed-requires : tie.Need-all-listed-requires
 all-listed-requires c κs = search needs
@@ -39,7 +39,7 @@ returns-3 c =
     let start = c .before .before .before .before .before .before .before .before .before .args in
     let good = sym (c .before .before .before .before .before .in-range .ensures) ∙ not-false _ (c .before .before .before .before .if1 .left) in
     let odd = sym (c .before .before .all-listed .ensures) ∙ not-true _ (c .before .if3 .taken) in
-    kept (start .codes .now) (answers-4 (start .r) (start .ticks .now) (start .edges .now) (length (start .codes .now)) good (c .before .before .before .if2 .left) odd) (c .refuse3 .ensures) refl
+    kept (start .codes .now) (ends-with-4 (start .r) (start .ticks .now) (start .edges .now) (length (start .codes .now)) good (c .before .before .before .if2 .left) odd) (c .refuse3 .ensures) refl
 
 take-entries-requires : tie.Need-take-entries-requires
 take-entries-requires c κs = search needs
@@ -53,7 +53,7 @@ returns-4 c =
     let good = sym (c .before .before .before .before .before .before .before .before .in-range .ensures) ∙ not-false _ (c .before .before .before .before .before .before .before .if1 .left) in
     let all = sym (c .before .before .before .before .before .all-listed .ensures) ∙ not-false _ (c .before .before .before .before .if3 .left) in
     let taken = c .before .before .take-entries .ensures in
-    kept (start .codes .now) (answers-0 (start .r) (start .ticks .now) (start .edges .now) (length (start .codes .now)) good (c .before .before .before .before .before .before .if2 .left) all) (taken .back) (taken .buffer)
+    kept (start .codes .now) (ends-with-0 (start .r) (start .ticks .now) (start .edges .now) (length (start .codes .now)) good (c .before .before .before .before .before .before .if2 .left) all) (taken .back) (taken .buffer)
 
 pub take-log-spec : {M : Type 1} → statement M
 take-log-spec =

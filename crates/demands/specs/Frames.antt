@@ -1,0 +1,168 @@
+-- A CLOSED FRAME OF THE STREAM: what it does and answers, good, out of range or bad; and then the stream call itself on a whole frame,
+-- ESC, frame, CR, from a record in range with no frame open. Assumes nothing.
+use Prim.Native.Nat.{ℕ, suc, _≤_, _<_}
+use native.Mathlib.Omega.{arith}
+use mathlib.Core.Logic.{inr}
+use mathlib.Core.Path.{_≡_, refl, sym, ap, _∙_, subst}
+use mathlib.Core.Bool.{true, false, cond}
+use mathlib.Core.List.{List, [], _∷_, _++_, append-nil}
+use lib.ListN.{length, take, drop, length-append}
+use lib.Seq.{take-append-seam, take-length}
+use borrow.Author.Tests.{le-leb}
+use Rattle.lists.specs.Codes.{escape, carriageReturn, questionMark}
+use Rattle.lists.specs.Tests.{by-test}
+use Rattle.record.specs.declared.Record.{Record}
+use Rattle.record.specs.declared.Frame.{Frame as KeptFrame}
+use Rattle.record.specs.Range.{inRange}
+use Rattle.command.specs.Order.{Order}
+use Rattle.command.specs.Grammar.{Spells}
+use Rattle.command.specs.InRange.{inRangeInMode}
+use Rattle.command.specs.Agree.{agree, bad-frame}
+use Rattle.effect.specs.Core.{Core, coreOf}
+use Rattle.effect.specs.Effect.{effect, carryOut}
+use Rattle.effect.specs.Obey.{obeyOrder, isGood}
+use Rattle.turns.specs.Taking.{Taken, silently}
+use Rattle.turns.specs.Room.{Ran, Stops, run-stops, only-one, room-for-all}
+use Rattle.parting.specs.Rules.{Body, closed, done, unfinished, then, Parting, ends, waits, goes-on, Frame, noFrame, keep, limit, inLimit, Stands, none-stands}
+use Rattle.parting.specs.Meaning.{Answered, State, with, close, act, taking}
+use Rattle.parting.specs.Reading.{step, reading}
+use Rattle.parting.specs.Stream.{stream}
+use Rattle.parting.specs.Room.{run}
+use Rattle.stream.specs.Stream.{handset, obeyFrame, keptFrame, frameIn, stateOf, recordOf, writtenOver}
+use Rattle.stream.specs.Frames.{body-of}
+use Rattle.stream.specs.Demand.{HandedBack, fedBack, ranBack, back-is-run, record-same}
+use Rattle.writer.specs.Plain.{spells-within}
+
+-- THE PART ------------------------------------------------------------------------------------------------------------
+
+abbrev pub asked : Core → Answered Core
+asked c = record { core = c; answers = questionMark ∷ [] }
+
+abbrev pub silent : Core → Answered Core
+silent c = record { core = c; answers = [] }
+
+carried : (c : Core) (o : Order) (inside : inRangeInMode (c .settings .screen .mode) o ≡ true) → carryOut o c ≡ effect o c
+unfolding carryOut
+carried c o inside = rw inside
+
+passed-over : (c : Core) (o : Order) → inRangeInMode (c .settings .screen .mode) o ≡ false → carryOut o c ≡ c
+unfolding carryOut
+passed-over c o outside = rw outside
+
+module _ (c : Core) (frame : List ℕ) where
+  -- No good frame is cut by the limit of 250: it is obeyed.
+  whole : (o : Order) → Spells o frame → act handset c (closed frame) ≡ silent (carryOut o c)
+  unfolding act close
+  whole o s =
+      let found = agree o frame .1 s in
+      rw (le-leb (length frame) limit (omega (arith, spells-within o s .most)))
+      (λ j. record { core = obeyOrder c (found j); answers = cond (isGood (found j)) [] (questionMark ∷ []) })
+
+  -- A good frame in range has its order's effect, in silence.
+  pub closed-obeyed : (o : Order) → Spells o frame → inRangeInMode (c .settings .screen .mode) o ≡ true → act handset c (closed frame) ≡ silent (effect o c)
+  closed-obeyed o s inside = whole o s ∙ ap silent (carried c o inside)
+
+  -- One with a number out of range gets silence, and nothing changes.
+  pub closed-passed-over : (o : Order) → Spells o frame → inRangeInMode (c .settings .screen .mode) o ≡ false → act handset c (closed frame) ≡ silent c
+  closed-passed-over o s outside = whole o s ∙ ap silent (passed-over c o outside)
+
+  -- A bad one gets one question mark, and nothing changes.
+  pub closed-asked : ((o : Order) → Spells o frame → ⊥) → act handset c (closed frame) ≡ asked c
+  unfolding act close
+  closed-asked bad = by-test (inLimit frame) (λ e. rw (e, bad-frame frame .1 bad)) (λ e. rw e)
+
+-- THE CALL ------------------------------------------------------------------------------------------------------------
+
+-- ESC, the frame, CR
+abbrev pub wholeFrame : List ℕ → List ℕ
+wholeFrame frame = escape ∷ (frame ++ carriageReturn ∷ [])
+
+-- the record with other text, picture and settings; its held key and its frame stay
+abbrev pub withCore : Record → Core → Record
+withCore r c = record { settings = c .settings; text = c .text; picture = c .picture; held = r .held; frame = r .frame }
+
+-- all bytes used, and this done and answered
+abbrev pub usedWhole : Record → List ℕ → List ℕ → Answered Core → HandedBack
+usedWhole r frame lent a =
+    record { after = withCore r (a .core); used = length (wholeFrame frame); written = length (a .answers); buffer = writtenOver (a .answers) lent }
+
+module _ (r : Record) (good : inRange r ≡ true) (none : r .frame .state ≡ 0) (frame : List ℕ) (body : Body frame) where
+  abbrev does : Answered Core
+  does = act handset (coreOf r) (closed frame)
+
+  none-open : stateOf r .frame ≡ noFrame
+  unfolding frameIn
+  none-open = rw none
+
+  stands : Stands (stateOf r .frame) []
+  stands = subst (λ (f : Frame). Stands f []) (sym none-open) none-stands
+
+  no-frame-kept : keptFrame noFrame ≡ r .frame
+  no-frame-kept = ap keptFrame (sym none-open) ∙ ap (λ (s : Record). s .frame) (record-same r good)
+
+  one-part : Parting (wholeFrame frame) (then (closed frame) done)
+  one-part = rw append-nil at (goes-on {part = closed frame} body tt ends)
+
+  reads : reading handset (stateOf r) (wholeFrame frame) ≡ record { state = with (does .core) noFrame; answers = does .answers }
+  unfolding taking
+  reads = stream handset (stateOf r) (wholeFrame frame) stands one-part ∙ (λ j. record { state = with (does .core) noFrame; answers = append-nil (does .answers) j })
+
+  -- With room for its answer a whole frame is used whole, and does what the part does.
+  does-whole : (lent : List ℕ) → length (does .answers) ≤ length lent → fedBack r (wholeFrame frame) lent ≡ usedWhole r frame lent does
+  does-whole lent fits =
+      let ran = room-for-all (step handset) (stateOf r) (wholeFrame frame) (length lent) (subst (λ (t : Taken (State Core)). length (t .answers) ≤ length lent) (sym reads) fits) in
+      back-is-run r (wholeFrame frame) lent good
+      ∙ ap (λ (t : Ran (State Core)). ranBack (r .held) t lent) ran
+      ∙ ap (λ (t : Taken (State Core)). ranBack (r .held) (record { state = t .state; used = length (wholeFrame frame); answers = t .answers }) lent) reads
+      ∙ ap
+      (λ (kept : KeptFrame). record {
+        after = record { settings = does .core .settings; text = does .core .text; picture = does .core .picture; held = r .held; frame = kept };
+        used = length (wholeFrame frame);
+        written = length (does .answers);
+        buffer = writtenOver (does .answers) lent;
+      })
+      no-frame-kept
+
+  same-whole : (lent : List ℕ) {a : Answered Core} → does ≡ a → length (a .answers) ≤ length lent → fedBack r (wholeFrame frame) lent ≡ usedWhole r frame lent a
+  same-whole lent e fits = does-whole lent (subst (λ (b : Answered Core). length (b .answers) ≤ length lent) (sym e) fits) ∙ ap (usedWhole r frame lent) e
+
+  -- BAD, with room: one question mark, and nothing changes.
+  pub bad-whole : ((o : Order) → Spells o frame → ⊥) → (lent : List ℕ) → 1 ≤ length lent
+      → fedBack r (wholeFrame frame) lent ≡ record { after = r; used = length (wholeFrame frame); written = 1; buffer = questionMark ∷ drop 1 lent }
+  bad-whole bad lent room = same-whole lent (closed-asked (coreOf r) frame bad) room
+
+  waiting : reading handset (stateOf r) (escape ∷ frame) ≡ silently (with (coreOf r) (keep frame))
+  unfolding taking
+  waiting = stream handset (stateOf r) (escape ∷ frame) stands (waits body)
+
+  -- BAD, without room: the call stops before the CR, which is not used, and the frame is still open (overlong, if it is too long).
+  pub bad-without-room : ((o : Order) → Spells o frame → ⊥)
+      → fedBack r (wholeFrame frame) [] ≡ record { after = recordOf (r .held) (with (coreOf r) (keep frame)); used = suc (length frame); written = 0; buffer = [] }
+  bad-without-room bad =
+      let now : take (suc (length frame)) (wholeFrame frame) ≡ escape ∷ frame = ap (λ (l : List ℕ). escape ∷ l) (take-append-seam frame (carriageReturn ∷ [])) in
+      let long : length (wholeFrame frame) ≡ suc (suc (length frame)) = omega (arith, length-append frame (carriageReturn ∷ [])) in
+      let next : take (suc (suc (length frame))) (wholeFrame frame) ≡ wholeFrame frame = ap (λ (n : ℕ). take n (wholeFrame frame)) (sym long) ∙ take-length (wholeFrame frame) in
+      let one : 0 < length (reading handset (stateOf r) (wholeFrame frame) .answers) =
+      omega (arith, ap (λ (t : Taken (State Core)). length (t .answers)) reads, ap (λ (a : Answered Core). length (a .answers)) (closed-asked (coreOf r) frame bad))
+      in
+      let stopped : Stops (step handset) (stateOf r) (wholeFrame frame) 0 (record { state = with (coreOf r) (keep frame); used = suc (length frame); answers = [] }) =
+      record {
+        within = omega (arith, long);
+        does = sym (ap (reading handset (stateOf r)) now ∙ waiting);
+        fits = omega arith;
+        stops = inr (subst (λ (l : List ℕ). 0 < length (reading handset (stateOf r) l .answers)) (sym next) one);
+      }
+      in
+      back-is-run r (wholeFrame frame) [] good
+      ∙ ap (λ (t : Ran (State Core)). ranBack (r .held) t []) (only-one (step handset) (run-stops (step handset) (stateOf r) (wholeFrame frame) 0) stopped)
+
+module _ (r : Record) (good : inRange r ≡ true) (none : r .frame .state ≡ 0) (frame : List ℕ) (o : Order) (s : Spells o frame) (lent : List ℕ) where
+  -- GOOD AND IN RANGE: the order's effect and nothing else; no answer.
+  pub good-whole : inRangeInMode (r .settings .screen .mode) o ≡ true
+      → fedBack r (wholeFrame frame) lent ≡ record { after = withCore r (effect o (coreOf r)); used = length (wholeFrame frame); written = 0; buffer = lent }
+  good-whole inside = same-whole r good none frame (body-of frame (spells-within o s .plain)) lent (closed-obeyed (coreOf r) frame o s inside) (omega arith)
+
+  -- GOOD AND OUT OF RANGE: nothing changes; no answer.
+  pub passed-over-whole : inRangeInMode (r .settings .screen .mode) o ≡ false
+      → fedBack r (wholeFrame frame) lent ≡ record { after = r; used = length (wholeFrame frame); written = 0; buffer = lent }
+  passed-over-whole outside = same-whole r good none frame (body-of frame (spells-within o s .plain)) lent (closed-passed-over (coreOf r) frame o s outside) (omega arith)
