@@ -1,13 +1,17 @@
 // Reads a stream from an input to its end and feeds it to a handset, in pieces, as a cord would bring it.
-// What an input brings can't be promised; but whatever it brings, a record in range stays in range.
+// What an input brings can't be promised; but there are bytes of which the record handed back is the reading.
 ghost use mathlib.Core.Path.{_≡_};
-ghost use mathlib.Core.Bool.{true};
-ghost use Prim.Native.Nat.{_<_, _≤_};
+ghost use mathlib.Core.Bool.{true, false};
+ghost use mathlib.Core.List.{List};
+ghost use Prim.Native.Nat.{ℕ};
 ghost use Rattle.record.specs.Range.{inRange};
+ghost use Rattle.picture.specs.Data.{Bytes};
+ghost use Rattle.stream.specs.Stream.{fedOf};
+ghost use Rattle.stream_input.specs.Heard.{capped, recordAfter, repliesTo, counted, heardAfter, Hears};
 use record::Record;
 use stream::Fed;
 
-// The longest answer must fit, or a call could never get past it.
+// Any room does that takes a byte's answer, which is one '?' at most.
 const ROOM: usize = 64;
 
 // The record after the stream, how many answer bytes there were, and whether the input failed before its end.
@@ -19,7 +23,7 @@ pub struct Heard {
 
 // A call with a buffer of its own for the answers.
 fn one_call(r: Record, bytes: &[u8]) -> Fed
-    ensures { λ f. ⌜ (inRange r ≡ true → inRange (f .record) ≡ true) ⌝ }
+    ensures { λ f. ⌜ f ≡ fedOf r (now (bytes .entry)) 64 ⌝ }
 {
     let mut answers = [0u8; ROOM];
     stream_by_value::feed(r, bytes, &mut answers)
@@ -27,49 +31,40 @@ fn one_call(r: Record, bytes: &[u8]) -> Fed
 
 // The count stops at its type's end rather than run over.
 fn more(heard: Heard, after: Record, written: usize) -> Heard
-    ensures { λ h. ⌜ h .record ≡ after ⌝ }
+    ensures { λ h. ⌜ h ≡ counted heard after written ⌝ }
 {
     let n = written as u64;
     let replies = heard.replies;
     if 0xFFFF_FFFF_FFFF_FFFF - replies < n {
         return Heard {
             record: after,
-            replies: replies,
-            failed: false,
+            replies: 0xFFFF_FFFF_FFFF_FFFF,
+            failed: heard.failed,
         };
     }
     Heard {
         record: after,
         replies: replies + n,
-        failed: false,
+        failed: heard.failed,
     }
 }
 
-// The place after the bytes that a call used. It uses one at least, since there is room for any answer.
-fn next_place(at: usize, used: usize, len: usize) -> usize
-    requires { ⌜ at < len ⌝ }
-    ensures { λ r. ⌜ (at < r) × (r ≤ len) ⌝ }
-{
-    if used == 0 {
-        return len;
-    }
-    if len - at < used {
-        return len;
-    }
-    at + used
-}
-
-// One piece of the stream, in as many calls as its answers need.
+// One piece of the stream, in as many calls as its answers need. Only a record out of range uses nothing, and it is handed back.
 fn hear_piece(heard: Heard, piece: &[u8]) -> Heard
-    ensures { λ h. ⌜ (inRange (heard .record) ≡ true → inRange (h .record) ≡ true) ⌝ }
+    ensures { λ h. ⌜ (inRange (heard .record) ≡ true → h ≡ heardAfter heard (now (piece .entry))) ⌝ }
+    ensures { λ h. ⌜ (inRange (heard .record) ≡ false → h ≡ heard) ⌝ }
+    ensures { λ h. ⌜ Bytes (now (piece .entry)) ⌝ }
 {
     let mut now = heard;
     let mut at = 0;
     while at < piece.len() {
         let fed = one_call(now.record, &piece[at..]);
+        if fed.used == 0 {
+            return now;
+        }
         let after = fed.record;
         now = more(now, after, fed.written);
-        at = next_place(at, fed.used, piece.len());
+        at += fed.used;
     }
     now
 }
@@ -82,7 +77,7 @@ struct Turn {
 }
 
 fn hear_once(descriptor: i32, heard: Heard) -> Turn
-    ensures { λ t. ⌜ (inRange (heard .record) ≡ true → inRange (t .heard .record) ≡ true) ⌝ }
+    ensures { λ t. ⌜ Hears heard (t .heard) ⌝ }
 {
     let mut buffer = io::buffer();
     let got = libc::read(descriptor, &mut buffer);
@@ -96,7 +91,8 @@ fn hear_once(descriptor: i32, heard: Heard) -> Turn
 
 // Reads an input to its end, or to where it fails, from this record.
 pub fn hear(descriptor: i32, r: Record) -> Heard
-    ensures kept { λ h. ⌜ (inRange r ≡ true → inRange (h .record) ≡ true) ⌝ }
+    ensures heard { λ h. ⌜ (inRange r ≡ true → (bytes : List ℕ) × Bytes bytes × (h .record ≡ recordAfter r bytes) × (h .replies ≡ capped (repliesTo r bytes))) ⌝ }
+    ensures refused { λ h. ⌜ (inRange r ≡ false → (h .record ≡ r) × (h .replies ≡ 0)) ⌝ }
 {
     let mut heard = Heard {
         record: r,
