@@ -70,6 +70,7 @@ ends "./run --help without the kit" 0 '' env PATH="$work/no_kit" ./run jetty --h
 for name in $names; do
     file=''
     case " $readers " in *" $name "*) file=' [FILE]' ;; esac
+    [ $name != show_screen ] || file=" [--pause]$file"
     ends "./run $name --help has status 0 and complains of nothing" 0 '' ./run $name --help
     head -n 1 "$work/out" | says "./run $name --help begins with its usage" "usage: ./run $name$file"
     program $name --help </dev/null | same "./run $name --help is what the program itself says" "$work/out"
@@ -386,6 +387,15 @@ printf 'mode 0\ntext no\nicon F 6\npicture 1 FF\nmode 11\nleft yes\n' | screen |
     says "show_screen: icon bar, picture and labels under overlay 11" $' Y▁▂▄▆█\n⡇\n⡇\n y  e  s'
 printf 'mode 13\nleft no\npicture 5 00 81\npicture 6 1F\n' | screen | sed -n -e 's/ *$//' -e '11,14p' |
     says "show_screen: all rows are dots under overlay 13, the last five dots high" $'⠈\n⢀\n⡇\n⠁'
+letter() { # the SMS panel's words in the icon bar after these words, lit and in the pause
+    program write_frame >"$work/letter"
+    for phase in '' --pause; do
+        program show_screen $phase "$work/letter" | sed -n -e '2s/.*\(SMS [a-z]*\).*/\1/p' -e '2s/^│ *│$/nothing/p'
+    done
+}
+printf 'icon U 255\nicon S 1\n' | letter | says "show_screen --pause: the read letter stands in the pauses of the flashing one" $'SMS unread\nSMS read'
+printf 'icon U 255\n' | letter | says "show_screen --pause: with no read message the pause shows nothing" $'SMS unread\nnothing'
+printf 'icon U 1\nicon S 1\n' | letter | says "show_screen --pause: a letter that does not flash has no pause" $'SMS unread\nSMS unread'
 printf 'private 4\nmute 1\nprivate 0\n' | screen | head -n 1 | says "show_screen: IL4, IM1, IL0 shows no volume" "$(printf '%48s' '')"
 printf 'private 4\nmute 1\nprivate 0\nprivate 4\n' | screen | head -n 1 | says "show_screen: then IL4 shows mute" "$(printf '%48s' 'mute ')"
 printf '\eIK1\x80a\xFF\r' | program show_screen | sed -n -e 's/^│ *//' -e '12s/ *│$//p' | says "show_screen: a code that is no ASCII is a dot" ".  a  ."

@@ -28,6 +28,7 @@ use Rattle.key_log.specs.Log.{outcome, handedBack, bufferAfter}
 use Rattle.key_log.specs.Laws.{ends-with-1, ends-with-5, ends-with-4, ends-with-0}
 use Rattle.seconds.specs.Seconds.{passed, lightPassed}
 use Rattle.seconds.specs.Laws.{second-done, second-refused, light-done, light-refused}
+use Rattle.seen_panels.specs.declared.Phase.{Phase}
 use Rattle.seen_panels.specs.declared.SmsPanel.the-variants as Sms
 use Rattle.seen_panels.specs.declared.VolumePanel.the-variants as Sound
 use Rattle.seen.specs.Rows.{nothingSeen, rowSeen, smsSeen, volumeSeen}
@@ -64,12 +65,12 @@ pub record Demand1 : Type 0 where
   pub light-refuses : (b : Backlight) → backlightInRange b ≡ false → (paperNumber (lightPassed b .number) ≡ 1) × (lightPassed b .backlight ≡ b)
   pub light-passes : (b : Backlight) → backlightInRange b ≡ true → paperNumber (lightPassed b .number) ≡ 0
   -- The questions: 1, then 4 for a row above 6, else 0; and where one is refused it tells nothing.
-  pub row-number-is : (r : Record) (row : ℕ) → paperNumber (rowSeen r row .number) ≡ cond (not (inRange r)) 1 (cond (ltb 6 row) 4 0)
-  pub row-refuses : (r : Record) (row : ℕ)
-      → (inRange r ≡ false → rowSeen r row ≡ nothingSeen (numbered 1)) × (inRange r ≡ true → 6 < row → rowSeen r row ≡ nothingSeen (numbered 4))
-  pub panel-numbers-are : (r : Record) → (paperNumber (smsSeen r .number) ≡ cond (not (inRange r)) 1 0) × (paperNumber (volumeSeen r .number) ≡ cond (not (inRange r)) 1 0)
-  pub panels-refuse : (r : Record) → inRange r ≡ false
-      → (smsSeen r ≡ record { number = numbered 1; panel = Sms.Nothing }) × (volumeSeen r ≡ record { number = numbered 1; panel = Sound.Nothing })
+  pub row-number-is : (r : Record) (row : ℕ) (phase : Phase) → paperNumber (rowSeen r row phase .number) ≡ cond (not (inRange r)) 1 (cond (ltb 6 row) 4 0)
+  pub row-refuses : (r : Record) (row : ℕ) (phase : Phase)
+      → (inRange r ≡ false → rowSeen r row phase ≡ nothingSeen (numbered 1)) × (inRange r ≡ true → 6 < row → rowSeen r row phase ≡ nothingSeen (numbered 4))
+  pub panel-numbers-are : (r : Record) (phase : Phase) → (paperNumber (smsSeen r phase .number) ≡ cond (not (inRange r)) 1 0) × (paperNumber (volumeSeen r .number) ≡ cond (not (inRange r)) 1 0)
+  pub panels-refuse : (r : Record) (phase : Phase) → inRange r ≡ false
+      → (smsSeen r phase ≡ record { number = numbered 1; panel = Sms.Nothing }) × (volumeSeen r ≡ record { number = numbered 1; panel = Sound.Nothing })
   -- The writers: 2, then 3, nothing written then, count 0; else 0. `good` is whether the command, label or row is in range.
   pub writer-refuses-2 : (frame room : List ℕ) → (paperNumber (writtenOf false frame room .number) ≡ 2) × (writtenOf false frame room .count ≡ 0) × (roomAfter false frame room ≡ room)
   pub writer-refuses-3 : (frame room : List ℕ) → length room < length frame

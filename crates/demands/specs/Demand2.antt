@@ -4,12 +4,14 @@
 use Prim.Native.Nat.{ℕ, _+_, _*_, _<_, _≤_}
 use mathlib.Core.Logic.{_⊎_, _≢_}
 use mathlib.Core.Path.{_≡_}
-use mathlib.Core.Bool.{true, false}
+use mathlib.Core.Bool.{true, false, cond, not}
 use mathlib.Core.List.{List, _∷_}
+use lib.Dec.{eqb}
 use lib.ListN.{length, drop, getD}
 use Rattle.lists.specs.Every.{every}
 use Rattle.record.specs.declared.Record.{Record}
 use Rattle.record.specs.declared.Backlight.{Backlight}
+use Rattle.record.specs.declared.Icons.{Icons}
 use Rattle.record.specs.Number.{numbered}
 use Rattle.record.specs.Range.{inRange, backlightInRange}
 use Rattle.picture.specs.Data.{Bytes}
@@ -33,10 +35,13 @@ use Rattle.key_log.specs.declared.Logged.{Logged}
 use Rattle.key_log.specs.Laws.{LogDone, log-done, log-stops-exactly, log-done-fixes}
 use Rattle.seconds.specs.Seconds.{passed, dimmed, lightPassed, lowered}
 use Rattle.seconds.specs.Laws.{second-done, light-done}
-use Rattle.seen_panels.specs.Panels.{smsPanel, volumePanel}
+use Rattle.seen_panels.specs.Panels.{smsPanel, volumePanel, lit-as-before, flashing-pause}
+use Rattle.seen_panels.specs.declared.Phase.{Phase}
+use Rattle.seen_panels.specs.declared.Phase.the-variants.{Lit, Pause}
+use Rattle.seen_panels.specs.declared.SmsPanel.the-variants as Sms
 use Rattle.seen.specs.Places.{rowOwner}
 use Rattle.seen.specs.Rows.{contents, rowSeen, smsSeen, volumeSeen}
-use Rattle.seen.specs.Laws.{seen-row, panels-told}
+use Rattle.seen.specs.Laws.{seen-row, panels-told, steady-unseen}
 use Rattle.writer_ranges.specs.Fitting.{isLabel, isRow}
 use Rattle.writer.specs.Writing.{bodyOf, labelBody, rowBody}
 use Rattle.writer.specs.ReadBack.{AfterZero, command-written, label-written, row-written}
@@ -73,10 +78,15 @@ pub record Demand2 : Type 0 where
   -- A second lowers the seconds left by one, not below 0: of a record, and of a backlight in place.
   pub seconds : (r : Record) → inRange r ≡ true → passed r .after ≡ dimmed r
   pub seconds-in-place : (b : Backlight) → backlightInRange b ≡ true → lightPassed b .backlight ≡ lowered b
-  -- A row shows the contents of its owner; the panels' questions tell what the panels show.
-  pub rows : (r : Record) (row : ℕ) → inRange r ≡ true → row ≤ 6 → rowSeen r row ≡ contents r (rowOwner r row)
-  pub panels : (r : Record) → inRange r ≡ true
-      → (smsSeen r ≡ record { number = numbered 0; panel = smsPanel (r .settings .icons) }) × (volumeSeen r ≡ record { number = numbered 0; panel = volumePanel (r .settings .volume) })
+  -- A row shows the contents of its owner; the panels' questions tell what the panels show, in either phase.
+  pub rows : (r : Record) (row : ℕ) (phase : Phase) → inRange r ≡ true → row ≤ 6 → rowSeen r row phase ≡ contents r phase (rowOwner r row)
+  pub panels : (r : Record) (phase : Phase) → inRange r ≡ true
+      → (smsSeen r phase ≡ record { number = numbered 0; panel = smsPanel (r .settings .icons) phase }) × (volumeSeen r ≡ record { number = numbered 0; panel = volumePanel (r .settings .volume) })
+  -- The phase (request T-03): lit, the SMS panel is Unread if U is not 0, else Read if S is 1, else nothing, as it always was; with U
+  -- 255 the pause shows it as U 0 does; and with U not 255 the phase changes nothing that is seen.
+  pub lit-panel : (i : Icons) → smsPanel i Lit ≡ cond (not (eqb (i .u) 0)) Sms.Unread (cond (eqb (i .s) 1) Sms.Read Sms.Nothing)
+  pub pause-panel : (i : Icons) → i .u ≡ 255 → smsPanel i Pause ≡ cond (eqb (i .s) 1) Sms.Read Sms.Nothing
+  pub phase-unseen : (r : Record) (phase : Phase) → (r .settings .icons .u ≡ 255 → ⊥) → ((row : ℕ) → rowSeen r row phase ≡ rowSeen r row Lit) × (smsSeen r phase ≡ smsSeen r Lit)
   -- What is written for a command, a label or a picture row reads back as that: after number 0 the bytes counted part into one closed
   -- frame and one skipped LF, the frame spells that order, and the other places of the room are as they were.
   pub commands-read-back : (c : Command) (room : List ℕ) → AfterZero (plain c) (commandInRange mostRows c) (bodyOf c) room
@@ -102,6 +112,9 @@ demand2 =
       seconds-in-place = λ b h. light-done b h .1;
       rows = seen-row;
       panels = panels-told;
+      lit-panel = lit-as-before;
+      pause-panel = flashing-pause;
+      phase-unseen = steady-unseen;
       commands-read-back = command-written;
       labels-read-back = label-written;
       rows-read-back = row-written;

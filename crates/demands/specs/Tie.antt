@@ -299,7 +299,7 @@ pub second-in-place-says : Says SecondInPlace.ended
 second-in-place-says κs a q e w = refl
 
 -- seen_panels::sms_panel
-pub sms-panel-says : Says SmsPanelOf.ended SmsPanelOfReads.ensures (λ κs a q e. q ≡ smsPanel (a .0))
+pub sms-panel-says : Says SmsPanelOf.ended SmsPanelOfReads.ensures (λ κs a q e. q ≡ smsPanel (a .0) (a .1 .0))
 sms-panel-says κs a q e w = refl
 
 -- seen_panels::volume_panel
@@ -307,11 +307,11 @@ pub volume-panel-says : Says VolumePanelOf.ended VolumePanelOfReads.ensures (λ 
 volume-panel-says κs a q e w = refl
 
 -- seen::row_seen
-pub row-seen-says : Says RowSeen.ended RowSeenReads.ensures (λ κs a q e. q ≡ rowSeen (a .0) (a .1 .0))
+pub row-seen-says : Says RowSeen.ended RowSeenReads.ensures (λ κs a q e. q ≡ rowSeen (a .0) (a .1 .0) (a .1 .1 .0))
 row-seen-says κs a q e w = refl
 
 -- seen::sms_seen
-pub sms-seen-says : Says SmsSeen.ended SmsSeenReads.ensures (λ κs a q e. q ≡ smsSeen (a .0))
+pub sms-seen-says : Says SmsSeen.ended SmsSeenReads.ensures (λ κs a q e. q ≡ smsSeen (a .0) (a .1 .0))
 sms-seen-says κs a q e w = refl
 
 -- seen::volume_seen

@@ -15,14 +15,14 @@
 //                               There may be more of one than of the other
 //   C                           a second passes, on the record
 //   B                           a second passes in place, on a copy of the record's backlight; the record stays
-//   Q ROW                       the row question; ROW is one byte
-//   M                           the SMS panel
+//   Q ROW PHASE                 the row question; ROW is one byte, PHASE one too: 0 lit, 1 the pause
+//   M PHASE                     the SMS panel
 //   V                           the volume panel
 //   W ROOM COMMAND A B          the command writer; COMMAND is one byte, A and B are the command's numbers, 0 where it has none
 //   T ROOM SIDE CODES           the label writer; SIDE is one byte, 0 left, 1 right
 //   G ROOM ROW COLUMNS          the picture row writer; ROW is one byte
 //
-// "Q 05" asks for row 5, and "F 00021B51" hands the stream 1B 51 over with room for two answer bytes. ROOM is at most 300: just
+// "Q 0500" asks for row 5, lit, and "F 00021B51" hands the stream 1B 51 over with room for two answer bytes. ROOM is at most 300: just
 // so many places are lent to the call, and place i holds (i * 7 + 3) mod 256 before it. A line has at most 4,096 stream bytes,
 // 1,024 ticks and 1,024 edges, 300 codes or 300 columns.
 //
@@ -93,6 +93,7 @@ use seconds::LightPassed;
 use seen::Bar;
 use seen::Labels;
 use seen::Owner;
+use seen::Phase;
 use seen::Row;
 use seen::SmsPanel;
 use seen::SmsSeen;
@@ -582,7 +583,7 @@ fn is_call(letter: u8, args: &[u8]) -> bool {
         b'S' => is_setting(args),
         b'F' => has_room(args, 2, MOST_BYTES),
         b'K' => has_room(args, 4, MOST_BYTES) & is_log(args),
-        b'Q' => args.len() == 1,
+        b'Q' => (args.len() == 2) & (byte_at(args, 1) <= 1),
         b'W' => has_room(args, 7, 7) & (byte_at(args, 2) <= LAST_COMMAND),
         b'T' => has_room(args, 3, MOST_CELLS) & (byte_at(args, 2) <= 1),
         b'G' => has_room(args, 3, MOST_CELLS),
@@ -590,7 +591,7 @@ fn is_call(letter: u8, args: &[u8]) -> bool {
         b'R' => args.len() == 0,
         b'C' => args.len() == 0,
         b'B' => args.len() == 0,
-        b'M' => args.len() == 0,
+        b'M' => (args.len() == 1) & (byte_at(args, 0) <= 1),
         b'V' => args.len() == 0,
         _ => false,
     }
@@ -676,8 +677,15 @@ fn light_call(b: Backlight) {
     say_light(passed.backlight);
 }
 
-fn row_call(r: Record, row: u8) {
-    let seen = seen::row_seen(r, row);
+fn phase_of(n: u8) -> Phase {
+    if n == 0 {
+        return Phase::Lit;
+    }
+    Phase::Pause
+}
+
+fn row_call(r: Record, row: u8, phase: u8) {
+    let seen = seen::row_seen(r, row, phase_of(phase));
     let number = seen.number;
     say_number(b'Q', number);
     say_row(seen);
@@ -720,9 +728,9 @@ fn question(r: Record, letter: u8, args: &[u8], buffer: &mut [u8]) {
     match letter {
         b'R' => range_call(r),
         b'B' => light_call(r.settings.backlight),
-        b'M' => say_sms(seen::sms_seen(r)),
+        b'M' => say_sms(seen::sms_seen(r, phase_of(byte_at(args, 0)))),
         b'V' => say_volume(seen::volume_seen(r)),
-        b'Q' => row_call(r, byte_at(args, 0)),
+        b'Q' => row_call(r, byte_at(args, 0), byte_at(args, 1)),
         _ => writer_call(letter, args, buffer),
     }
 }

@@ -2,7 +2,7 @@
 use Prim.Native.Nat.{ℕ}
 use mathlib.Core.Path.{_≡_, refl}
 use mathlib.Core.Bool.{Bool, true, false}
-use mathlib.Core.List.{[], _∷_, _++_, map}
+use mathlib.Core.List.{List, [], _∷_, _++_, map}
 use lib.ListN.{replicate}
 use Rattle.lists.specs.Codes.{ascii, blank}
 use Rattle.record.specs.PowerOn.{powerOn}
@@ -15,6 +15,7 @@ use Rattle.record.specs.declared.Record.{Record}
 use Rattle.record.specs.declared.Volume.{Volume}
 use Rattle.seen.specs.declared.Owner.{Owner}
 use Rattle.seen.specs.declared.Owner.the-variants.{Nothing, IconBar, TextRow, PictureRow, SoftKeys}
+use Rattle.seen_panels.specs.declared.Phase.the-variants.{Lit, Pause}
 use Rattle.seen_panels.specs.declared.SmsPanel.the-variants as Sms
 use Rattle.seen_panels.specs.declared.VolumePanel.the-variants as Sound
 use Rattle.seen_panels.specs.Panels.{smsPanel, volumePanel}
@@ -27,8 +28,12 @@ volume which level mute hidden = record { which = which; level = level; mute = m
 abbrev icons : ℕ → ℕ → Icons
 icons s u = record { s = s; u = u; f = 0; r = 0; p = 0; w = 0 }
 
+-- neither S nor U, S alone; U 1 without and with S; U 255 without and with S
+abbrev sixIcons : List Icons
+sixIcons = icons 0 0 ∷ icons 1 0 ∷ icons 0 1 ∷ icons 1 1 ∷ icons 0 255 ∷ icons 1 255 ∷ []
+
 -- The panels: after IL4 and IM1 Mute is shown, after IL0 nothing, after IL4 again Mute. Then IM0 after it; IJ10; IM1 with no
--- volume icon; IL0 alone; the power-on volume. S and U: nothing, S 1, U 1, U 255, both.
+-- volume icon; IL0 alone; the power-on volume. The six pairs of S and U, lit and in the pause.
 pub panel-cases :
     (map volumePanel
     (volume 1 4 true false
@@ -41,9 +46,9 @@ pub panel-cases :
     ∷ volume 0 0 false false
     ∷ [])
     ≡ Sound.Mute ∷ Sound.Nothing ∷ Sound.Mute ∷ Sound.Private 4 ∷ Sound.Handsfree 10 ∷ Sound.Mute ∷ Sound.Nothing ∷ Sound.Nothing ∷ [])
-    × (map smsPanel (icons 0 0 ∷ icons 1 0 ∷ icons 0 1 ∷ icons 0 255 ∷ icons 1 255 ∷ [])
-    ≡ Sms.Nothing ∷ Sms.Read ∷ Sms.Unread ∷ Sms.Unread ∷ Sms.Unread ∷ [])
-panel-cases = (refl, refl)
+    × (map (λ (i : Icons). smsPanel i Lit) sixIcons ≡ Sms.Nothing ∷ Sms.Read ∷ Sms.Unread ∷ Sms.Unread ∷ Sms.Unread ∷ Sms.Unread ∷ [])
+    × (map (λ (i : Icons). smsPanel i Pause) sixIcons ≡ Sms.Nothing ∷ Sms.Read ∷ Sms.Unread ∷ Sms.Unread ∷ Sms.Nothing ∷ Sms.Read ∷ [])
+panel-cases = (refl, refl, refl)
 
 -- the power-on record in another text mode and under an overlay
 abbrev screen : ℕ → ℕ → Record
@@ -61,7 +66,7 @@ abbrev Asked : Type 0
 Asked = Record × ℕ
 
 abbrev answered : Asked → Number × Owner
-answered q = (rowSeen (q .0) (q .1) .number, rowSeen (q .0) (q .1) .owner)
+answered q = (rowSeen (q .0) (q .1) Lit .number, rowSeen (q .0) (q .1) Lit .owner)
 
 -- The row question: row 0 under overlay 11 in mode 5 is the icon bar, with no overlay it is text row 0; row 5 under 12 and 13;
 -- row 6 with no overlay and under 13; row 4 in modes 0 and 5; display off; a row above 6; a mode out of range, which is
@@ -92,7 +97,7 @@ pub row-cases :
     ∷ (numbered 4, Nothing)
     ∷ (numbered 1, Nothing)
     ∷ [])
-    × (rowSeen written 2 .owner ≡ TextRow 1)
-    × (rowSeen written 2 .codes ≡ ascii "Meter           ")
+    × (rowSeen written 2 Lit .owner ≡ TextRow 1)
+    × (rowSeen written 2 Lit .codes ≡ ascii "Meter           ")
 unfolding rowSeen contents ownerOn covered underBar underLabels underText inRange textInRange labelInRange pictureInRange frameInRange
 row-cases = (refl, refl, refl)

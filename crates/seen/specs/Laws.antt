@@ -15,7 +15,9 @@ use Rattle.record.specs.Range.{inRange}
 use Rattle.record.specs.With.{withSettings, withScreen, withShown, withRow, withColumn}
 use Rattle.record.specs.declared.Record.{Record}
 use Rattle.record.specs.declared.Screen.{Screen}
-use Rattle.seen_panels.specs.Panels.{smsPanel, volumePanel}
+use Rattle.seen_panels.specs.Panels.{smsPanel, volumePanel, steady-panel}
+use Rattle.seen_panels.specs.declared.Phase.{Phase}
+use Rattle.seen_panels.specs.declared.Phase.the-variants.{Lit}
 use Rattle.seen_panels.specs.declared.SmsPanel.the-variants as Sms
 use Rattle.seen_panels.specs.declared.VolumePanel.the-variants as Sound
 use Rattle.seen.specs.declared.Owner.{Owner}
@@ -25,57 +27,72 @@ use Rattle.seen.specs.Places.{firstTextRow, covered, underBar, underLabe
 use Rattle.seen.specs.Rows.{rowOf, nothingSeen, contents, rowSeen, smsSeen, volumeSeen}
 
 -- The row question, once it is not refused.
-pub seen-row : (r : Record) (row : ℕ) → inRange r ≡ true → row ≤ 6 → rowSeen r row ≡ contents r (rowOwner r row)
+pub seen-row : (r : Record) (row : ℕ) (phase : Phase) → inRange r ≡ true → row ≤ 6 → rowSeen r row phase ≡ contents r phase (rowOwner r row)
 unfolding rowSeen
-seen-row r row ok h = rw (ok, le-ltb 6 row h)
+seen-row r row phase ok h = rw (ok, le-ltb 6 row h)
 
 -- Numbers -------------------------------------------------------------------------------------------------------
 
-contents-done : (r : Record) (o : Owner) → contents r o .number ≡ numbered 0
+contents-done : (r : Record) (phase : Phase) (o : Owner) → contents r phase o .number ≡ numbered 0
 unfolding contents
-contents-done r Nothing = refl
-contents-done r IconBar = refl
-contents-done r (TextRow n) = refl
-contents-done r (PictureRow n) = refl
-contents-done r SoftKeys = refl
+contents-done r phase Nothing = refl
+contents-done r phase IconBar = refl
+contents-done r phase (TextRow n) = refl
+contents-done r phase (PictureRow n) = refl
+contents-done r phase SoftKeys = refl
 
 -- The row question hands back 1 for a field out of range, then 4 for a display row above 6, else 0.
-pub row-number : (r : Record) (row : ℕ) → paperNumber (rowSeen r row .number) ≡ cond (not (inRange r)) 1 (cond (ltb 6 row) 4 0)
+pub row-number : (r : Record) (row : ℕ) (phase : Phase) → paperNumber (rowSeen r row phase .number) ≡ cond (not (inRange r)) 1 (cond (ltb 6 row) 4 0)
 unfolding rowSeen
-row-number r row =
+row-number r row phase =
     by-test (inRange r)
-    (λ ok. by-test (ltb 6 row) (λ above. rw (ok, above)) (λ above. rw (ok, above, contents-done r (rowOwner r row))))
+    (λ ok. by-test (ltb 6 row) (λ above. rw (ok, above)) (λ above. rw (ok, above, contents-done r phase (rowOwner r row))))
     (λ bad. rw bad)
 
 -- The panels' questions hand back 1 for a field out of range, else 0.
-pub panel-numbers : (r : Record)
-    → (paperNumber (smsSeen r .number) ≡ cond (not (inRange r)) 1 0) × (paperNumber (volumeSeen r .number) ≡ cond (not (inRange r)) 1 0)
+pub panel-numbers : (r : Record) (phase : Phase)
+    → (paperNumber (smsSeen r phase .number) ≡ cond (not (inRange r)) 1 0) × (paperNumber (volumeSeen r .number) ≡ cond (not (inRange r)) 1 0)
 unfolding smsSeen volumeSeen
-panel-numbers r = by-test (inRange r) (λ ok. (rw ok, rw ok)) (λ bad. (rw bad, rw bad))
+panel-numbers r phase = by-test (inRange r) (λ ok. (rw ok, rw ok)) (λ bad. (rw bad, rw bad))
 
 -- A question that is refused tells nothing: the whole of what comes back, for number 1 and for number 4.
-pub row-refused : (r : Record) (row : ℕ)
-    → (inRange r ≡ false → rowSeen r row ≡ nothingSeen (numbered 1)) × (inRange r ≡ true → 6 < row → rowSeen r row ≡ nothingSeen (numbered 4))
+pub row-refused : (r : Record) (row : ℕ) (phase : Phase)
+    → (inRange r ≡ false → rowSeen r row phase ≡ nothingSeen (numbered 1)) × (inRange r ≡ true → 6 < row → rowSeen r row phase ≡ nothingSeen (numbered 4))
 unfolding rowSeen
-row-refused r row = (λ bad. rw bad, λ ok above. rw (ok, lt-ltb 6 row above))
+row-refused r row phase = (λ bad. rw bad, λ ok above. rw (ok, lt-ltb 6 row above))
 
-pub panels-refused : (r : Record) → inRange r ≡ false
-    → (smsSeen r ≡ record { number = numbered 1; panel = Sms.Nothing }) × (volumeSeen r ≡ record { number = numbered 1; panel = Sound.Nothing })
+pub panels-refused : (r : Record) (phase : Phase) → inRange r ≡ false
+    → (smsSeen r phase ≡ record { number = numbered 1; panel = Sms.Nothing }) × (volumeSeen r ≡ record { number = numbered 1; panel = Sound.Nothing })
 unfolding smsSeen volumeSeen
-panels-refused r bad = (rw bad, rw bad)
+panels-refused r phase bad = (rw bad, rw bad)
 
 -- Else the panels' questions tell what the panels show.
-pub panels-told : (r : Record) → inRange r ≡ true
-    → (smsSeen r ≡ record { number = numbered 0; panel = smsPanel (r .settings .icons) }) × (volumeSeen r ≡ record { number = numbered 0; panel = volumePanel (r .settings .volume) })
+pub panels-told : (r : Record) (phase : Phase) → inRange r ≡ true
+    → (smsSeen r phase ≡ record { number = numbered 0; panel = smsPanel (r .settings .icons) phase }) × (volumeSeen r ≡ record { number = numbered 0; panel = volumePanel (r .settings .volume) })
 unfolding smsSeen volumeSeen
-panels-told r ok = (rw ok, rw ok)
+panels-told r phase ok = (rw ok, rw ok)
+
+-- The phase -----------------------------------------------------------------------------------------------------
+
+steady-contents : (r : Record) (phase : Phase) → (r .settings .icons .u ≡ 255 → ⊥) → (o : Owner) → contents r phase o ≡ contents r Lit o
+unfolding contents
+steady-contents r phase steady Nothing = refl
+steady-contents r phase steady IconBar = rw (steady-panel (r .settings .icons) steady phase)
+steady-contents r phase steady (TextRow n) = refl
+steady-contents r phase steady (PictureRow n) = refl
+steady-contents r phase steady SoftKeys = refl
+
+-- With U not 255 the phase changes nothing: neither a row nor the SMS panel.
+pub steady-unseen : (r : Record) (phase : Phase) → (r .settings .icons .u ≡ 255 → ⊥) → ((row : ℕ) → rowSeen r row phase ≡ rowSeen r row Lit) × (smsSeen r phase ≡ smsSeen r Lit)
+unfolding rowSeen smsSeen
+steady-unseen r phase steady = (λ row. rw (steady-contents r phase steady (rowOwner r row)), rw (steady-panel (r .settings .icons) steady phase))
 
 -- Display off -----------------------------------------------------------------------------------------------------
 
 -- With the display off every row of every record shows nothing.
-pub off-shows-nothing : (r : Record) (row : ℕ) → r .settings .screen .display ≡ false → rowSeen r row ≡ nothingSeen (rowSeen r row .number)
+pub off-shows-nothing : (r : Record) (row : ℕ) (phase : Phase) → r .settings .screen .display ≡ false → rowSeen r row phase ≡ nothingSeen (rowSeen r row phase .number)
 unfolding rowSeen ownerOn contents
-off-shows-nothing r row off =
+off-shows-nothing r row phase off =
     by-test (inRange r)
     (λ ok. by-test (ltb 6 row) (λ above. rw (ok, above)) (λ above. rw (ok, above, off)))
     (λ bad. rw bad)
@@ -119,22 +136,22 @@ abbrev pub withCursor : Record → Bool → ℕ → ℕ → Record
 withCursor r shown row column =
     withSettings r (withShown (withScreen (r .settings) (withColumn (withRow (r .settings .screen) row) column)) shown)
 
-contents-alike : (r : Record) (shown : Bool) (row column : ℕ) (o : Owner) → contents (withCursor r shown row column) o ≡ contents r o
+contents-alike : (r : Record) (shown : Bool) (row column : ℕ) (phase : Phase) (o : Owner) → contents (withCursor r shown row column) phase o ≡ contents r phase o
 unfolding contents
-contents-alike r shown row column Nothing = refl
-contents-alike r shown row column IconBar = refl
-contents-alike r shown row column (TextRow n) = refl
-contents-alike r shown row column (PictureRow n) = refl
-contents-alike r shown row column SoftKeys = refl
+contents-alike r shown row column phase Nothing = refl
+contents-alike r shown row column phase IconBar = refl
+contents-alike r shown row column phase (TextRow n) = refl
+contents-alike r shown row column phase (PictureRow n) = refl
+contents-alike r shown row column phase SoftKeys = refl
 
 -- Two records in range that differ only in the cursor are seen alike: every row, and both panels.
-pub cursor-unseen : (r : Record) (shown : Bool) (row column : ℕ) → inRange r ≡ true → inRange (withCursor r shown row column) ≡ true
-    → ((at : ℕ) → rowSeen (withCursor r shown row column) at ≡ rowSeen r at)
-    × (smsSeen (withCursor r shown row column) ≡ smsSeen r)
+pub cursor-unseen : (r : Record) (shown : Bool) (row column : ℕ) (phase : Phase) → inRange r ≡ true → inRange (withCursor r shown row column) ≡ true
+    → ((at : ℕ) → rowSeen (withCursor r shown row column) at phase ≡ rowSeen r at phase)
+    × (smsSeen (withCursor r shown row column) phase ≡ smsSeen r phase)
     × (volumeSeen (withCursor r shown row column) ≡ volumeSeen r)
 unfolding rowSeen smsSeen volumeSeen ownerOn covered underBar underLabels underText
-cursor-unseen r shown row column ok ok′ =
-    (λ at. rw (ok, ok′) (ap (λ (q : Row). cond (ltb 6 at) (nothingSeen (numbered 4)) q) (contents-alike r shown row column (rowOwner r at))), rw (ok, ok′), rw (ok, ok′))
+cursor-unseen r shown row column phase ok ok′ =
+    (λ at. rw (ok, ok′) (ap (λ (q : Row). cond (ltb 6 at) (nothingSeen (numbered 4)) q) (contents-alike r shown row column phase (rowOwner r at))), rw (ok, ok′), rw (ok, ok′))
 
 -- The contents ----------------------------------------------------------------------------------------------------
 
@@ -143,13 +160,13 @@ row-at : (width : ℕ) (cells : List ℕ) (n i : ℕ) → i < width → getD (ro
 row-at width cells n i h = getD-drop (width * n) _ i 0 ∙ getD-take (width * n + width) cells (width * n + i) 0 (omega arith)
 
 -- Text row n shows codes 16n to 16n + 15 of the text.
-pub text-row-own : (r : Record) (row n i : ℕ) → inRange r ≡ true → row ≤ 6 → rowOwner r row ≡ TextRow n → i < 16
-    → getD (rowSeen r row .codes) i 0 ≡ getD (r .text) (16 * n + i) 0
+pub text-row-own : (r : Record) (row n i : ℕ) (phase : Phase) → inRange r ≡ true → row ≤ 6 → rowOwner r row ≡ TextRow n → i < 16
+    → getD (rowSeen r row phase .codes) i 0 ≡ getD (r .text) (16 * n + i) 0
 unfolding contents
-text-row-own r row n i ok h e k = rw (seen-row r row ok h, e) (row-at 16 (r .text) n i k)
+text-row-own r row n i phase ok h e k = rw (seen-row r row phase ok h, e) (row-at 16 (r .text) n i k)
 
 -- Picture row n shows columns 96n to 96n + 95 of the picture.
-pub picture-row-own : (r : Record) (row n i : ℕ) → inRange r ≡ true → row ≤ 6 → rowOwner r row ≡ PictureRow n → i < 96
-    → getD (rowSeen r row .columns) i 0 ≡ getD (r .picture) (96 * n + i) 0
+pub picture-row-own : (r : Record) (row n i : ℕ) (phase : Phase) → inRange r ≡ true → row ≤ 6 → rowOwner r row ≡ PictureRow n → i < 96
+    → getD (rowSeen r row phase .columns) i 0 ≡ getD (r .picture) (96 * n + i) 0
 unfolding contents
-picture-row-own r row n i ok h e k = rw (seen-row r row ok h, e) (row-at 96 (r .picture) n i k)
+picture-row-own r row n i phase ok h e k = rw (seen-row r row phase ok h, e) (row-at 96 (r .picture) n i k)

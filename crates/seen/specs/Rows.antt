@@ -12,6 +12,7 @@ use Rattle.record.specs.declared.Label.{Label}
 use Rattle.record.specs.declared.Number.{Number}
 use Rattle.record.specs.Number.{numbered}
 use Rattle.seen_panels.specs.Panels.{smsPanel, volumePanel}
+use Rattle.seen_panels.specs.declared.Phase.{Phase}
 use Rattle.seen.specs.Places.{rowOwner}
 use Rattle.seen.specs.declared.Owner.{Owner}
 use Rattle.seen.specs.declared.Owner.the-variants.{Nothing, IconBar, TextRow, PictureRow, SoftKeys}
@@ -38,8 +39,8 @@ abbrev pub pictureRow : Record → ℕ → List ℕ
 pictureRow r n = rowOf 96 (r .picture) n
 
 -- icons F, P and R and the two panels
-abbrev pub barOf : Settings → Bar
-barOf p = record { f = p .icons .f; p = p .icons .p; r = p .icons .r; sms = smsPanel (p .icons); volume = volumePanel (p .volume) }
+abbrev pub barOf : Settings → Phase → Bar
+barOf p phase = record { f = p .icons .f; p = p .icons .p; r = p .icons .r; sms = smsPanel (p .icons) phase; volume = volumePanel (p .volume) }
 
 -- both labels and icon W
 abbrev pub labelsOf : Settings → Labels
@@ -66,25 +67,25 @@ abbrev pub nothingSeen : Number → Row
 nothingSeen a = record { number = a; owner = Nothing; codes = noCodes; columns = noColumns; bar = noBar; labels = noLabels }
 
 -- the contents of a row, by its owner
-unfoldable pub contents : Record → Owner → Row
-contents r Nothing = nothingSeen (numbered 0)
-contents r IconBar = record { number = numbered 0; owner = IconBar; codes = noCodes; columns = noColumns; bar = barOf (r .settings); labels = noLabels }
-contents r (TextRow n) = record { number = numbered 0; owner = TextRow n; codes = textRow r n; columns = noColumns; bar = noBar; labels = noLabels }
-contents r (PictureRow n) = record { number = numbered 0; owner = PictureRow n; codes = noCodes; columns = pictureRow r n; bar = noBar; labels = noLabels }
-contents r SoftKeys = record { number = numbered 0; owner = SoftKeys; codes = noCodes; columns = noColumns; bar = noBar; labels = labelsOf (r .settings) }
+unfoldable pub contents : Record → Phase → Owner → Row
+contents r phase Nothing = nothingSeen (numbered 0)
+contents r phase IconBar = record { number = numbered 0; owner = IconBar; codes = noCodes; columns = noColumns; bar = barOf (r .settings) phase; labels = noLabels }
+contents r phase (TextRow n) = record { number = numbered 0; owner = TextRow n; codes = textRow r n; columns = noColumns; bar = noBar; labels = noLabels }
+contents r phase (PictureRow n) = record { number = numbered 0; owner = PictureRow n; codes = noCodes; columns = pictureRow r n; bar = noBar; labels = noLabels }
+contents r phase SoftKeys = record { number = numbered 0; owner = SoftKeys; codes = noCodes; columns = noColumns; bar = noBar; labels = labelsOf (r .settings) }
 
 -- The questions ---------------------------------------------------------------------------------------------------
 
 -- number 1 for a field out of range, then 4 for a display row above 6: then it tells nothing
-unfoldable pub rowSeen : Record → ℕ → Row
-rowSeen r row =
+unfoldable pub rowSeen : Record → ℕ → Phase → Row
+rowSeen r row phase =
     cond (not (inRange r)) (nothingSeen (numbered 1))
-    (cond (ltb 6 row) (nothingSeen (numbered 4)) (contents r (rowOwner r row)))
+    (cond (ltb 6 row) (nothingSeen (numbered 4)) (contents r phase (rowOwner r row)))
 
-unfoldable pub smsSeen : Record → SmsSeen
-smsSeen r =
+unfoldable pub smsSeen : Record → Phase → SmsSeen
+smsSeen r phase =
     cond (not (inRange r)) (record { number = numbered 1; panel = Sms.Nothing })
-    (record { number = numbered 0; panel = smsPanel (r .settings .icons) })
+    (record { number = numbered 0; panel = smsPanel (r .settings .icons) phase })
 
 unfoldable pub volumeSeen : Record → VolumeSeen
 volumeSeen r =

@@ -13,6 +13,7 @@ use record::Record;
 use record::Screen;
 use record::Settings;
 use record_ranges::in_range;
+pub use seen_panels::Phase;
 pub use seen_panels::SmsPanel;
 pub use seen_panels::VolumePanel;
 use seen_panels::sms_panel;
@@ -64,8 +65,8 @@ pub struct VolumeSeen {
     pub panel: VolumePanel,
 }
 
-pub fn sms_seen(r: Record) -> SmsSeen
-    ensures same { λ q. ⌜ q ≡ smsSeen r ⌝ }
+pub fn sms_seen(r: Record, phase: Phase) -> SmsSeen
+    ensures same { λ q. ⌜ q ≡ smsSeen r phase ⌝ }
 {
     let ok = in_range(r);
     if !ok {
@@ -74,7 +75,7 @@ pub fn sms_seen(r: Record) -> SmsSeen
             panel: SmsPanel::Nothing,
         };
     }
-    let panel = sms_panel(r.settings.icons);
+    let panel = sms_panel(r.settings.icons, phase);
     SmsSeen {
         number: Number::Done,
         panel: panel,
@@ -222,10 +223,10 @@ fn nothing_seen(number: Number) -> Row
     }
 }
 
-fn bar_of(p: Settings) -> Bar
-    ensures { λ bar. ⌜ bar ≡ barOf p ⌝ }
+fn bar_of(p: Settings, phase: Phase) -> Bar
+    ensures { λ bar. ⌜ bar ≡ barOf p phase ⌝ }
 {
-    let sms = sms_panel(p.icons);
+    let sms = sms_panel(p.icons, phase);
     let volume = volume_panel(p.volume);
     Bar {
         f: p.icons.f,
@@ -248,15 +249,15 @@ fn labels_of(p: Settings) -> Labels
     }
 }
 
-fn contents_of(r: Record, owner: Owner) -> Row
+fn contents_of(r: Record, phase: Phase, owner: Owner) -> Row
     requires { ⌜ placed owner ≡ true ⌝ }
-    ensures { λ q. ⌜ q ≡ contents r owner ⌝ }
+    ensures { λ q. ⌜ q ≡ contents r phase owner ⌝ }
 {
     let empty = nothing_seen(Number::Done);
     match owner {
         Owner::Nothing => empty,
         Owner::IconBar => {
-            let bar = bar_of(r.settings);
+            let bar = bar_of(r.settings, phase);
             Row {
                 owner: Owner::IconBar,
                 bar: bar,
@@ -290,9 +291,9 @@ fn contents_of(r: Record, owner: Owner) -> Row
     }
 }
 
-// Row 0 is the top one. A row above 6 is refused, a bad record before it.
-pub fn row_seen(r: Record, row: u8) -> Row
-    ensures same { λ q. ⌜ q ≡ rowSeen r row ⌝ }
+// Row 0 is the top one. A row above 6 is refused, a bad record before it. The icon bar has the SMS panel, which goes by the phase.
+pub fn row_seen(r: Record, row: u8, phase: Phase) -> Row
+    ensures same { λ q. ⌜ q ≡ rowSeen r row phase ⌝ }
 {
     let ok = in_range(r);
     if !ok {
@@ -302,5 +303,5 @@ pub fn row_seen(r: Record, row: u8) -> Row
         return nothing_seen(Number::NotListed);
     }
     let owner = owner_of(r.settings.screen, row);
-    contents_of(r, owner)
+    contents_of(r, phase, owner)
 }

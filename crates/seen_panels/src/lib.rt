@@ -1,8 +1,14 @@
 // The two panels of the icon bar, from the icons and the volume. The definitions are document 01's, in specs/Panels.antt.
 ghost use mathlib.Core.Path.{_≡_};
-ghost use Rattle.seen_panels.specs.Panels.{smsPanel, volumePanel};
+ghost use Rattle.seen_panels.specs.Panels.{unreadLit, smsPanel, volumePanel};
 use record::Icons;
 use record::Volume;
+
+// The two phases of an icon that flashes: it is lit, and then there is a pause.
+pub enum Phase {
+    Lit,
+    Pause,
+}
 
 pub enum SmsPanel {
     Nothing,
@@ -18,10 +24,20 @@ pub enum VolumePanel {
     Handsfree(u8),
 }
 
-pub fn sms_panel(i: Icons) -> SmsPanel
-    ensures same { λ p. ⌜ p ≡ smsPanel i ⌝ }
+// U 255 flashes, any other U but 0 is lit at all times.
+fn unread_lit(u: u8, phase: Phase) -> bool
+    ensures { λ b. ⌜ b ≡ unreadLit u phase ⌝ }
 {
-    if i.u != 0 {
+    match phase {
+        Phase::Lit => u != 0,
+        Phase::Pause => (u != 0) & (u != 255),
+    }
+}
+
+pub fn sms_panel(i: Icons, phase: Phase) -> SmsPanel
+    ensures same { λ p. ⌜ p ≡ smsPanel i phase ⌝ }
+{
+    if unread_lit(i.u, phase) {
         return SmsPanel::Unread;
     }
     if i.s == 1 {

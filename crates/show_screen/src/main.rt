@@ -3,6 +3,8 @@
 //
 //   ./run show_screen examples/picture.stream
 //
+// An icon that flashes is drawn lit, and with --pause as it is in the pause.
+//
 // Each of the seven display rows is asked for by the proved row question and drawn as two lines of 48 places in a frame, 50
 // columns in all. A place is two dots wide and four high, so a picture row is drawn dot by dot in braille signs, and a code of
 // a text row, six dots wide, has three places. Codes outside 0x20 to 0x7E are drawn as '.'. The icon bar is drawn in words:
@@ -14,6 +16,7 @@ use record::Record;
 use seen::Bar;
 use seen::Labels;
 use seen::Owner;
+use seen::Phase;
 use seen::SmsPanel;
 use seen::VolumePanel;
 
@@ -245,8 +248,8 @@ fn draw_nothing() {
     empty_line();
 }
 
-fn draw_row(r: Record, row: u8) {
-    let seen = seen::row_seen(r, row);
+fn draw_row(r: Record, row: u8, phase: Phase) {
+    let seen = seen::row_seen(r, row, phase);
     let owner = seen.owner;
     let codes = seen.codes;
     let columns = seen.columns;
@@ -261,20 +264,28 @@ fn draw_row(r: Record, row: u8) {
     }
 }
 
-fn draw(r: Record) {
+fn draw(r: Record, phase: Phase) {
     top_edge();
     for row in 0..7 {
-        draw_row(r, row);
+        draw_row(r, row, phase);
     }
     bottom_edge();
+}
+
+fn phase_given() -> Phase {
+    if program::is_given(b"--pause\n") {
+        return Phase::Pause;
+    }
+    Phase::Lit
 }
 
 fn accepted() -> bool {
     program::accepts(
         b"show_screen",
-        b"usage: ./run show_screen [FILE]\n\
-        Reads a stream from FILE, or from standard input without one, and draws what a person then sees.\n",
-        b"",
+        b"usage: ./run show_screen [--pause] [FILE]\n\
+        Reads a stream from FILE, or from standard input without one, and draws what a person then sees.\n\
+        --pause draws a flashing icon in its pause; without it the icon is lit.\n",
+        b"--pause\n",
         true,
     )
 }
@@ -285,7 +296,7 @@ fn show(input: Input) {
         program::complain_of(b"show_screen", input);
         return;
     }
-    draw(heard.record);
+    draw(heard.record, phase_given());
 }
 
 fn main() {

@@ -4,7 +4,7 @@ use crate::cover;
 use crate::grammar::{spelt, Command};
 use crate::record::*;
 use crate::script::{self, Answer, Call};
-use crate::seen::{self, Owner};
+use crate::seen::{self, Owner, Phase, PHASES};
 use crate::{generate, keys, property, ranges, stream, writers};
 
 /// Feeds a stream with room for all answers; gives the answers.
@@ -631,9 +631,11 @@ fn refused(record: &Record) {
     ];
     assert_eq!(calls, [(1, 0, 0); 4]);
     assert_eq!(script::second(&mut after), 1);
-    assert_eq!(seen::row(&after, 0), (1, Owner::Nothing));
-    assert_eq!(seen::row(&after, 7), (1, Owner::Nothing));
-    assert_eq!(seen::sms(&after), (1, 0));
+    for phase in PHASES {
+        assert_eq!(seen::row(&after, 0, phase), (1, Owner::Nothing));
+        assert_eq!(seen::row(&after, 7, phase), (1, Owner::Nothing));
+        assert_eq!(seen::sms(&after, phase), (1, 0));
+    }
     assert_eq!(seen::volume(&after), (1, 0, 0));
     assert_eq!((&after, room), (record, [7; 3]));
 }
@@ -667,7 +669,7 @@ fn seconds() {
 fn rows_of_the_display() {
     let owners = |record: &Record| -> String {
         (0..7)
-            .map(|row| match seen::row(record, row) {
+            .map(|row| match seen::row(record, row, Phase::Lit) {
                 (0, Owner::Nothing) => '.',
                 (0, Owner::IconBar { .. }) => 'I',
                 (0, Owner::Text { row, .. }) => char::from(b'0' + row),
@@ -693,7 +695,7 @@ fn rows_of_the_display() {
         assert_eq!(owners(&record), wanted);
         record.display = false;
         assert_eq!(owners(&record), ".......");
-        assert_eq!(seen::row(&record, 7), (4, Owner::Nothing));
+        assert_eq!(seen::row(&record, 7, Phase::Lit), (4, Owner::Nothing));
     }
     let mut record = full();
     record.overlay = 11;
@@ -704,17 +706,41 @@ fn rows_of_the_display() {
         sms: 2,
         volume: (1, 0),
     };
-    assert_eq!(seen::row(&record, 0), (0, bar));
+    assert_eq!(seen::row(&record, 0, Phase::Lit), (0, bar));
     let keys = Owner::SoftKeys {
         left: label_of(b"Keep"),
         right: label_of(b"Leave"),
         w: 2,
     };
-    assert_eq!(seen::row(&record, 5), (0, keys));
-    frame(&mut record, "IU0");
-    assert_eq!(seen::sms(&record), (0, 1));
-    frame(&mut record, "IS0");
-    assert_eq!(seen::sms(&record), (0, 0));
+    assert_eq!(seen::row(&record, 5, Phase::Lit), (0, keys));
+}
+
+#[test]
+fn the_flashing_letter() {
+    // U, S, lit, pause: 0 nothing, 1 Read, 2 Unread.
+    for (u, s, lit, pause) in [
+        (0, 0, 0, 0),
+        (0, 1, 1, 1),
+        (1, 0, 2, 2),
+        (1, 1, 2, 2),
+        (255, 0, 2, 0),
+        (255, 1, 2, 1),
+    ] {
+        let mut record = power_on();
+        frame(&mut record, &format!("IU{u}"));
+        frame(&mut record, &format!("IS{s}"));
+        for (phase, panel) in [(Phase::Lit, lit), (Phase::Pause, pause)] {
+            assert_eq!(seen::sms(&record, phase), (0, panel));
+            let bar = Owner::IconBar {
+                f: 0,
+                p: 0,
+                r: 0,
+                sms: panel,
+                volume: (0, 0),
+            };
+            assert_eq!(seen::row(&record, 0, phase), (0, bar));
+        }
+    }
 }
 
 #[test]
@@ -811,18 +837,27 @@ fn script_lines() {
     };
     assert_eq!(ask(""), "");
     assert_eq!(ask("R"), "R 01\n");
-    assert_eq!(ask("Q 06"), "Q 00\n");
-    assert_eq!(ask("Q 00"), "Q 00\nicon bar 000000000000\n");
+    assert_eq!(ask("Q 0600"), "Q 00\n");
+    assert_eq!(ask("Q 0000"), "Q 00\nicon bar 000000000000\n");
+    assert_eq!(ask("Q 0001"), "Q 00\nicon bar 000000000000\n");
     assert_eq!(
-        ask("Q 05"),
+        ask("Q 0501"),
         "Q 00\nsoft keys 00\nlabels 0000\nleft 00000000000000\nright 00000000000000\n"
     );
-    assert_eq!(ask("Q 07"), "Q 04\n");
+    assert_eq!(ask("Q 0700"), "Q 04\n");
     assert_eq!(
-        ask("Q 02"),
+        ask("Q 0200"),
         format!("Q 00\nrow 0201\ncells {}\n", "20".repeat(16))
     );
-    assert_eq!(ask("M"), "M 0000\n");
+    assert_eq!(ask("M 00"), "M 0000\n");
+    assert_eq!(ask("M 01"), "M 0000\n");
+    ask("S 0C00000001");
+    ask("S 0D000000FF");
+    assert_eq!(ask("M 00"), "M 0002\n");
+    assert_eq!(ask("M 01"), "M 0001\n");
+    assert_eq!(ask("Q 0000"), "Q 00\nicon bar 000000020000\n");
+    assert_eq!(ask("Q 0001"), "Q 00\nicon bar 000000010000\n");
+    ask("P");
     assert_eq!(ask("V"), "V 000000\n");
     assert_eq!(ask("B"), "B 00\nbacklight 001E0000\n");
     assert_eq!(
@@ -855,7 +890,8 @@ fn script_lines() {
     assert_eq!(lines, wanted);
     assert!(ask("S 1F0000fFfE").contains("\nkeys 0000FFFE000C0C\n"));
     assert_eq!(ask("R"), "R 00\n");
-    assert_eq!(ask("Q 07"), "Q 01\n");
+    assert_eq!(ask("Q 0701"), "Q 01\n");
+    assert_eq!(ask("M 01"), "M 0100\n");
     assert!(ask("K 00000000").starts_with("K 0100000000\nbuffer\nscreen"));
     assert!(ask("C").starts_with("C 01\nscreen"));
     assert!(ask("S 0100000105").starts_with("S 00\nscreen 0105"));
@@ -874,7 +910,8 @@ fn script_lines() {
         ("T 000000", "41", 300),
         ("T 0000", "01", 1),
         ("G 000000", "41", 300),
-        ("Q ", "04", 1),
+        ("Q 04", "01", 1),
+        ("M ", "01", 1),
         ("S 230000", "00", 2),
         ("W 00001A0000", "00", 2),
     ] {
@@ -913,7 +950,16 @@ fn script_lines() {
         "S 01000000",
         "S 010000000000",
         "Q ",
-        "Q 0000",
+        "Q 00",
+        "Q 0002",
+        "Q 00FF",
+        "Q 0702",
+        "Q 000000",
+        "M",
+        "M ",
+        "M 02",
+        "M FF",
+        "M 0000",
         "W 00011B00000000",
         "W 000100000000",
         "W 0001000000000000",

@@ -7,8 +7,8 @@ use crate::grammar::{count_of_numbers, spelt, SHAPES};
 use crate::keys::{self, KEYS};
 use crate::ranges::faults;
 use crate::record::*;
-use crate::script::{command, letter, Answer, Call, COMMANDS};
-use crate::seen::Owner;
+use crate::script::{command, letter, words, Answer, Call, COMMANDS};
+use crate::seen::{Owner, Phase, PHASES};
 use crate::stream::{self, Part};
 use crate::{effect, generate};
 
@@ -80,6 +80,26 @@ pub fn wanted() -> Vec<String> {
             for row in 0..7 {
                 names.push(format!("row {row} in mode {mode} overlay {overlay}"));
             }
+        }
+    }
+    for phase in PHASES {
+        for (u, s) in [(0, 0), (0, 1), (1, 0), (1, 1), (255, 0), (255, 1)] {
+            for asked in ["panel", "icon bar"] {
+                names.push(format!("{asked} with U {u} S {s} in the phase {phase:?}"));
+            }
+        }
+        for row in 0..7 {
+            names.push(format!("row {row} in the phase {phase:?}"));
+        }
+    }
+    for letter in ['M', 'Q'] {
+        for fault in [
+            "no phase",
+            "a byte behind the phase",
+            "phase 2",
+            "another phase that is none",
+        ] {
+            names.push(format!("line {letter} with {fault}"));
         }
     }
     for state in 0..3 {
@@ -184,7 +204,10 @@ impl Cover {
             }
         }
         match (call, answer) {
-            (_, Answer::What) => self.add("a line that can't be taken"),
+            (_, Answer::What) => {
+                self.add("a line that can't be taken");
+                self.see_misfit(call);
+            }
             (_, Answer::Silence) => self.add("an empty line"),
             (
                 Call::Stream { room, bytes },
@@ -203,8 +226,13 @@ impl Cover {
                     ..
                 },
             ) => self.see_log(before, ticks, edges, (*number, *used, *written, *room)),
-            (Call::Row { row }, Answer::Row(0, owner)) => self.see_row(before, *row, owner),
-            (Call::Sms, Answer::Sms(0, panel)) => self.add(format!("sms {panel}")),
+            (Call::Row { row, phase }, Answer::Row(0, owner)) => {
+                self.see_row(before, *row, *phase, owner);
+            }
+            (Call::Sms { phase }, Answer::Sms(0, panel)) => {
+                self.add(format!("sms {panel}"));
+                self.see_letter("panel", before, *phase);
+            }
             (Call::Volume, Answer::Volume(0, panel, level)) => {
                 self.add(format!("volume panel {panel}"));
                 self.add(format!("volume level {level}"));
@@ -411,7 +439,37 @@ impl Cover {
         }
     }
 
-    fn see_row(&mut self, before: &Record, row: u8, owner: &Owner) {
+    /// A line that can't be taken: what is wrong with its phase.
+    fn see_misfit(&mut self, call: &Call) {
+        let Call::Other(line) = call else { return };
+        let Some((letter, bytes)) = words(line) else {
+            return;
+        };
+        let before_phase = match letter {
+            b'M' => 0,
+            b'Q' => 1,
+            _ => return,
+        };
+        let fault = match bytes.get(before_phase..) {
+            Some([]) => "no phase",
+            Some([0 | 1, _]) => "a byte behind the phase",
+            Some([2]) => "phase 2",
+            Some([_]) => "another phase that is none",
+            _ => return,
+        };
+        self.add(format!("line {} with {fault}", char::from(letter)));
+    }
+
+    fn see_letter(&mut self, asked: &str, record: &Record, phase: Phase) {
+        let (u, s) = (record.icons[ICON_U], record.icons[ICON_S]);
+        self.add(format!("{asked} with U {u} S {s} in the phase {phase:?}"));
+    }
+
+    fn see_row(&mut self, before: &Record, row: u8, phase: Phase, owner: &Owner) {
+        self.add(format!("row {row} in the phase {phase:?}"));
+        if matches!(owner, Owner::IconBar { .. }) {
+            self.see_letter("icon bar", before, phase);
+        }
         if before.display {
             self.add(format!(
                 "row {row} in mode {} overlay {}",

@@ -7,6 +7,7 @@ use crate::ranges::{faults, in_range};
 use crate::record::*;
 use crate::rng::Rng;
 use crate::script::{perform, Answer, Call, COMMANDS};
+use crate::seen::PHASES;
 use crate::writers;
 
 /// The letters of all calls; X stands for lines that can't be taken.
@@ -124,7 +125,7 @@ impl Generator {
             96 => {
                 self.emit(Call::InRange);
             }
-            97 if self.has('X') => {
+            97 | 98 if self.has('X') => {
                 let line = misfit(&mut self.rng);
                 self.emit(Call::Other(line));
             }
@@ -295,9 +296,12 @@ impl Generator {
     fn questions(&mut self) {
         if self.rng.one_in(3) {
             for row in [0, 1, 2, 3, 4, 5, 6, 7, 8, 255] {
-                self.emit(Call::Row { row });
+                let phase = self.rng.pick(&PHASES);
+                self.emit(Call::Row { row, phase });
             }
-            self.emit(Call::Sms);
+            for phase in PHASES {
+                self.emit(Call::Sms { phase });
+            }
             self.emit(Call::Volume);
         } else {
             for _ in 0..self.rng.between(1, 4) {
@@ -307,15 +311,18 @@ impl Generator {
     }
 
     fn question(&mut self) {
+        let phase = self.rng.pick(&PHASES);
         let call = match self.rng.below(9) {
-            0 | 1 => Call::Sms,
+            0 | 1 => Call::Sms { phase },
             2 | 3 => Call::Volume,
             4 => Call::InRange,
             5 => Call::Row {
                 row: self.rng.pick(&[6, 7, 8, 9, 100, 128, 254, 255]),
+                phase,
             },
             _ => Call::Row {
                 row: self.rng.below(8) as u8,
+                phase,
             },
         };
         self.emit(call);
@@ -445,12 +452,13 @@ impl Generator {
         if !self.has('S') {
             return;
         }
-        match self.rng.below(10) {
+        match self.rng.below(11) {
             0 => self.odd_volume(),
             1 => self.odd_held(),
             2 | 3 => self.odd_frame(),
             4 => self.odd_label(),
             5 => self.odd_light(),
+            10 => self.odd_letter(),
             6 => {
                 let mode = self.rng.pick(&[0, 1, 5, 6]);
                 let rows = if mode < 5 { 4 } else { 5 };
@@ -497,6 +505,21 @@ impl Generator {
         self.put(19, 0, level);
         self.put(20, 0, mute);
         self.put(21, 0, hidden);
+    }
+
+    /// The letter, in a row that is seen, asked for in both phases.
+    fn odd_letter(&mut self) {
+        let (mode, overlay) = self.rng.pick(&[(0, 0), (1, 0), (0, 11), (6, 11)]);
+        let (u, s) = (self.rng.pick(&[0, 1, 255]), self.rng.below(2) as u16);
+        for (field, value) in [(0, 1), (1, mode), (4, 0), (2, overlay), (12, s), (13, u)] {
+            if get(&self.record, field, 0) != value {
+                self.put(field, 0, value);
+            }
+        }
+        for phase in PHASES {
+            self.emit(Call::Row { row: 0, phase });
+            self.emit(Call::Sms { phase });
+        }
     }
 
     fn odd_held(&mut self) {
@@ -1303,7 +1326,7 @@ fn sender(rng: &mut Rng, pieces: usize) -> Vec<u8> {
 
 /// A line that can't be taken, or an empty one.
 fn misfit(rng: &mut Rng) -> Vec<u8> {
-    const LINES: [&str; 68] = [
+    const LINES: [&str; 69] = [
         "",
         " ",
         "Z",
@@ -1317,7 +1340,7 @@ fn misfit(rng: &mut Rng) -> Vec<u8> {
         "R 00",
         "C 00",
         "B 00",
-        "M 00",
+        "m 00",
         "V 00",
         "Z 0000",
         "z 00",
@@ -1365,7 +1388,8 @@ fn misfit(rng: &mut Rng) -> Vec<u8> {
         "S 01000000",
         "S 010000000000",
         "Q ",
-        "Q 0000",
+        "q 0000",
+        "Q 00 00",
         "W 001E1B00000000",
         "W 012D0000000000",
         "W 001E00000000",
@@ -1374,7 +1398,7 @@ fn misfit(rng: &mut Rng) -> Vec<u8> {
         "T 001E0241",
     ];
     let stream = |count: usize| format!("F 000A{}", "41".repeat(count));
-    match rng.below(12) {
+    match rng.below(16) {
         0 => stream(4097).into_bytes(),
         1 => format!("{}4", stream(4096)).into_bytes(),
         2 => format!("G 000A00{}", "41".repeat(301)).into_bytes(),
@@ -1387,14 +1411,31 @@ fn misfit(rng: &mut Rng) -> Vec<u8> {
             .as_bytes()
             .to_vec(),
         8 | 9 => damaged(rng).unwrap_or_default(),
+        10..=13 => no_phase(rng).into_bytes(),
         _ => rng.pick(&LINES).as_bytes().to_vec(),
+    }
+}
+
+/// A question that takes a phase, with a byte too few, a byte too many, or a
+/// byte that is none.
+fn no_phase(rng: &mut Rng) -> String {
+    let question = match rng.below(2) {
+        0 => "M ".to_string(),
+        _ => format!("Q {:02X}", rng.below(8)),
+    };
+    let none = rng.between(2, 255);
+    match rng.below(4) {
+        0 => question,
+        1 => format!("{question}{:02X}{:02X}", rng.below(2), rng.below(2)),
+        2 => format!("{question}02"),
+        _ => format!("{question}{none:02X}"),
     }
 }
 
 /// The line of a good call with one sign too few, too many or another, if it
 /// can't be taken then.
 fn damaged(rng: &mut Rng) -> Option<Vec<u8>> {
-    let call = match rng.below(4) {
+    let call = match rng.below(6) {
         0 => Call::Set {
             field: 1,
             place: 0,
@@ -1405,7 +1446,14 @@ fn damaged(rng: &mut Rng) -> Option<Vec<u8>> {
             ticks: vec![rng.next() as u16; 3],
             edges: vec![255; 3],
         },
-        2 => Call::Command {
+        2 => Call::Sms {
+            phase: rng.pick(&PHASES),
+        },
+        3 => Call::Row {
+            row: rng.below(8) as u8,
+            phase: rng.pick(&PHASES),
+        },
+        4 => Call::Command {
             room: rng.below(30) as u16,
             command: rng.below(usize::from(COMMANDS)) as u16,
             numbers: [rng.next() as u16, rng.next() as u16],

@@ -7,6 +7,7 @@ use crate::ranges::in_range;
 use crate::record::*;
 use crate::rng::Rng;
 use crate::script::{command, COMMANDS};
+use crate::seen::{self, Owner, Phase, PHASES};
 use crate::stream::{self, parting, Part};
 use crate::writers;
 
@@ -244,14 +245,46 @@ pub fn log_cutting(seed: u64) -> Result<(), String> {
     }
 }
 
+/// The phase is seen in the SMS panel of the flashing letter alone: there the
+/// pause shows what U 0 shows, and lit what U 1 shows.
+pub fn phases(seed: u64) -> Result<(), String> {
+    let record = random_record(seed);
+    let mut letter = record.clone();
+    letter.icons[ICON_U] = 255;
+    for u in [0, 1] {
+        let mut steady = record.clone();
+        steady.icons[ICON_U] = u;
+        let like = PHASES[usize::from(u == 0)];
+        for row in 0..9 {
+            let [lit, pause] = PHASES.map(|phase| seen::row(&steady, row, phase));
+            if lit != pause {
+                return Err(format!("seed {seed}: the phase changes U {u}"));
+            }
+            if seen::row(&letter, row, like) != lit {
+                return Err(format!("seed {seed}: U 255 {like:?} isn't U {u}"));
+            }
+            if let (_, Owner::IconBar { sms, .. }) = lit {
+                if seen::sms(&steady, Phase::Pause) != (0, sms) {
+                    return Err(format!("seed {seed}: panel and icon bar"));
+                }
+            }
+        }
+        if seen::sms(&letter, like) != seen::sms(&steady, Phase::Lit) {
+            return Err(format!("seed {seed}: panel of U 255 {like:?}"));
+        }
+    }
+    Ok(())
+}
+
 type Check = fn(u64) -> Result<(), String>;
 
 /// All checks that take a seed.
-pub const CHECKS: [(&str, Check); 6] = [
+pub const CHECKS: [(&str, Check); 7] = [
     ("cutting a stream elsewhere changes nothing", cutting),
     ("the parts are the stream", parts_join),
     ("a frame has one reading", one_reading),
     ("bad and out-of-range frames change nothing", no_effect),
     ("labels and pictures read back", rows_read_back),
     ("cutting a key log elsewhere changes nothing", log_cutting),
+    ("the phase changes the flashing letter alone", phases),
 ];

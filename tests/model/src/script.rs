@@ -3,7 +3,7 @@
 use crate::grammar::{Command, SHAPES};
 use crate::keys;
 use crate::record::*;
-use crate::seen::{self, Owner};
+use crate::seen::{self, Owner, Phase, PHASES};
 use crate::{effect, ranges, stream, writers};
 
 /// Limits of a line.
@@ -38,8 +38,11 @@ pub enum Call {
     Thin,
     Row {
         row: u8,
+        phase: Phase,
     },
-    Sms,
+    Sms {
+        phase: Phase,
+    },
     Volume,
     Command {
         room: u16,
@@ -104,11 +107,22 @@ pub fn parse(line: &[u8]) -> Call {
 }
 
 fn known(line: &[u8]) -> Option<Call> {
+    let (letter, bytes) = words(line)?;
+    with_bytes(letter, &bytes)
+}
+
+/// A letter and bytes.
+pub fn words(line: &[u8]) -> Option<(u8, Vec<u8>)> {
     match line {
-        [letter] => with_bytes(*letter, &[]),
-        [letter, b' ', pairs @ ..] => with_bytes(*letter, &bytes(pairs)?),
+        [letter] => Some((*letter, vec![])),
+        [letter, b' ', pairs @ ..] => Some((*letter, bytes(pairs)?)),
         _ => None,
     }
+}
+
+/// 0 lit, 1 the pause; no other byte is a phase.
+fn phase(byte: u8) -> Option<Phase> {
+    PHASES.get(usize::from(byte)).copied()
 }
 
 fn with_bytes(letter: u8, bytes: &[u8]) -> Option<Call> {
@@ -117,7 +131,7 @@ fn with_bytes(letter: u8, bytes: &[u8]) -> Option<Call> {
         (b'R', []) => Some(Call::InRange),
         (b'C', []) => Some(Call::Second),
         (b'B', []) => Some(Call::Thin),
-        (b'M', []) => Some(Call::Sms),
+        (b'M', &[last]) => phase(last).map(|phase| Call::Sms { phase }),
         (b'V', []) => Some(Call::Volume),
         (b'S', &[field, p, q, v, w]) => {
             let field = u16::from(field);
@@ -129,7 +143,7 @@ fn with_bytes(letter: u8, bytes: &[u8]) -> Option<Call> {
                 value: u16::from_be_bytes([v, w]),
             })
         }
-        (b'Q', &[row]) => Some(Call::Row { row }),
+        (b'Q', &[row, last]) => phase(last).map(|phase| Call::Row { row, phase }),
         (_, &[high, low, ref rest @ ..]) => {
             let room = u16::from_be_bytes([high, low]);
             (room <= ROOM).then(|| with_room(letter, room, rest))?
@@ -214,7 +228,8 @@ pub fn line(call: &Call) -> Vec<u8> {
             let ticks: Vec<u8> = ticks.iter().flat_map(|tick| tick.to_be_bytes()).collect();
             [&room.to_be_bytes()[..], &count.to_be_bytes(), &ticks, edges].concat()
         }
-        Call::Row { row } => vec![*row],
+        Call::Row { row, phase } => vec![*row, *phase as u8],
+        Call::Sms { phase } => vec![*phase as u8],
         Call::Command {
             room,
             command,
@@ -230,9 +245,7 @@ pub fn line(call: &Call) -> Vec<u8> {
         Call::Picture { room, row, columns } => {
             [&room.to_be_bytes()[..], &[*row], columns].concat()
         }
-        Call::PowerOn | Call::InRange | Call::Second | Call::Thin | Call::Sms | Call::Volume => {
-            vec![]
-        }
+        Call::PowerOn | Call::InRange | Call::Second | Call::Thin | Call::Volume => vec![],
     };
     with_pairs(&letter(call).to_string(), &bytes).into_bytes()
 }
@@ -312,12 +325,12 @@ pub fn perform(record: &mut Record, call: &Call) -> Answer {
             let mut light = record.backlight;
             Answer::Thin(thin(&mut light), light)
         }
-        Call::Row { row } => {
-            let (number, owner) = seen::row(record, *row);
+        Call::Row { row, phase } => {
+            let (number, owner) = seen::row(record, *row, *phase);
             Answer::Row(number, owner)
         }
-        Call::Sms => {
-            let (number, panel) = seen::sms(record);
+        Call::Sms { phase } => {
+            let (number, panel) = seen::sms(record, *phase);
             Answer::Sms(number, panel)
         }
         Call::Volume => {
@@ -456,7 +469,7 @@ pub fn letter(call: &Call) -> char {
         Call::Second => 'C',
         Call::Thin => 'B',
         Call::Row { .. } => 'Q',
-        Call::Sms => 'M',
+        Call::Sms { .. } => 'M',
         Call::Volume => 'V',
         Call::Command { .. } => 'W',
         Call::Label { .. } => 'T',

@@ -3,6 +3,15 @@
 use crate::ranges::in_range;
 use crate::record::*;
 
+/// The phase of the flashing letter.
+#[derive(Clone, Copy, PartialEq, Eq, Debug)]
+pub enum Phase {
+    Lit,
+    Pause,
+}
+
+pub const PHASES: [Phase; 2] = [Phase::Lit, Phase::Pause];
+
 #[derive(Clone, PartialEq, Eq, Debug)]
 pub enum Owner {
     Nothing,
@@ -44,7 +53,7 @@ pub fn layout(record: &Record) -> &'static [u8; 7] {
 }
 
 /// The row question: its number and the owner with its contents.
-pub fn row(record: &Record, row: u8) -> (u8, Owner) {
+pub fn row(record: &Record, row: u8, phase: Phase) -> (u8, Owner) {
     if !in_range(record) {
         return (1, Owner::Nothing);
     }
@@ -56,7 +65,7 @@ pub fn row(record: &Record, row: u8) -> (u8, Owner) {
             f: record.icons[ICON_F],
             p: record.icons[ICON_P],
             r: record.icons[ICON_R],
-            sms: sms_shown(record),
+            sms: sms_shown(record, phase),
             volume: volume_shown(record),
         },
         b'0'..=b'4' => {
@@ -82,12 +91,13 @@ pub fn row(record: &Record, row: u8) -> (u8, Owner) {
     (0, owner)
 }
 
-/// 0 nothing, 1 Read, 2 Unread.
-fn sms_shown(record: &Record) -> u8 {
-    match (record.icons[ICON_U], record.icons[ICON_S]) {
-        (0, 1) => 1,
-        (0, _) => 0,
-        (_, _) => 2,
+/// 0 nothing, 1 Read, 2 Unread. U 255 flashes: in its pauses the panel is
+/// that of U 0.
+fn sms_shown(record: &Record, phase: Phase) -> u8 {
+    match (record.icons[ICON_U], phase, record.icons[ICON_S]) {
+        (1, _, _) | (255, Phase::Lit, _) => 2,
+        (_, _, 1) => 1,
+        (_, _, _) => 0,
     }
 }
 
@@ -102,9 +112,9 @@ fn volume_shown(record: &Record) -> (u8, u8) {
 }
 
 /// The SMS panel: its number and the panel.
-pub fn sms(record: &Record) -> (u8, u8) {
+pub fn sms(record: &Record, phase: Phase) -> (u8, u8) {
     if in_range(record) {
-        (0, sms_shown(record))
+        (0, sms_shown(record, phase))
     } else {
         (1, 0)
     }

@@ -5,10 +5,10 @@ use Rattle.show_screen.proofs.draw.Statement.{statement}
 use Rattle.show_screen.proofs.draw.Tie as tie
 
 abbrev Inv-loop : tie.InvT-loop
-Inv-loop r row₀ row = row ≤ 7
+Inv-loop r phase row₀ row = row ≤ 7
 
 abbrev μ-loop : tie.MeasureT-loop
-μ-loop r row₀ row = 7 - row
+μ-loop r phase row₀ row = 7 - row
 
 top-edge-requires : tie.Need-top-edge-requires Inv-loop μ-loop
 top-edge-requires c κs = search needs
