@@ -3,7 +3,7 @@
 -- Statements first. Assumes nothing.
 use Prim.Native.Nat.{ℕ, _+_, _*_, _<_, _≤_}
 use mathlib.Core.Logic.{_⊎_, _≢_}
-use mathlib.Core.Path.{_≡_}
+use mathlib.Core.Path.{_≡_, refl}
 use mathlib.Core.Bool.{true, false, cond, not}
 use mathlib.Core.List.{List, _∷_}
 use lib.Dec.{eqb}
@@ -13,6 +13,7 @@ use Rattle.record.specs.declared.Record.{Record}
 use Rattle.record.specs.declared.Backlight.{Backlight}
 use Rattle.record.specs.declared.Icons.{Icons}
 use Rattle.record.specs.Number.{numbered}
+use Rattle.record.specs.PowerOn.{powerOn}
 use Rattle.record.specs.Range.{inRange, backlightInRange}
 use Rattle.picture.specs.Data.{Bytes}
 use Rattle.command.specs.declared.Command.{Command}
@@ -45,6 +46,7 @@ use Rattle.seen.specs.Laws.{seen-row, panels-told, steady-unseen}
 use Rattle.writer_ranges.specs.Fitting.{isLabel, isRow}
 use Rattle.writer.specs.Writing.{bodyOf, labelBody, rowBody}
 use Rattle.writer.specs.ReadBack.{AfterZero, command-written, label-written, row-written}
+use Rattle.demands.specs.HeldKeys.{HeldKeys, held-keys}
 use Rattle.demands.specs.Frames.{silent, wholeFrame, withCore, closed-obeyed, good-whole}
 
 pub record Demand2 : Type 0 where
@@ -75,6 +77,10 @@ pub record Demand2 : Type 0 where
   -- and nothing else is a log taken by the rules.
   pub logs-only-so : {r : Record} {log : List Entry} {lent : List ℕ} {back other : Logged} {buffer buffer′ : List ℕ}
       → LogDone r log lent back buffer → LogDone r log lent other buffer′ → (back ≡ other) × (buffer ≡ buffer′)
+  -- At power-on Time2 is 0, so a key that is held down does not repeat (request T-05): the note's default of 12 no longer holds there.
+  -- The record of the former defaults has it, differs in nothing else, and no stream in which no key times are set tells the two apart.
+  pub no-repeat-at-power-on : powerOn .settings .times .time2 .0 ≡ 0
+  pub former-defaults : HeldKeys
   -- A second lowers the seconds left by one, not below 0: of a record, and of a backlight in place.
   pub seconds : (r : Record) → inRange r ≡ true → passed r .after ≡ dimmed r
   pub seconds-in-place : (b : Backlight) → backlightInRange b ≡ true → lightPassed b .backlight ≡ lowered b
@@ -108,6 +114,8 @@ demand2 =
       logs = log-done;
       log-stops = log-stops-exactly;
       logs-only-so = log-done-fixes;
+      no-repeat-at-power-on = refl;
+      former-defaults = held-keys;
       seconds = λ r h. second-done r h .1;
       seconds-in-place = λ b h. light-done b h .1;
       rows = seen-row;

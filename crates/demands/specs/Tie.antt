@@ -11,7 +11,7 @@ use denote.Triple.Clauses.{Ended, AtExit}
 use borrow.Fn.World.{World, Pr, ArgsD, ResD}
 use Rattle.record.specs.Number.{paperNumber}
 use Rattle.record.specs.Range.{rowsOf, rowEndOf, backlightInRange, inRange}
-use Rattle.record.specs.PowerOn.{timesAtPowerOn, startingWith, powerOn}
+use Rattle.record.specs.PowerOn.{timesAtPowerOn, formerTimes, startingWith, powerOn, formerPowerOn}
 use Rattle.record_ranges.specs.Parts.{joined}
 use Rattle.record_fields.specs.Fields.{withField}
 use Rattle.numeral.specs.Numeral as Numerals
@@ -45,6 +45,10 @@ use Rattle.record.proofs.Record.starting_with as StartingWith
 use Rattle.record.proofs.Record.starting_with.Reads as StartingWithReads
 use Rattle.record.proofs.Record.power_on as PowerOn
 use Rattle.record.proofs.Record.power_on.Reads as PowerOnReads
+use Rattle.record.proofs.Times.former_defaults as TimesFormer
+use Rattle.record.proofs.Times.former_defaults.Reads as TimesFormerReads
+use Rattle.record.proofs.Record.former_defaults as Former
+use Rattle.record.proofs.Record.former_defaults.Reads as FormerReads
 use Rattle.record_small_ranges.specs.Small.{smallInRange}
 use Rattle.record_small_ranges.proofs.backlight_in_range as BacklightInRange
 use Rattle.record_small_ranges.proofs.backlight_in_range.Reads as BacklightInRangeReads
@@ -175,6 +179,14 @@ record-starting-with-says κs a q e w = refl
 -- record::Record::power_on
 pub record-power-on-says : Says PowerOn.ended PowerOnReads.ensures (λ κs a q e. q ≡ powerOn)
 record-power-on-says κs a q e w = refl
+
+-- record::Times::former_defaults
+pub times-former-defaults-says : Says TimesFormer.ended TimesFormerReads.ensures (λ κs a q e. q ≡ formerTimes)
+times-former-defaults-says κs a q e w = refl
+
+-- record::Record::former_defaults
+pub record-former-defaults-says : Says Former.ended FormerReads.ensures (λ κs a q e. q ≡ formerPowerOn)
+record-former-defaults-says κs a q e w = refl
 
 -- record_small_ranges::backlight_in_range
 pub backlight-in-range-says : Says BacklightInRange.ended BacklightInRangeReads.ensures (λ κs a q e. q ≡ backlightInRange (a .0))

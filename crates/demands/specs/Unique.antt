@@ -21,6 +21,10 @@ use Rattle.record.proofs.Record.starting_with as StartingWith
 use Rattle.record.proofs.Record.starting_with.Reads as StartingWithReads
 use Rattle.record.proofs.Record.power_on as PowerOn
 use Rattle.record.proofs.Record.power_on.Reads as PowerOnReads
+use Rattle.record.proofs.Times.former_defaults as TimesFormer
+use Rattle.record.proofs.Times.former_defaults.Reads as TimesFormerReads
+use Rattle.record.proofs.Record.former_defaults as Former
+use Rattle.record.proofs.Record.former_defaults.Reads as FormerReads
 use Rattle.record_small_ranges.proofs.backlight_in_range as BacklightInRange
 use Rattle.record_small_ranges.proofs.backlight_in_range.Reads as BacklightInRangeReads
 use Rattle.record_small_ranges.proofs.small_in_range as SmallInRange
@@ -142,6 +146,14 @@ record-starting-with-one κs a q q′ e e′ p p′ = two-equal p p′
 -- record::Record::power_on
 pub record-power-on-one : OneResult PowerOn.ended PowerOnReads.Learnt
 record-power-on-one κs a q q′ e e′ p p′ = two-equal p p′
+
+-- record::Times::former_defaults
+pub times-former-defaults-one : OneResult TimesFormer.ended TimesFormerReads.Learnt
+times-former-defaults-one κs a q q′ e e′ p p′ = two-equal p p′
+
+-- record::Record::former_defaults
+pub record-former-defaults-one : OneResult Former.ended FormerReads.Learnt
+record-former-defaults-one κs a q q′ e e′ p p′ = two-equal p p′
 
 -- record_small_ranges::backlight_in_range
 pub backlight-in-range-one : OneResult BacklightInRange.ended BacklightInRangeReads.Learnt

@@ -8,6 +8,7 @@
 // over without a line. The last line needs no line feed.
 //
 //   P                           the power-on record
+//   O                           the power-on record of the former defaults, whose Time2 is 12
 //   S FIELD PLACE VALUE         sets a place of a field to any value, in range or not; FIELD is one byte
 //   R                           whether the record is in range
 //   F ROOM BYTES                the stream call, with no bytes or more
@@ -29,7 +30,7 @@
 // What it prints. A line is a word and bytes, in upper case; one with no bytes is the word alone. NUMBER is document 01's, a byte; a flag
 // is 0 or 1. USED and WRITTEN are two bytes, and so is TICK; all else is one, but for arrays.
 //
-//   P and S          the letter and 00
+//   P, O and S       the letter and 00
 //   R                R 01 in range, R 00 not
 //   C                C NUMBER
 //   F, K, W, T, G    the letter NUMBER USED WRITTEN, USED 0 for the writers; then "buffer" and all that was lent, as it stands
@@ -42,7 +43,7 @@
 //                      row OWNER ROW      OWNER 2 is a text row, 3 a picture row; then "cells": 16 codes or 96 columns
 //                      soft keys W        then the lines of the labels as in the record
 //
-// After the lines of P, S, F, K and C the whole record follows:
+// After the lines of P, O, S, F, K and C the whole record follows:
 //
 //   screen DISPLAY MODE OVERLAY SHOWN ROW COLUMN           OVERLAY 0 is none; SHOWN, ROW and COLUMN are the cursor's
 //   labels LEFT RIGHT                                      their lengths
@@ -588,6 +589,7 @@ fn is_call(letter: u8, args: &[u8]) -> bool {
         b'T' => has_room(args, 3, MOST_CELLS) & (byte_at(args, 2) <= 1),
         b'G' => has_room(args, 3, MOST_CELLS),
         b'P' => args.len() == 0,
+        b'O' => args.len() == 0,
         b'R' => args.len() == 0,
         b'C' => args.len() == 0,
         b'B' => args.len() == 0,
@@ -602,6 +604,11 @@ fn is_call(letter: u8, args: &[u8]) -> bool {
 fn power_on_call() -> Record {
     say_number(b'P', Number::Done);
     shown(Record::power_on())
+}
+
+fn former_call() -> Record {
+    say_number(b'O', Number::Done);
+    shown(Record::former_defaults())
 }
 
 fn set_call(r: Record, args: &[u8]) -> Record {
@@ -740,6 +747,7 @@ fn question(r: Record, letter: u8, args: &[u8], buffer: &mut [u8]) {
 fn answered(r: Record, letter: u8, args: &[u8], buffer: &mut [u8]) -> Record {
     match letter {
         b'P' => return power_on_call(),
+        b'O' => return former_call(),
         b'S' => return set_call(r, args),
         b'F' => return stream_call(r, after(args, 2), buffer),
         b'K' => return log_call(r, args, buffer),

@@ -98,7 +98,7 @@ table =
     ∷ (backlight (after (ascii "IE5" ∷ ascii "IEe" ∷ ascii "IER" ∷ [])), 0 ∷ 30 ∷ 0 ∷ 1 ∷ [])
     ∷ (backlight (after (ascii "IEe" ∷ ascii "IEr" ∷ ascii "IE256" ∷ [])), 0 ∷ 30 ∷ 0 ∷ 0 ∷ [])
     -- IT20;3 changes neither time
-    ∷ (times (after (ascii "IT20;3" ∷ [])), 12 ∷ 12 ∷ [])
+    ∷ (times (after (ascii "IT20;3" ∷ [])), 12 ∷ 0 ∷ [])
     ∷ (times (after (ascii "IT20;0" ∷ [])), 20 ∷ 0 ∷ [])
     -- labels; the places past a label are zero
     ∷ (after (ascii "IK1Keep" ∷ []) .settings .left .codes, ascii "Keep" ++ replicate 3 0)

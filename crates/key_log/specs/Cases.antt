@@ -10,7 +10,7 @@ use Rattle.record.specs.declared.Times.{Times}
 use Rattle.record.specs.declared.Backlight.{Backlight}
 use Rattle.record.specs.Number.{paperNumber}
 use Rattle.record.specs.Range.{auto, textInRange, labelInRange, pictureInRange, frameInRange, inRange}
-use Rattle.record.specs.PowerOn.{startingWith}
+use Rattle.record.specs.PowerOn.{startingWith, powerOn, formerPowerOn}
 use Rattle.turns.specs.Room.{run}
 use Rattle.key_entry.specs.declared.Stage.the-variants.{Short, Long, Repeat}
 use Rattle.key_entry.specs.Codes.{noCode, codeOf}
@@ -174,6 +174,9 @@ cases =
     ∷ all (fresh 12 12) (press one 65530 ∷ poll 114 ∷ release one 115 ∷ []) 3 (0xB1 ∷ []) noneHeld 30
     -- a poll much later gives the long code alone; Time2 counts from that poll: nothing one tick before, and the repeat code at exactly Time2
     ∷ all (fresh 12 8) (press one 0 ∷ poll 1000 ∷ poll 1079 ∷ poll 1080 ∷ poll 1159 ∷ []) 5 (0xB1 ∷ 0xF1 ∷ []) (heldLong one 1080) 30
+    -- from the power-on record a key that is held down does not repeat, from that of the former defaults it does
+    ∷ all powerOn (press one 0 ∷ poll 120 ∷ poll 240 ∷ poll 360 ∷ []) 4 (0xB1 ∷ []) (heldLong one 120) 0
+    ∷ all formerPowerOn (press one 0 ∷ poll 120 ∷ poll 240 ∷ poll 360 ∷ []) 4 (0xB1 ∷ 0xF1 ∷ 0xF1 ∷ []) (heldLong one 360) 0
     -- Time2 0: no repeat, and the held tick stays
     ∷ all (fresh 12 0) (press one 0 ∷ poll 120 ∷ poll 60000 ∷ []) 3 (0xB1 ∷ []) (heldLong one 120) 30
     -- ESC has no repeat code: nothing, and the held tick stays

@@ -3,13 +3,13 @@ use mathlib.Core.Path.{_≡_, refl}
 use mathlib.Core.Bool.{true}
 use Rattle.lists.specs.Both.{both, and-both}
 use Rattle.record.specs.declared.Record.{Record}
-use Rattle.record.specs.PowerOn.{powerOn}
+use Rattle.record.specs.PowerOn.{powerOn, formerPowerOn}
 use Rattle.record.specs.Range.{modeInRange, overlayInRange, cursorInRange, textInRange, labelInRange, pictureInRange, iconsInRange, volumeInRange, timesInRange, buzzerInRange, backlightInRange, heldInRange, frameInRange, inRange}
 
--- The power-on record is within its ranges.
-pub power-on-in-range : inRange powerOn ≡ true
+-- The power-on record is within its ranges, and so is the one of the former defaults.
+pub power-on-in-range : (inRange powerOn ≡ true) × (inRange formerPowerOn ≡ true)
 unfolding inRange textInRange labelInRange pictureInRange frameInRange
-power-on-in-range = refl
+power-on-in-range = (refl, refl)
 
 -- The table as facts: a line for each row.
 pub record Ranges (r : Record) : Type 0 where

@@ -6,9 +6,13 @@ use Rattle.record.specs.declared.Record.{Record}
 use Rattle.record.specs.declared.Times.{Times}
 use Rattle.record.specs.Range.{off}
 
--- Time1 12, Time2 12
+-- Time1 12, Time2 0: a held key does not repeat (request T-05; the note's default of 12 no longer holds)
 abbrev pub timesAtPowerOn : Times
-timesAtPowerOn = record { time1 = record { 0 = 12 }; time2 = record { 0 = 12 } }
+timesAtPowerOn = record { time1 = record { 0 = 12 }; time2 = record { 0 = 0 } }
+
+-- the former defaults, which are the note's: Time1 12, Time2 12
+abbrev pub formerTimes : Times
+formerTimes = record { time1 = record { 0 = 12 }; time2 = record { 0 = 12 } }
 
 -- display on; mode 0; overlay none; cursor not shown, 0, 0; text all 0x20; labels empty; picture 0; icons 0; volume none, 0, no,
 -- no; the times given; buzzer 0; backlight off, 30, 0, clear; held key none; frame none
@@ -34,3 +38,7 @@ startingWith times =
 
 abbrev pub powerOn : Record
 powerOn = startingWith timesAtPowerOn
+
+-- the power-on record of the former defaults: it differs in Time2 alone
+abbrev pub formerPowerOn : Record
+formerPowerOn = startingWith formerTimes

@@ -125,3 +125,8 @@ withSecondsLeft b new = record { mode = b .mode; duration = b .duration; left = 
 
 abbrev pub withKeypad : Backlight → Bool → Backlight
 withKeypad b new = record { mode = b .mode; duration = b .duration; left = b .left; keypad = new }
+
+-- Times ---------------------------------------------------------------------------------------------------------
+
+abbrev pub withTime2 : Times → ℕ → Times
+withTime2 t new = record { time1 = t .time1; time2 = record { 0 = new } }

@@ -3,7 +3,7 @@
 ghost use mathlib.Core.Path.{_≡_};
 ghost use Rattle.record.specs.Number.{paperNumber};
 ghost use Rattle.record.specs.Range.{rowsOf, rowEndOf};
-ghost use Rattle.record.specs.PowerOn.{timesAtPowerOn, startingWith, powerOn};
+ghost use Rattle.record.specs.PowerOn.{timesAtPowerOn, formerTimes, startingWith, powerOn, formerPowerOn};
 
 // A count of 100 ms: Time1 and Time2 of the keys.
 pub struct Tenths(pub u8);
@@ -140,13 +140,28 @@ pub fn row_end(mode: u8) -> u8
 }
 
 impl Times {
+    // A key that is held down does not repeat.
+    pub const POWER_ON: Times = Times {
+        time1: Tenths(12),
+        time2: Tenths(0),
+    };
+
+    // The note's, which were ours too: a key that is held down repeats.
+    pub const FORMER: Times = Times {
+        time1: Tenths(12),
+        time2: Tenths(12),
+    };
+
     pub fn power_on() -> Times
         ensures same { λ t. ⌜ t ≡ timesAtPowerOn ⌝ }
     {
-        Times {
-            time1: Tenths(12),
-            time2: Tenths(12),
-        }
+        Times::POWER_ON
+    }
+
+    pub fn former_defaults() -> Times
+        ensures same { λ t. ⌜ t ≡ formerTimes ⌝ }
+    {
+        Times::FORMER
     }
 }
 
@@ -215,6 +230,13 @@ impl Record {
     pub fn power_on() -> Record
         ensures same { λ r. ⌜ r ≡ powerOn ⌝ }
     {
-        Record::starting_with(Times::power_on())
+        Record::starting_with(Times::POWER_ON)
+    }
+
+    // The power-on record with the former defaults: it differs in Time2 alone.
+    pub fn former_defaults() -> Record
+        ensures same { λ r. ⌜ r ≡ formerPowerOn ⌝ }
+    {
+        Record::starting_with(Times::FORMER)
     }
 }

@@ -474,12 +474,12 @@ fn key_rules() {
         room[..written].to_vec()
     };
     // One code a poll; Time2 counts from the poll that gave the long code.
-    let mut record = power_on();
+    let mut record = former_power_on();
     assert_eq!(log(&mut record, &[(0, 0), (1000, 255)]), [0xCC]);
     assert_eq!(log(&mut record, &[(1119, 255)]), []);
     assert_eq!(log(&mut record, &[(1120, 255), (1239, 255)]), [0xEC]);
     assert_eq!(log(&mut record, &[(1240, 255), (1241, 128)]), [0xEC]);
-    assert_eq!(record, power_on());
+    assert_eq!(record, former_power_on());
     // ESC has no repeat code, and its tick stays.
     log(&mut record, &[(0, 2), (120, 255), (5000, 255)]);
     assert_eq!((record.held.tick, record.held.long), (120, true));
@@ -500,6 +500,40 @@ fn key_rules() {
     // Time1 in force at the release counts.
     frame(&mut record, "IT50;8");
     assert_eq!(log(&mut record, &[(1047 + 499, 135)]), [0x32]);
+}
+
+#[test]
+fn no_repeat_at_power_on() {
+    assert_eq!((power_on().time1, power_on().time2), (12, 0));
+    let mut former = former_power_on();
+    assert_eq!((former.time1, former.time2), (12, 12));
+    former.time2 = 0;
+    assert_eq!(former, power_on());
+    assert!(ranges::in_range(&former_power_on()));
+    // A wet glove on every key.
+    for (key, (_, _, long, repeat)) in keys::KEYS.into_iter().enumerate() {
+        let ticks = [7, 127, 247, 367];
+        let edges = [key as u8, 255, 255, 255];
+        let held = |mut record: Record| {
+            let mut room = [0; 4];
+            let (number, used, written) = keys::call(&mut record, &ticks, &edges, &mut room);
+            assert_eq!((number, used), (0, 4));
+            room[..written].to_vec()
+        };
+        let repeats = repeat.map_or(vec![], |code| vec![code; 2]);
+        assert_eq!(held(power_on()), [long]);
+        assert_eq!(held(former_power_on()), [&[long][..], &repeats].concat());
+    }
+    // The collector may still ask for the note's times.
+    let asked = obeyed(&power_on(), "IT12;12", |r| r.time2 = 12);
+    assert_eq!(asked, former_power_on());
+    assert_eq!(seen::listing(b""), {
+        let mut lines = String::from("REPLIES 0\nMODE 0 OVER 0 DISPLAY 1\nCURSOR 0 0 0\n");
+        for row in 0..5 {
+            lines += &format!("TEXT {row} [{}]\n", " ".repeat(16));
+        }
+        lines + "LEFT []\nRIGHT []\nICONS 0 0 0 0 0 0\nVOLUME 0 0 0 0\n"
+    });
 }
 
 #[test]
@@ -600,12 +634,13 @@ fn ranges_of_the_record() {
     let mut overlong = open.clone();
     overlong.frame.state = 2;
     refused(&overlong);
-    let right: [(&Record, u16, usize, u16); 10] = [
+    let right: [(&Record, u16, usize, u16); 11] = [
         (&empty, 5, 0, 16),
         (&empty, 11, 575, 255),
         (&empty, 11, 671, 31),
         (&empty, 21, 0, 1),
-        (&empty, 23, 0, 0),
+        (&empty, 23, 0, 12),
+        (&record, 23, 0, 0),
         (&empty, 24, 0, 255),
         (&record, 27, 0, 255),
         (&record, 30, 0, 18),
@@ -881,14 +916,14 @@ fn script_lines() {
         "right 00000000000000",
         "icons 0000000000000000000000",
         "backlight 001E0000",
-        "keys 00000000000C0C",
+        "keys 00000000000C00",
         "frame 0101",
         &format!("bytes 51{}", "00".repeat(249)),
         &format!("text 41{}", "20".repeat(79)),
         &format!("picture {}", "00".repeat(672)),
     ];
     assert_eq!(lines, wanted);
-    assert!(ask("S 1F0000fFfE").contains("\nkeys 0000FFFE000C0C\n"));
+    assert!(ask("S 1F0000fFfE").contains("\nkeys 0000FFFE000C00\n"));
     assert_eq!(ask("R"), "R 00\n");
     assert_eq!(ask("Q 0701"), "Q 01\n");
     assert_eq!(ask("M 01"), "M 0100\n");
@@ -896,7 +931,20 @@ fn script_lines() {
     assert!(ask("C").starts_with("C 01\nscreen"));
     assert!(ask("S 0100000105").starts_with("S 00\nscreen 0105"));
     assert!(ask("S 0000000100").contains("screen 01"));
-    assert!(ask("P").starts_with("P 00\nscreen 010000000000\n"));
+    let [now, former] = ["P", "O"].map(&mut ask);
+    assert!(now.starts_with("P 00\nscreen 010000000000\n"));
+    assert!(now.contains("\nkeys 00000000000C00\n"));
+    assert!(former.contains("\nkeys 00000000000C0C\n"));
+    assert_eq!(now[1..].replace("0C00\n", "0C0C\n"), former[1..]);
+    assert_eq!(now[..1], *"P");
+    assert_eq!(former[..2], *"O ");
+    assert_eq!(former.lines().count(), 12);
+    let held = "K 000400030000007800F000FFFF";
+    ask("O ");
+    assert!(ask(held).starts_with("K 0000030002\nbuffer CCEC1118\n"));
+    ask("P ");
+    assert!(ask(held).starts_with("K 0000030001\nbuffer CC0A1118\n"));
+    ask("P");
     assert_eq!(ask("R "), "R 01\n");
     assert!(ask("K 00010002000000C80080").starts_with("K 0000020001\nbuffer CC\n"));
     // Each limit is reached, and passed by one.
@@ -931,6 +979,10 @@ fn script_lines() {
         "p",
         "P\r",
         "P 00",
+        "o",
+        "O 00",
+        "O  ",
+        " O",
         "F",
         "F ",
         "F 00",
@@ -984,7 +1036,7 @@ fn lines_of_calls_read_back() {
 
 #[test]
 fn kinds_are_kept() {
-    for kinds in ["F", "PSRF", "K", "W", "TG", "QMV", "CB"] {
+    for kinds in ["F", "PSRF", "O", "OK", "K", "W", "TG", "QMV", "CB"] {
         let calls = generate::calls(5, 300, kinds);
         assert_eq!(calls.len(), 300);
         for (call, _, _) in calls {

@@ -82,6 +82,12 @@ pub fn wanted() -> Vec<String> {
             }
         }
     }
+    for power in ["power-on", "former power-on"] {
+        for before in ["from itself", "from the other", "in range", "out of range"] {
+            names.push(format!("{power} {before}"));
+        }
+        names.push(format!("key log right after {power}"));
+    }
     for phase in PHASES {
         for (u, s) in [(0, 0), (0, 1), (1, 0), (1, 1), (255, 0), (255, 1)] {
             for asked in ["panel", "icon bar"] {
@@ -119,6 +125,9 @@ pub fn wanted() -> Vec<String> {
         "elapsed runs over",
         "poll of a long key without repeat code",
         "poll of a long key with Time2 0",
+        "poll at 120 of a long key with times 12;0: nothing",
+        "poll at 120 of a long key with times 12;12: a code",
+        "poll at 119 of a long key with times 12;12: nothing",
         "press while a key is held",
         "release of a key not held",
         "poll with none held",
@@ -202,6 +211,20 @@ impl Cover {
                     _ => (),
                 }
             }
+        }
+        let power = match call {
+            Call::PowerOn => Some(("power-on", power_on())),
+            Call::FormerPowerOn => Some(("former power-on", former_power_on())),
+            _ => None,
+        };
+        if let Some((power, record)) = power {
+            let from = match faults(before)[..] {
+                _ if *before == record => "from itself",
+                _ if [power_on(), former_power_on()].contains(before) => "from the other",
+                [] => "in range",
+                _ => "out of range",
+            };
+            self.add(format!("{power} {from}"));
         }
         match (call, answer) {
             (_, Answer::What) => {
@@ -375,6 +398,12 @@ impl Cover {
         if edges.is_empty() {
             self.add("empty log");
         }
+        if *before == power_on() {
+            self.add("key log right after power-on");
+        }
+        if *before == former_power_on() {
+            self.add("key log right after former power-on");
+        }
         match edges.get(used) {
             Some(255) => self.add("log stops at a poll"),
             Some(_) => self.add("log stops at a release"),
@@ -420,6 +449,13 @@ impl Cover {
                 _ => (),
             }
             let (rule, code) = keys::take(&mut record, now, edge);
+            if edge == keys::Edge::Poll && held.long {
+                let after = now.wrapping_sub(held.tick);
+                let times = format!("{};{}", record.time1, record.time2);
+                let what = if code.is_some() { "a code" } else { "nothing" };
+                let name = format!("poll at {after} of a long key with times {times}: {what}");
+                self.add(name);
+            }
             if let Some(rule) = rule {
                 self.add(format!("rule {rule}"));
             }

@@ -11,7 +11,7 @@ use crate::seen::PHASES;
 use crate::writers;
 
 /// The letters of all calls; X stands for lines that can't be taken.
-pub const KINDS: &str = "PSRFKCBQMVWTGX";
+pub const KINDS: &str = "POSRFKCBQMVWTGX";
 
 /// Values around the ends of the ranges.
 const EDGES: [u16; 44] = [
@@ -112,9 +112,7 @@ impl Generator {
 
     fn episode(&mut self) {
         match self.rng.below(100) {
-            0 => {
-                self.emit(Call::PowerOn);
-            }
+            0 => self.power(),
             1..=34 => self.streams(),
             35..=49 => self.key_logs(),
             50..=54 => self.seconds(),
@@ -134,6 +132,30 @@ impl Generator {
                     self.pending.clear();
                 }
             }
+        }
+    }
+
+    // Power.
+
+    /// One of the two power-on records, and perhaps a key held long from it.
+    fn power(&mut self) {
+        for _ in 0..self.rng.pick(&[1, 1, 1, 2, 3]) {
+            let former = self.has('O') && (self.rng.one_in(2) || !self.has('P'));
+            self.emit(if former {
+                Call::FormerPowerOn
+            } else {
+                Call::PowerOn
+            });
+        }
+        if self.rng.one_in(2) {
+            let key = self.rng.below(19) as u8;
+            let polls = [119, 120, 121, 239, 240, 241, 361, 362];
+            self.now = self.rng.next() as u16;
+            let mut ticks = vec![self.now];
+            ticks.extend(polls.map(|after| self.now.wrapping_add(after)));
+            let edges = [&[key][..], &[255; 8]].concat();
+            let room = self.rng.below(4) as u16;
+            self.emit(Call::Keys { room, ticks, edges });
         }
     }
 
@@ -638,7 +660,7 @@ impl Generator {
     /// Fields out of range, some calls on them, and back again.
     fn out_of_range(&mut self) {
         if !self.has('S') || !in_range(&self.record) {
-            self.emit(Call::PowerOn);
+            self.power();
             return;
         }
         let kept = self.record.clone();
@@ -672,8 +694,8 @@ impl Generator {
                 _ => self.question(),
             }
         }
-        if self.rng.one_in(25) && self.has('P') {
-            self.emit(Call::PowerOn);
+        if self.rng.one_in(25) && (self.has('P') || self.has('O')) {
+            self.power();
         } else {
             for (field, place) in touched {
                 let old = get(&kept, field, place);
@@ -1326,7 +1348,7 @@ fn sender(rng: &mut Rng, pieces: usize) -> Vec<u8> {
 
 /// A line that can't be taken, or an empty one.
 fn misfit(rng: &mut Rng) -> Vec<u8> {
-    const LINES: [&str; 69] = [
+    const LINES: [&str; 73] = [
         "",
         " ",
         "Z",
@@ -1337,6 +1359,10 @@ fn misfit(rng: &mut Rng) -> Vec<u8> {
         "PP",
         "P\r",
         "P 00",
+        "o",
+        "O 00",
+        "O 0",
+        "OP",
         "R 00",
         "C 00",
         "B 00",

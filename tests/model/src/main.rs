@@ -23,7 +23,7 @@
 //!   reach; exit status 1 if something isn't reached.
 //!
 //! KINDS is a list of call letters, for instance `PSRF`; without it all
-//! (`PSRFKCBQMVWTGX`, where X stands for lines that can't be taken).
+//! (`POSRFKCBQMVWTGX`, where X stands for lines that can't be taken).
 
 mod compare;
 mod cover;

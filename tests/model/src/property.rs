@@ -1,7 +1,8 @@
 //! Checks of the model against itself.
 
+use crate::effect;
 use crate::generate::{random_record, stream_of};
-use crate::grammar::{readings, Command};
+use crate::grammar::{readings, spelt, Command};
 use crate::keys;
 use crate::ranges::in_range;
 use crate::record::*;
@@ -122,7 +123,7 @@ pub fn no_effect(seed: u64) -> Result<(), String> {
         let Part::Closed(body) = part else { continue };
         let good = readings(&body);
         let bad = body.len() > FRAME || good.is_empty();
-        let silent = good.iter().any(|good| !crate::effect::obeyed(&start, good));
+        let silent = good.iter().any(|good| !effect::obeyed(&start, good));
         if !bad && !silent {
             continue;
         }
@@ -245,6 +246,58 @@ pub fn log_cutting(seed: u64) -> Result<(), String> {
     }
 }
 
+/// A stream with no obeyed IT frame, read from two records that differ in
+/// Time2 at most, gives the same answers and records that differ in Time2 at
+/// most. An obeyed IT frame makes them equal.
+pub fn time2_alone(seed: u64) -> Result<(), String> {
+    let mut rng = Rng::new(seed ^ 0x712);
+    let start = if rng.one_in(3) {
+        power_on()
+    } else {
+        random_record(seed)
+    };
+    let mut other = start.clone();
+    other.time2 = rng.pick(&[0, 4, 12, 50]);
+    if start == power_on() && rng.one_in(2) {
+        other = former_power_on();
+    }
+    let times = |part: &Part| match part {
+        Part::Closed(body) if body.len() <= FRAME => spelt(body)
+            .is_some_and(|good| good.command == Command::Times && effect::obeyed(&start, &good)),
+        _ => false,
+    };
+    let bytes = loop {
+        let mut bytes = stream_of(&mut rng, 12);
+        if rng.one_in(3) {
+            bytes.extend(rng.pick(&[&b"\x1BIT3;4\r"[..], b"\x1BIT4;51\r", b"\x1BIT12;3\r\n"]));
+        }
+        let parts = stream::parts_of_call(&start, &bytes);
+        if !parts.iter().any(|(part, _)| times(part)) {
+            break bytes;
+        }
+    };
+    let mut ends = [start.clone(), other.clone()].map(|mut record| {
+        let mut answers = vec![0; bytes.len()];
+        let counts = stream::call(&mut record, &bytes, &mut answers);
+        (record, counts, answers)
+    });
+    let kept = ends[0].0.time2 == start.time2 && ends[1].0.time2 == other.time2;
+    ends[1].0.time2 = start.time2;
+    if !kept || ends[0] != ends[1] {
+        return Err(format!("seed {seed}: Time2 changed something"));
+    }
+    ends[1].0.time2 = other.time2;
+    let [first, second] = ends.map(|(mut record, _, _)| {
+        stream::call(&mut record, b"\x1B\x1BIT20;8\r", &mut [0; 4]);
+        record
+    });
+    if first == second && first.time2 == 8 {
+        Ok(())
+    } else {
+        Err(format!("seed {seed}: an IT frame leaves them apart"))
+    }
+}
+
 /// The phase is seen in the SMS panel of the flashing letter alone: there the
 /// pause shows what U 0 shows, and lit what U 1 shows.
 pub fn phases(seed: u64) -> Result<(), String> {
@@ -279,12 +332,13 @@ pub fn phases(seed: u64) -> Result<(), String> {
 type Check = fn(u64) -> Result<(), String>;
 
 /// All checks that take a seed.
-pub const CHECKS: [(&str, Check); 7] = [
+pub const CHECKS: [(&str, Check); 8] = [
     ("cutting a stream elsewhere changes nothing", cutting),
     ("the parts are the stream", parts_join),
     ("a frame has one reading", one_reading),
     ("bad and out-of-range frames change nothing", no_effect),
     ("labels and pictures read back", rows_read_back),
     ("cutting a key log elsewhere changes nothing", log_cutting),
+    ("Time2 changes no stream", time2_alone),
     ("the phase changes the flashing letter alone", phases),
 ];

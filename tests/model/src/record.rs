@@ -1,5 +1,5 @@
 //! The record of the handset, held in types that can be out of range,
-//! and its power-on value.
+//! and its power-on values.
 
 /// Bytes that part a stream.
 pub const ESC: u8 = 0x1B;
@@ -102,6 +102,7 @@ pub const NO_FRAME: Frame = Frame {
     bytes: [0; FRAME],
 };
 
+/// At power-on no key repeats.
 pub fn power_on() -> Record {
     Record {
         display: true,
@@ -122,7 +123,7 @@ pub fn power_on() -> Record {
             hidden: false,
         },
         time1: 12,
-        time2: 12,
+        time2: 0,
         buzzer: 0,
         backlight: Backlight {
             mode: 0,
@@ -132,6 +133,14 @@ pub fn power_on() -> Record {
         },
         held: NO_KEY,
         frame: NO_FRAME,
+    }
+}
+
+/// The power-on record of the former defaults: Time2 alone is another.
+pub fn former_power_on() -> Record {
+    Record {
+        time2: 12,
+        ..power_on()
     }
 }
 

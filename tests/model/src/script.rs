@@ -19,6 +19,7 @@ const FIELDS: u16 = 36;
 #[derive(Clone, PartialEq, Eq, Debug)]
 pub enum Call {
     PowerOn,
+    FormerPowerOn,
     Set {
         field: u16,
         place: u16,
@@ -128,6 +129,7 @@ fn phase(byte: u8) -> Option<Phase> {
 fn with_bytes(letter: u8, bytes: &[u8]) -> Option<Call> {
     match (letter, bytes) {
         (b'P', []) => Some(Call::PowerOn),
+        (b'O', []) => Some(Call::FormerPowerOn),
         (b'R', []) => Some(Call::InRange),
         (b'C', []) => Some(Call::Second),
         (b'B', []) => Some(Call::Thin),
@@ -245,7 +247,8 @@ pub fn line(call: &Call) -> Vec<u8> {
         Call::Picture { room, row, columns } => {
             [&room.to_be_bytes()[..], &[*row], columns].concat()
         }
-        Call::PowerOn | Call::InRange | Call::Second | Call::Thin | Call::Volume => vec![],
+        Call::PowerOn | Call::FormerPowerOn => vec![],
+        Call::InRange | Call::Second | Call::Thin | Call::Volume => vec![],
     };
     with_pairs(&letter(call).to_string(), &bytes).into_bytes()
 }
@@ -298,6 +301,10 @@ pub fn perform(record: &mut Record, call: &Call) -> Answer {
     match call {
         Call::PowerOn => {
             *record = power_on();
+            Answer::Done
+        }
+        Call::FormerPowerOn => {
+            *record = former_power_on();
             Answer::Done
         }
         Call::Set {
@@ -462,6 +469,7 @@ fn put_lent(
 pub fn letter(call: &Call) -> char {
     match call {
         Call::PowerOn => 'P',
+        Call::FormerPowerOn => 'O',
         Call::Set { .. } => 'S',
         Call::InRange => 'R',
         Call::Stream { .. } => 'F',

@@ -1,0 +1,154 @@
+-- HOLDING A KEY SHOULDN'T REPEAT (request T-05). The power-on record has Time2 0; the one of the former defaults differs from it in
+-- Time2 alone. Any two records in range that do so are told apart by no stream in which no key times are set. Assumes nothing.
+use Prim.Native.Nat.{ℕ, _≤_}
+use mathlib.Core.Path.{_≡_, refl, sym, ap, _∙_, subst}
+use mathlib.Core.Bool.{true, false, cond, true≢false}
+use mathlib.Core.List.{List, [], _∷_, _++_}
+use mathlib.Core.Option.{Option, none, some}
+use lib.Dec.{ltb}
+use lib.ListN.{length}
+use Rattle.lists.specs.Codes.{questionMark}
+use Rattle.lists.specs.Tests.{by-test}
+use Rattle.record.specs.declared.Record.{Record}
+use Rattle.record.specs.declared.Frame.{Frame as KeptFrame}
+use Rattle.record.specs.PowerOn.{powerOn, formerPowerOn}
+use Rattle.record.specs.Range.{inRange, rowEndOf}
+use Rattle.record.specs.With.{withSettings, withTimes, withTime2}
+use Rattle.command.specs.Order.{Order, plain, label, draw}
+use Rattle.command.specs.Grammar.{Spells}
+use Rattle.command.specs.InRange.{inRangeInMode}
+use Rattle.command.specs.Reading.{orderOf}
+use Rattle.command.specs.Agree.{agree}
+use Rattle.command.specs.declared.Command.the-variants.{DisplayOff, DisplayOn, Mode, CursorShown, CursorHidden, Clear, Position, LabelsEmpty, IconS, IconU, IconF, IconR, IconP, IconW, Private, Handsfree, HandsfreeOfNote, Mute, KeyTimes, Buzzer, Light, LightOn, LightAutoStart, LightAuto, DefaultDuration, KeypadSet, KeypadCleared}
+use Rattle.command.specs.declared.Side.the-variants.{Left, Right}
+use Rattle.effect.specs.Core.{Core, coreOf, onSettings}
+use Rattle.effect.specs.Effect.{effect, carryOut, storeText}
+use Rattle.effect.specs.Obey.{obeyOrder, isGood}
+use Rattle.turns.specs.Taking.{Taken}
+use Rattle.turns.specs.Room.{Ran, room-for-all}
+use Rattle.parting.specs.Rules.{Parted, Parting, Stands}
+use Rattle.parting.specs.Meaning.{Answered, State, with, taking}
+use Rattle.parting.specs.Frames.{EachClosed}
+use Rattle.parting.specs.Alike.{AnsweredAlike, KeepsAgreeing, TakenAlike, alike}
+use Rattle.parting.specs.Reading.{step}
+use Rattle.parting.specs.Stream.{stream}
+use Rattle.parting.specs.Room.{run}
+use Rattle.stream.specs.Stream.{handset, obeyFrame, frameIn, stateOf}
+use Rattle.stream.specs.Demand.{HandedBack, fedBack, takenFrom, ranBack, back-is-run}
+
+-- a record, and what a stream can change of it, with another Time2 and nothing else changed
+abbrev pub otherTime2 : ℕ → Record → Record
+otherTime2 n r = withSettings r (withTimes (r .settings) (withTime2 (r .settings .times) n))
+
+abbrev coreOtherTime2 : ℕ → Core → Core
+coreOtherTime2 n c = onSettings c (withTimes (c .settings) (withTime2 (c .settings .times) n))
+
+-- a frame that sets no key times: where it is an IT frame, its times are out of range
+abbrev pub SetsNoTimes : List ℕ → Type 0
+SetsNoTimes frame = (mode time1 time2 : ℕ) → Spells (plain (KeyTimes time1 time2)) frame → inRangeInMode mode (plain (KeyTimes time1 time2)) ≡ false
+
+-- THE STATEMENT: from a record in range and the same with another Time2, a stream in whose parting no closed frame sets key times, and
+-- room for all answers: the same bytes are used, the same answers written, and the records still differ in that Time2 alone.
+pub record HeldKeys : Type 0 where
+  pub former-differs : formerPowerOn ≡ otherTime2 12 powerOn
+  pub time2-alone : (r : Record) (n : ℕ) → inRange r ≡ true → inRange (otherTime2 n r) ≡ true → (before : List ℕ) → Stands (stateOf r .frame) before
+      → (bytes lent : List ℕ) {parted : Parted} → Parting (before ++ bytes) parted → EachClosed SetsNoTimes parted → length (takenFrom r parted .answers) ≤ length lent
+      → (let back = fedBack r bytes lent in
+      fedBack (otherTime2 n r) bytes lent ≡ record { after = otherTime2 n (back .after); used = back .used; written = back .written; buffer = back .buffer })
+
+-- The proof ---------------------------------------------------------------------------------------------------------
+
+module _ (n : ℕ) where
+  -- No order reads Time2, and IT alone sets it.
+  effect-alike : (o : Order) (c : Core) → ((time1 time2 : ℕ) → o ≡ plain (KeyTimes time1 time2) → ⊥) → effect o (coreOtherTime2 n c) ≡ coreOtherTime2 n (effect o c)
+  effect-alike (plain DisplayOff) c h = refl
+  effect-alike (plain DisplayOn) c h = refl
+  effect-alike (plain (Mode m)) c h = refl
+  effect-alike (plain CursorShown) c h = refl
+  effect-alike (plain CursorHidden) c h = refl
+  effect-alike (plain Clear) c h = refl
+  effect-alike (plain (Position row column)) c h = refl
+  effect-alike (plain LabelsEmpty) c h = refl
+  effect-alike (label Left t) c h = refl
+  effect-alike (label Right t) c h = refl
+  effect-alike (plain (IconS m)) c h = refl
+  effect-alike (plain (IconU m)) c h = refl
+  effect-alike (plain (IconF m)) c h = refl
+  effect-alike (plain (IconR m)) c h = refl
+  effect-alike (plain (IconP m)) c h = refl
+  effect-alike (plain (IconW m)) c h = refl
+  effect-alike (plain (Private m)) c h = refl
+  effect-alike (plain (Handsfree m)) c h = refl
+  effect-alike (plain (HandsfreeOfNote m)) c h = refl
+  effect-alike (plain (Mute m)) c h = refl
+  effect-alike (plain (KeyTimes time1 time2)) c h = absurd (h time1 time2 refl)
+  effect-alike (plain (Buzzer m)) c h = refl
+  effect-alike (plain (Light m)) c h = refl
+  effect-alike (plain LightOn) c h = refl
+  effect-alike (plain LightAutoStart) c h = refl
+  effect-alike (plain LightAuto) c h = refl
+  effect-alike (plain DefaultDuration) c h = refl
+  effect-alike (plain KeypadSet) c h = refl
+  effect-alike (plain KeypadCleared) c h = refl
+  effect-alike (draw row columns) c h = refl
+
+  carried-alike : (o : Order) (c : Core) (frame : List ℕ) → SetsNoTimes frame → Spells o frame → carryOut o (coreOtherTime2 n c) ≡ coreOtherTime2 n (carryOut o c)
+  unfolding carryOut
+  carried-alike o c frame sets s =
+      by-test (inRangeInMode (c .settings .screen .mode) o)
+      (λ inside.
+      rw inside
+      (effect-alike o c (λ time1 time2 e.
+      true≢false (sym inside ∙ ap (inRangeInMode (c .settings .screen .mode)) e ∙ sets (c .settings .screen .mode) time1 time2 (subst (λ (x : Order). Spells x frame) e s)))))
+      (λ outside. rw outside)
+
+  abbrev Agree : Core → Core → Type 0
+  Agree one other = other ≡ coreOtherTime2 n one
+
+  stored-alike : (c : Core) (b : ℕ) → storeText (coreOtherTime2 n c) b ≡ coreOtherTime2 n (storeText c b)
+  unfolding storeText
+  stored-alike c b = by-test (ltb (c .settings .screen .column) (rowEndOf (c .settings .screen .mode))) (λ e. rw e) (λ e. rw e)
+
+  obeyed-alike : (c : Core) (frame : List ℕ) → SetsNoTimes frame → obeyFrame (coreOtherTime2 n c) frame ≡ record { core = coreOtherTime2 n (obeyFrame c frame .core); answers = obeyFrame c frame .answers }
+  obeyed-alike c frame sets = go (orderOf frame) refl
+    where
+      go : (found : Option Order) → orderOf frame ≡ found
+          → obeyFrame (coreOtherTime2 n c) frame ≡ record { core = coreOtherTime2 n (obeyFrame c frame .core); answers = obeyFrame c frame .answers }
+      go none e = rw e
+      go (some o) e = rw e (λ j. record { core = carried-alike o c frame sets (agree o frame .0 e) j; answers = [] })
+
+  keeps : KeepsAgreeing handset Agree SetsNoTimes
+  keeps =
+      record {
+        stored = λ one other b e. ap (λ (d : Core). storeText d b) e ∙ stored-alike one b;
+        obeyed = λ one other frame sets l e.
+            let same = ap (λ (d : Core). obeyFrame d frame) e ∙ obeyed-alike one frame sets in
+            record { core = ap (λ (a : Answered Core). a .core) same; answers = sym (ap (λ (a : Answered Core). a .answers) same) };
+        refused = λ one other e. refl;
+      }
+
+  module _ (r : Record) (good : inRange r ≡ true) (good′ : inRange (otherTime2 n r) ≡ true) {before : List ℕ} (stands : Stands (stateOf r .frame) before)
+      (bytes lent : List ℕ) {parted : Parted} (p : Parting (before ++ bytes) parted) where
+    -- With room for all answers a call has taken all parts.
+    took : (q : Record) → inRange q ≡ true → q .frame ≡ r .frame → length (taking handset (coreOf q) parted .answers) ≤ length lent
+        → fedBack q bytes lent ≡ (let t = taking handset (coreOf q) parted in ranBack (q .held) (record { state = t .state; used = length bytes; answers = t .answers }) lent)
+    took q in-range same fits =
+        let read = stream handset (stateOf q) bytes (subst (λ (f : KeptFrame). Stands (frameIn (f .state) (f .len) (f .bytes)) before) (sym same) stands) p in
+        let ran = room-for-all (step handset) (stateOf q) bytes (length lent) (subst (λ (t : Taken (State Core)). length (t .answers) ≤ length lent) (sym read) fits) in
+        back-is-run q bytes lent in-range
+        ∙ ap (λ (t : Ran (State Core)). ranBack (q .held) t lent) ran
+        ∙ ap (λ (t : Taken (State Core)). ranBack (q .held) (record { state = t .state; used = length bytes; answers = t .answers }) lent) read
+
+    apart : EachClosed SetsNoTimes parted → length (takenFrom r parted .answers) ≤ length lent
+        → (let back = fedBack r bytes lent in
+        fedBack (otherTime2 n r) bytes lent ≡ record { after = otherTime2 n (back .after); used = back .used; written = back .written; buffer = back .buffer })
+    apart each fits =
+        let both : TakenAlike Agree (taking handset (coreOf r) parted) (taking handset (coreOf (otherTime2 n r)) parted) =
+        alike handset Agree SetsNoTimes keeps (coreOf r) (coreOf (otherTime2 n r)) parted each refl
+        in
+        took (otherTime2 n r) good′ refl (subst (λ (a : List ℕ). length a ≤ length lent) (both .answers) fits)
+        ∙ (λ j. ranBack (r .held) (record { state = with (both .core j) (sym (both .frame) j); used = length bytes; answers = sym (both .answers) j }) lent)
+        ∙ ap (λ (b : HandedBack). record { after = otherTime2 n (b .after); used = b .used; written = b .written; buffer = b .buffer }) (sym (took r good refl fits))
+
+pub held-keys : HeldKeys
+held-keys = record { former-differs = refl; time2-alone = λ r n good good′ before stands bytes lent p each fits. apart n r good good′ stands bytes lent p each fits }
