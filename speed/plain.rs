@@ -89,7 +89,7 @@ pub struct Fed {
 }
 
 fn number(digits: &[u8]) -> Option<u16> {
-    if digits.is_empty() || digits.len() > 3 {
+    if digits.is_empty() || digits.len() > 3 || (digits[0] == b'0' && digits.len() > 1) {
         return None;
     }
     let mut n = 0;
@@ -353,7 +353,7 @@ impl Handset {
                 picture: [0; 672],
                 icons: [0; 6],
                 volume: Volume { which: 0, level: 0, mute: false, hidden: false },
-                times: [12, 12],
+                times: [12, 0],
                 buzzer: 0,
                 backlight: Backlight { mode: 0, duration: 30, left: 0, keypad: false },
             },

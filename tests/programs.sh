@@ -299,11 +299,11 @@ refused() { # LINE REASON: the second of three lines is named with its number, a
     same "write_frame writes nothing of '${1:0:24}'" "$work/others" <"$work/out"
 }
 refused 'lefty Keep' 'no such command; the line help lists them'
-for line in 'mode' 'mode five' 'mode 5 6' 'icon P 0001' 'private 1 2' 'light 1 2 3'; do
-    refused "$line" 'one number of one to three digits is wanted'
+for line in 'mode' 'mode five' 'mode 5 6' 'icon P 0001' 'icon P 05' 'private 1 2' 'light 1 2 3'; do
+    refused "$line" 'one number of one to three digits is wanted, and no leading zero'
 done
 for line in 'at 1' 'at 1 2 3' 'at a 2' 'times'; do
-    refused "$line" 'two numbers of one to three digits are wanted'
+    refused "$line" 'two numbers of one to three digits are wanted, and no leading zero'
 done
 for line in 'clear 5' 'display on off' 'light auto keep it'; do
     refused "$line" 'nothing is wanted behind these words'

@@ -5,6 +5,7 @@ pub mod Reading
 pub mod Complete
 pub mod Sound
 pub mod Agree
+pub mod OneSpelling
 pub mod Facts
 pub mod Found
 pub mod Cases

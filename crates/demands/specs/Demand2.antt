@@ -18,10 +18,12 @@ use Rattle.record.specs.Range.{inRange, backlightInRange}
 use Rattle.picture.specs.Data.{Bytes}
 use Rattle.command.specs.declared.Command.{Command}
 use Rattle.command.specs.declared.Side.{Side}
+use Rattle.command.specs.declared.Side.the-variants.{Left, Right}
 use Rattle.command.specs.Order.{Order, plain, label, draw}
-use Rattle.command.specs.Grammar.{Spells}
+use Rattle.command.specs.Grammar.{form, Spells}
 use Rattle.command.specs.InRange.{commandInRange, mostRows, inRangeInMode}
 use Rattle.command.specs.Agree.{one-order}
+use Rattle.command.specs.OneSpelling.{NoData, one-frame, no-data}
 use Rattle.effect.specs.Core.{Core, coreOf}
 use Rattle.effect.specs.Effect.{effect, carryOut}
 use Rattle.effect.specs.Fields.{Field, read, sets}
@@ -45,13 +47,18 @@ use Rattle.seen.specs.Rows.{contents, rowSeen, smsSeen, volumeSeen}
 use Rattle.seen.specs.Laws.{seen-row, panels-told, steady-unseen}
 use Rattle.writer_ranges.specs.Fitting.{isLabel, isRow}
 use Rattle.writer.specs.Writing.{bodyOf, labelBody, rowBody}
-use Rattle.writer.specs.ReadBack.{AfterZero, command-written, label-written, row-written}
+use Rattle.writer.specs.ReadBack.{AfterZero, command-reads-back, label-reads-back, command-written, label-written, row-written}
 use Rattle.demands.specs.HeldKeys.{HeldKeys, held-keys}
 use Rattle.demands.specs.Frames.{silent, wholeFrame, withCore, closed-obeyed, good-whole}
 
 pub record Demand2 : Type 0 where
   -- A frame is good when the grammar has an order that it spells, and it spells no second one.
   pub one-meaning : (o other : Order) (frame : List ℕ) → Spells o frame → Spells other frame → o ≡ other
+  -- And an order that carries no picture data has one spelling (request T-02): two different good frames never mean the same command;
+  -- so what the writers write for a command or a label is its only spelling.
+  pub one-spelling : (o : Order) (frame other : List ℕ) → NoData (form o) → Spells o frame → Spells o other → frame ≡ other
+  pub command-spelling : (c : Command) (frame : List ℕ) → commandInRange mostRows c ≡ true → Spells (plain c) frame → frame ≡ bodyOf c
+  pub label-spelling : (side : Side) (codes frame : List ℕ) → isLabel codes ≡ true → Spells (label side codes) frame → frame ≡ labelBody side codes
   -- A good frame in range has its order's effect, in silence: as a part of the stream,
   pub obeyed : (c : Core) (frame : List ℕ) (o : Order) → Spells o frame → inRangeInMode (c .settings .screen .mode) o ≡ true → act handset c (closed frame) ≡ silent (effect o c)
   -- and of the call on ESC, frame, CR, from a record in range with no frame open, whatever the room.
@@ -101,10 +108,17 @@ pub record Demand2 : Type 0 where
 
 -- The proof ---------------------------------------------------------------------------------------------------------
 
+label-once : (side : Side) (codes frame : List ℕ) → isLabel codes ≡ true → Spells (label side codes) frame → frame ≡ labelBody side codes
+label-once Left codes frame h s = one-frame (label Left codes) frame _ tt s (label-reads-back Left codes h .spells)
+label-once Right codes frame h s = one-frame (label Right codes) frame _ tt s (label-reads-back Right codes h .spells)
+
 pub demand2 : Demand2
 demand2 =
     record {
       one-meaning = one-order;
+      one-spelling = one-frame;
+      command-spelling = λ c frame h s. one-frame (plain c) frame (bodyOf c) (no-data c) s (command-reads-back c h .spells);
+      label-spelling = label-once;
       obeyed = closed-obeyed;
       obeyed-called = good-whole;
       no-other = stays;

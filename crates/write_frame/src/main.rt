@@ -1,6 +1,6 @@
 // Writes the frames of a collector from lines of plain words. Its input, a file or standard input, has a command on each line;
 // standard output gets the bytes of its frame, through the proved writers. A line that can't be taken is named on standard error,
-// with its number and the reason, and nothing of it is written. Words are parted by blanks and numbers have one to three digits.
+// with its number and the reason, and nothing of it is written. Words are parted by blanks and numbers have one to three digits, without leading zeros.
 // An empty line says nothing, and so does one that begins with #. A line has at most 1024 bytes, and may end with CR LF. The
 // usage below has the lines.
 ghost use Prim.Native.Nat.{_≤_};
@@ -545,8 +545,14 @@ fn refuse_range(phrase: u8, number: u64) {
 // A phrase that wants no number wants no word at all behind it.
 fn refuse_numbers(wanted: u8, number: u64) {
     match wanted {
-        1 => refuse(number, b": one number of one to three digits is wanted\n"),
-        2 => refuse(number, b": two numbers of one to three digits are wanted\n"),
+        1 => refuse(
+            number,
+            b": one number of one to three digits is wanted, and no leading zero\n",
+        ),
+        2 => refuse(
+            number,
+            b": two numbers of one to three digits are wanted, and no leading zero\n",
+        ),
         _ => refuse(number, b": nothing is wanted behind these words\n"),
     }
 }

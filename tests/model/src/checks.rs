@@ -243,20 +243,21 @@ fn clear_under_an_overlay() {
 fn modes_and_overlays() {
     let mut record = full();
     (record.row, record.column) = (2, 16);
-    for (body, mode) in [("ID0", 0), ("ID01", 1), ("ID005", 5), ("ID6", 6)] {
+    for (body, mode) in [("ID0", 0), ("ID1", 1), ("ID5", 5), ("ID6", 6)] {
         obeyed(&record, body, |r| {
             (r.mode, r.overlay, r.row, r.column) = (mode, 0, 0, 0);
         });
     }
-    for (body, overlay) in [("ID011", 11), ("ID12", 12), ("ID13", 13)] {
+    for (body, overlay) in [("ID11", 11), ("ID12", 12), ("ID13", 13)] {
         obeyed(&record, body, |r| r.overlay = overlay);
     }
     for body in ["ID2", "ID10", "ID14", "ID18", "ID999", "ID7"] {
         silent(&record, body);
     }
     for body in [
-        "ID", "IDe", "IDd", "ID0011", "ID1 ", "ID-1", "IDDE", "IDD0", "IV4", "IA", "IA5", "IH",
-        "IZ1", "IX", "&V", "[K", "&", "&CC", "[1H", "[1;2;3H", "[;1H", "[1;H", "[1;2h", "",
+        "ID", "IDe", "IDd", "ID0011", "ID00", "ID01", "ID005", "ID011", "ID1 ", "ID-1", "IDDE",
+        "IDD0", "IV4", "IA", "IA5", "IH", "IZ1", "IX", "&V", "[K", "&", "&CC", "[1H", "[1;2;3H",
+        "[;1H", "[1;H", "[1;2h", "",
     ] {
         bad(&record, body);
     }
@@ -272,10 +273,10 @@ fn modes_and_overlays() {
 #[test]
 fn numbers() {
     let record = power_on();
-    obeyed(&record, "IP007", |r| r.icons[ICON_P] = 7);
-    obeyed(&record, "[003;015H", |r| (r.row, r.column) = (3, 15));
+    obeyed(&record, "IP7", |r| r.icons[ICON_P] = 7);
+    obeyed(&record, "[3;15H", |r| (r.row, r.column) = (3, 15));
     let full = full();
-    obeyed(&full, "IE000", |r| {
+    obeyed(&full, "IE0", |r| {
         (r.backlight.mode, r.backlight.left) = (0, 0);
     });
     for body in ["IK00", "IK01", "IK", "IK3", "IK4x", "IP", "IPx", "IP1x"] {
@@ -314,6 +315,50 @@ fn numbers() {
         bad(&full, &format!("{body}{wrong:04}"));
     }
     obeyed(&full, "IB255", |r| r.buzzer = 255);
+}
+
+#[test]
+fn one_spelling_of_a_number() {
+    let full = full();
+    for body in [
+        "IP05", "IP005", "IP0001", "ID00", "IE000", "IE00", "IE030", "[03;5H", "[3;05H", "[00;0H",
+        "[0;00H", "IT04;4", "IT4;04", "IT4;00", "IS00", "IU01", "IF06", "IR01", "IP020", "IW03",
+        "IL04", "IJ04", "II04", "IM01", "IB077", "IB0",
+    ] {
+        if body == "IB0" {
+            obeyed(&full, body, |r| r.buzzer = 0);
+        } else {
+            bad(&full, body);
+        }
+    }
+    // Digits that are no number.
+    obeyed(&full, "IK1007", |r| r.left = label_of(b"007"));
+    obeyed(&full, "IK200", |r| r.right = label_of(b"00"));
+    obeyed(&full, "Gr0,00z", |r| r.picture[0] = 0);
+    bad(&full, "IK00");
+    bad(&full, "Gr00,00z");
+    // Every row of up to four digits: 0 to 999 are spelt once each.
+    let mut values = vec![];
+    for digits in 1..=4 {
+        for n in 0..10_u16.pow(digits) {
+            let spelling = format!("{n:0width$}", width = digits as usize);
+            let good = spelt(format!("IB{spelling}").as_bytes());
+            let plain = n < 1000 && n.to_string() == spelling;
+            assert_eq!(good.is_some(), plain, "{spelling}");
+            values.extend(good.map(|good| good.numbers[0]));
+        }
+    }
+    assert_eq!(values, (0..1000).collect::<Vec<u16>>());
+    // Commands by their letters, though some have one effect.
+    let all = [
+        "IL0", "IJ0", "II0", "IE30", "IER", "IP20", "IP21", "IK0", "IK1",
+    ];
+    for (place, one) in all.iter().enumerate() {
+        for other in &all[..place] {
+            assert_ne!(spelt(one.as_bytes()), spelt(other.as_bytes()));
+        }
+        assert!(spelt(one.as_bytes()).is_some());
+    }
 }
 
 #[test]

@@ -2,8 +2,8 @@
 
 use std::collections::BTreeMap;
 
-use crate::generate::{distance, REFUSABLE};
-use crate::grammar::{count_of_numbers, spelt, SHAPES};
+use crate::generate::{distance, number_commands, REFUSABLE};
+use crate::grammar::{count_of_numbers, spelt, Command, SHAPES};
 use crate::keys::{self, KEYS};
 use crate::ranges::faults;
 use crate::record::*;
@@ -24,6 +24,27 @@ pub fn wanted() -> Vec<String> {
         names.push(format!("frame {command:?} obeyed"));
         if count_of_numbers(command) > 0 {
             names.push(format!("frame {command:?} passed over"));
+        }
+    }
+    for command in number_commands() {
+        names.push(format!("frame {command:?} with the number 0"));
+        names.push(format!("padded zero in {command:?}"));
+        for zeros in 1..=2 {
+            for place in 0..count_of_numbers(command) {
+                names.push(format!(
+                    "{zeros} zeros before number {place} of {command:?}"
+                ));
+            }
+        }
+        names.push(format!("padded {command:?}, else obeyed"));
+        // A number above 255 has no room for a zero.
+        if ![Command::Buzzer, Command::LightNumber].contains(&command) {
+            names.push(format!("padded {command:?}, else passed over"));
+        }
+        names.push(format!("four digits in {command:?}"));
+        names.push(format!("a zero and three digits in {command:?}"));
+        if count_of_numbers(command) > 1 {
+            names.push(format!("all numbers of {command:?} padded"));
         }
     }
     for number in 0..COMMANDS {
@@ -150,6 +171,9 @@ pub fn wanted() -> Vec<String> {
         "frame closed with 250 bytes",
         "frame closed empty",
         "frame outside the grammar",
+        "label of zeros",
+        "IK00",
+        "picture row of two digits",
         "frame open before the call",
         "frame overlong before the call",
         "tail of 0 bytes",
@@ -350,8 +374,15 @@ impl Cover {
                     }
                     let Some(good) = spelt(body) else {
                         self.add("frame outside the grammar");
+                        self.see_bad(&record, body);
                         continue;
                     };
+                    if good.numbers.contains(&0) {
+                        self.add(format!("frame {:?} with the number 0", good.command));
+                    }
+                    if good.codes.starts_with(b"00") && body.starts_with(b"IK") {
+                        self.add("label of zeros");
+                    }
                     let how = if effect::obeyed(&record, &good) {
                         "obeyed"
                     } else {
@@ -371,6 +402,51 @@ impl Cover {
                 }
             }
         }
+    }
+
+    /// A frame outside the grammar: digits too many, zeros before a number.
+    fn see_bad(&mut self, record: &Record, body: &[u8]) {
+        if body == b"IK00" {
+            self.add("IK00");
+        }
+        if body.starts_with(b"Gr0") && body.get(4) == Some(&b',') {
+            self.add("picture row of two digits");
+        }
+        let (plain, zeros, longest) = without_zeros(body);
+        let Some(plain) = spelt(&plain) else {
+            return;
+        };
+        if plain.numbers.len() != zeros.len() {
+            return;
+        }
+        if let [first, _, _, _] = longest {
+            let what = match first {
+                b'0' => "a zero and three digits",
+                _ => "four digits",
+            };
+            self.add(format!("{what} in {:?}", plain.command));
+        }
+        if longest.len() > 3 {
+            return;
+        }
+        let command = plain.command;
+        for (place, zeros) in zeros.iter().enumerate() {
+            self.add(format!(
+                "{zeros} zeros before number {place} of {command:?}"
+            ));
+            if *zeros > 0 && plain.numbers[place] == 0 {
+                self.add(format!("padded zero in {command:?}"));
+            }
+        }
+        if zeros.len() > 1 && !zeros.contains(&0) {
+            self.add(format!("all numbers of {command:?} padded"));
+        }
+        let how = if effect::obeyed(record, &plain) {
+            "obeyed"
+        } else {
+            "passed over"
+        };
+        self.add(format!("padded {command:?}, else {how}"));
     }
 
     fn see_log(
@@ -523,6 +599,27 @@ impl Cover {
         };
         self.add(format!("owner {owner}"));
     }
+}
+
+/// A frame without the zeros before its numbers, and with three digits of
+/// those that have more; how many zeros stand before each number; and the
+/// longest of them.
+fn without_zeros(body: &[u8]) -> (Vec<u8>, Vec<usize>, &[u8]) {
+    let (mut plain, mut zeros, mut longest) = (vec![], vec![], &body[..0]);
+    for run in body.chunk_by(|a, b| a.is_ascii_digit() == b.is_ascii_digit()) {
+        if !run[0].is_ascii_digit() {
+            plain.extend(run);
+            continue;
+        }
+        let more = run.iter().take_while(|&&digit| digit == b'0').count();
+        let more = more.min(run.len() - 1);
+        plain.extend(run[more..].iter().take(3));
+        zeros.push(more);
+        if run.len() > longest.len() {
+            longest = run;
+        }
+    }
+    (plain, zeros, longest)
 }
 
 /// The same writer call with another room.

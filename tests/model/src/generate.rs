@@ -859,7 +859,10 @@ fn good_numbers(rng: &mut Rng, command: Command) -> Vec<u16> {
             rng.pick(&[4, 5, 8, 12, 20, 49, 50]),
             rng.pick(&[0, 4, 5, 8, 12, 50]),
         ],
-        Buzzer => vec![up_to(rng, 255)],
+        Buzzer => {
+            let any = up_to(rng, 255);
+            vec![rng.pick(&[any, any, any, 0, 9])]
+        }
         LightNumber => vec![rng.pick(&[0, 0, 1, 2, 3, 30, 255])],
         _ => vec![],
     }
@@ -918,25 +921,104 @@ fn data(rng: &mut Rng, columns: &[u8]) -> Vec<u8> {
     out
 }
 
-/// The bytes between ESC and CR of a command with these values. Numbers are
-/// padded at random, up to `digits`.
-fn body(rng: &mut Rng, command: Command, numbers: &[u16], rest: &[u8], digits: usize) -> Vec<u8> {
+/// The bytes between ESC and CR of a command with these values.
+fn body(command: Command, numbers: &[u16], rest: &[u8]) -> Vec<u8> {
+    let numbers: Vec<String> = numbers.iter().map(u16::to_string).collect();
+    body_of(command, &numbers, rest)
+}
+
+/// The same with the numbers spelt in any way.
+fn body_of(command: Command, numbers: &[String], rest: &[u8]) -> Vec<u8> {
     use crate::grammar::Piece::*;
     let mut numbers = numbers.iter();
     let mut out = vec![];
     for piece in crate::grammar::shape(command) {
         match piece {
             Is(word) => out.extend(*word),
-            Number => {
-                let width = rng.between(1, digits);
-                let n = numbers.next().copied().unwrap_or(0);
-                out.extend(format!("{n:0width$}").bytes());
-            }
-            Digit => out.extend(numbers.next().copied().unwrap_or(0).to_string().bytes()),
+            Number | Digit => out.extend(numbers.next().map_or("0", String::as_str).bytes()),
             Label | Data => out.extend(rest),
         }
     }
     out
+}
+
+/// Numbers of a command, in range or not, spelt with zeros before some of
+/// them: the body of a frame. Three digits at most, and rarely four.
+fn padded_body(rng: &mut Rng, command: Command) -> Vec<u8> {
+    let mut numbers = good_numbers(rng, command);
+    let place = rng.below(numbers.len());
+    match rng.below(6) {
+        0 | 1 => numbers[place] = just_above(rng, command, place),
+        2 => numbers[place] = rng.pick(&[0, 1, 4, 12, 99]),
+        _ => (),
+    }
+    let all = rng.one_in(4);
+    let one = rng.below(numbers.len());
+    let spelt: Vec<String> = numbers
+        .iter()
+        .enumerate()
+        .map(|(place, n)| {
+            let digits = n.to_string().len();
+            let most = if rng.one_in(12) { 4 } else { 3 };
+            let width = rng.between(digits + 1, most.max(digits + 1));
+            if all || place == one {
+                format!("{n:0width$}")
+            } else {
+                n.to_string()
+            }
+        })
+        .collect();
+    body_of(command, &spelt, &[])
+}
+
+/// The commands that carry a number (not the one digit of a picture row).
+pub fn number_commands() -> Vec<Command> {
+    SHAPES
+        .iter()
+        .filter(|(_, shape)| {
+            shape
+                .iter()
+                .any(|piece| matches!(piece, crate::grammar::Piece::Number))
+        })
+        .map(|(command, _)| *command)
+        .collect()
+}
+
+/// A frame with a padded number.
+fn padded_frame(rng: &mut Rng) -> Vec<u8> {
+    let command = rng.pick(&number_commands());
+    let body = padded_body(rng, command);
+    closed(rng, &body)
+}
+
+/// Bodies of frames that lie close together: few commands, few values, with
+/// and without zeros before the numbers, and whatever a stream brings.
+pub fn close_bodies(rng: &mut Rng, count: usize) -> Vec<Vec<u8>> {
+    let few = number_commands();
+    let few = [rng.pick(&few), rng.pick(&few), Command::LightNumber];
+    (0..count)
+        .map(|_| {
+            let command = match rng.below(4) {
+                0 => any_command(rng),
+                _ => rng.pick(&few),
+            };
+            let mut numbers = good_numbers(rng, command);
+            match numbers.first_mut() {
+                Some(first) if rng.one_in(2) => *first = rng.pick(&[0, 1, 5, 10, 12, 30, 256]),
+                _ => (),
+            }
+            let padded = few.contains(&command) && rng.one_in(3);
+            let rest: Vec<u8> = match command {
+                Command::Picture => b"00".to_vec(),
+                _ => (0..rng.below(3)).map(|_| rng.pick(b"012AB")).collect(),
+            };
+            if padded {
+                padded_body(rng, command)
+            } else {
+                body(command, &numbers, &rest)
+            }
+        })
+        .collect()
 }
 
 fn closed(rng: &mut Rng, body: &[u8]) -> Vec<u8> {
@@ -968,21 +1050,22 @@ fn good_frame(rng: &mut Rng) -> Vec<u8> {
         }
         _ => (0..rng.between(0, 7)).map(|_| text_code(rng)).collect(),
     };
-    let body = body(rng, command, &numbers, &rest, 3);
+    let body = body(command, &numbers, &rest);
     let end: &[u8] = if rng.one_in(3) { &[CR] } else { &[CR, LF] };
     [&[ESC], &body[..], end].concat()
 }
 
-/// A frame whose numbers may be anything, four digits among them.
+/// A frame whose numbers may be anything, of four and five digits too.
 fn odd_numbers(rng: &mut Rng) -> Vec<u8> {
     let command = any_command(rng);
     let mut numbers = good_numbers(rng, command);
     if !numbers.is_empty() {
         for _ in 0..rng.between(1, 2) {
             let place = rng.below(numbers.len());
-            numbers[place] = match rng.below(8) {
+            numbers[place] = match rng.below(9) {
                 0 => rng.below(1000) as u16,
                 1 => rng.below(65_536) as u16,
+                8 => rng.between(1000, 9999) as u16,
                 2 => numbers[place] + 1,
                 3 => rng.pick(&EDGES),
                 _ => just_above(rng, command, place),
@@ -992,13 +1075,12 @@ fn odd_numbers(rng: &mut Rng) -> Vec<u8> {
             numbers[0] = rng.between(6, 9) as u16;
         }
     }
-    let digits = if rng.one_in(5) { 4 } else { 3 };
     let columns = columns(rng);
     let rest = match command {
         Command::Picture => data(rng, &columns),
         _ => (0..rng.between(0, 9)).map(|_| text_code(rng)).collect(),
     };
-    let body = body(rng, command, &numbers, &rest, digits);
+    let body = body(command, &numbers, &rest);
     closed(rng, &body)
 }
 
@@ -1312,8 +1394,9 @@ fn story(rng: &mut Rng) -> Vec<u8> {
 }
 
 fn piece(rng: &mut Rng) -> Vec<u8> {
-    match rng.below(43) {
-        40.. => story(rng),
+    match rng.below(46) {
+        43.. => padded_frame(rng),
+        40..=42 => story(rng),
         0..=13 => good_frame(rng),
         14..=17 => odd_numbers(rng),
         18..=22 => near_miss(rng),

@@ -44,7 +44,7 @@ pub enum Command {
 pub enum Piece {
     /// These very bytes.
     Is(&'static [u8]),
-    /// One to three decimal digits.
+    /// 0, or 1 to 9 and up to two decimal digits more.
     Number,
     /// One decimal digit.
     Digit,
@@ -96,7 +96,7 @@ pub const SHAPES: [(Command, &[Piece]); 30] = [
 
 /// A command with its values: the numbers in order, and the codes of a label
 /// or the columns of a picture row.
-#[derive(Clone, PartialEq, Eq, Debug)]
+#[derive(Clone, PartialEq, Eq, PartialOrd, Ord, Debug)]
 pub struct Spelt {
     pub command: Command,
     pub numbers: Vec<u16>,
@@ -158,7 +158,11 @@ fn go_on<'a>(way: Way<'a>, piece: &Piece) -> Vec<Way<'a>> {
             .into_iter()
             .collect(),
         Number | Digit => {
-            let most = if matches!(piece, Digit) { 1 } else { 3 };
+            let most = match (piece, rest.first()) {
+                // No digit follows a leading zero.
+                (Digit, _) | (_, Some(b'0')) => 1,
+                _ => 3,
+            };
             (1..=most)
                 .filter_map(|length| Some((decimal(rest.get(..length)?)?, &rest[length..])))
                 .map(|(n, rest)| Way {

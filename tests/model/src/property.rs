@@ -1,8 +1,10 @@
 //! Checks of the model against itself.
 
+use std::collections::BTreeMap;
+
 use crate::effect;
-use crate::generate::{random_record, stream_of};
-use crate::grammar::{readings, spelt, Command};
+use crate::generate::{close_bodies, random_record, stream_of};
+use crate::grammar::{readings, spelt, Command, Spelt};
 use crate::keys;
 use crate::ranges::in_range;
 use crate::record::*;
@@ -246,6 +248,60 @@ pub fn log_cutting(seed: u64) -> Result<(), String> {
     }
 }
 
+/// Two different good frames without picture data never mean the same
+/// command; and what a writer writes for it is that very frame.
+pub fn one_spelling(seed: u64) -> Result<(), String> {
+    let mut rng = Rng::new(seed ^ 0x0E5);
+    let mut bodies = close_bodies(&mut rng, 300);
+    bodies.extend(parting(&stream_of(&mut rng, 40)).into_iter().filter_map(
+        |(part, _)| match part {
+            Part::Closed(body) if body.len() <= FRAME => Some(body),
+            _ => None,
+        },
+    ));
+    let mut spelling: BTreeMap<Spelt, Vec<u8>> = BTreeMap::new();
+    let (mut again, mut refused) = (0, 0);
+    for body in bodies {
+        let Some(good) = spelt(&body) else {
+            refused += 1;
+            continue;
+        };
+        if good.command == Command::Picture {
+            continue;
+        }
+        let written = written(&good);
+        if !written.is_empty() && written != [&[ESC], &body[..], &[CR, LF]].concat() {
+            return Err(format!("seed {seed}: {body:?} is written {written:?}"));
+        }
+        match spelling.get(&good) {
+            Some(first) if *first == body => again += 1,
+            Some(first) => {
+                return Err(format!("seed {seed}: {first:?} and {body:?} mean {good:?}"))
+            }
+            None => drop(spelling.insert(good, body)),
+        }
+    }
+    if again < 20 || refused < 20 || spelling.len() < 20 {
+        return Err(format!("seed {seed}: too few frames to tell"));
+    }
+    Ok(())
+}
+
+/// What the writers write for a command; nothing where it is out of range.
+fn written(good: &Spelt) -> Vec<u8> {
+    let mut room = [0; 40];
+    let (_, count) = match good.command {
+        Command::LeftLabel => writers::label(0, &good.codes, &mut room),
+        Command::RightLabel => writers::label(1, &good.codes, &mut room),
+        command => {
+            let mut numbers = [0; 2];
+            numbers[..good.numbers.len()].copy_from_slice(&good.numbers);
+            writers::command(command, numbers, &mut room)
+        }
+    };
+    room[..count].to_vec()
+}
+
 /// A stream with no obeyed IT frame, read from two records that differ in
 /// Time2 at most, gives the same answers and records that differ in Time2 at
 /// most. An obeyed IT frame makes them equal.
@@ -332,13 +388,14 @@ pub fn phases(seed: u64) -> Result<(), String> {
 type Check = fn(u64) -> Result<(), String>;
 
 /// All checks that take a seed.
-pub const CHECKS: [(&str, Check); 8] = [
+pub const CHECKS: [(&str, Check); 9] = [
     ("cutting a stream elsewhere changes nothing", cutting),
     ("the parts are the stream", parts_join),
     ("a frame has one reading", one_reading),
     ("bad and out-of-range frames change nothing", no_effect),
     ("labels and pictures read back", rows_read_back),
     ("cutting a key log elsewhere changes nothing", log_cutting),
+    ("a command has one spelling", one_spelling),
     ("Time2 changes no stream", time2_alone),
     ("the phase changes the flashing letter alone", phases),
 ];
