@@ -1,20 +1,24 @@
 // Whether a command's numbers are in range: document 01's second column, which stands in command's specs/InRange.antt.
 ghost use mathlib.Core.Path.{_≡_};
 ghost use mathlib.Core.Bool.{_||_};
-ghost use lib.Dec.{leb};
-ghost use Rattle.record.specs.Range.{modeInRange, iconUInRange, iconFInRange, iconPInRange, iconWInRange, time1InRange, time2InRange, buzzerInRange};
-ghost use Rattle.command.specs.InRange.{isOverlay, isColumn, isLevel, isLight, commandInRange};
+ghost use Rattle.record.specs.Range.{modeInRange, iconUInRange, time1InRange, time2InRange};
+ghost use Rattle.command.specs.InRange.{isOverlay, isLight, commandInRange};
 use command::Command;
 
-// 0-1: icons S and R, and mute
-fn is_flag(n: u16) -> bool
-    ensures same { λ r. ⌜ r ≡ leb n 1 ⌝ }
-{
-    match n {
-        0..=1 => true,
-        _ => false,
-    }
-}
+// The greatest value of each number that begins at 0.
+const FLAG: u16 = 1;
+
+const COLUMN: u16 = 15;
+
+const ICON_F: u16 = 6;
+
+const ICON_P: u16 = 19;
+
+const ICON_W: u16 = 3;
+
+const LEVEL: u16 = 10;
+
+const BUZZER: u16 = 255;
 
 // A text mode 0, 1, 5 or 6, or an overlay 11, 12 or 13.
 fn is_mode(n: u16) -> bool
@@ -28,57 +32,12 @@ fn is_mode(n: u16) -> bool
     }
 }
 
-fn is_column(n: u16) -> bool
-    ensures same { λ r. ⌜ r ≡ isColumn n ⌝ }
-{
-    match n {
-        0..=15 => true,
-        _ => false,
-    }
-}
-
 fn is_icon_u(n: u16) -> bool
     ensures same { λ r. ⌜ r ≡ iconUInRange n ⌝ }
 {
     match n {
         0..=1 => true,
         255 => true,
-        _ => false,
-    }
-}
-
-fn is_icon_f(n: u16) -> bool
-    ensures same { λ r. ⌜ r ≡ iconFInRange n ⌝ }
-{
-    match n {
-        0..=6 => true,
-        _ => false,
-    }
-}
-
-fn is_icon_p(n: u16) -> bool
-    ensures same { λ r. ⌜ r ≡ iconPInRange n ⌝ }
-{
-    match n {
-        0..=19 => true,
-        _ => false,
-    }
-}
-
-fn is_icon_w(n: u16) -> bool
-    ensures same { λ r. ⌜ r ≡ iconWInRange n ⌝ }
-{
-    match n {
-        0..=3 => true,
-        _ => false,
-    }
-}
-
-fn is_level(n: u16) -> bool
-    ensures same { λ r. ⌜ r ≡ isLevel n ⌝ }
-{
-    match n {
-        0..=10 => true,
         _ => false,
     }
 }
@@ -99,15 +58,6 @@ fn is_time2(n: u16) -> bool
     match n {
         0 => true,
         _ => is_time1(n),
-    }
-}
-
-fn is_buzzer(n: u16) -> bool
-    ensures same { λ r. ⌜ r ≡ buzzerInRange n ⌝ }
-{
-    match n {
-        0..=255 => true,
-        _ => false,
     }
 }
 
@@ -133,20 +83,20 @@ pub fn in_range(c: Command, rows: u8) -> bool
         Command::CursorShown => true,
         Command::CursorHidden => true,
         Command::Clear => true,
-        Command::Position(row, column) => (row < rows as u16) & is_column(column),
+        Command::Position(row, column) => (row < rows as u16) & (column <= COLUMN),
         Command::LabelsEmpty => true,
-        Command::IconS(n) => is_flag(n),
+        Command::IconS(n) => n <= FLAG,
         Command::IconU(n) => is_icon_u(n),
-        Command::IconF(n) => is_icon_f(n),
-        Command::IconR(n) => is_flag(n),
-        Command::IconP(n) => is_icon_p(n),
-        Command::IconW(n) => is_icon_w(n),
-        Command::Private(n) => is_level(n),
-        Command::Handsfree(n) => is_level(n),
-        Command::HandsfreeOfNote(n) => is_level(n),
-        Command::Mute(n) => is_flag(n),
+        Command::IconF(n) => n <= ICON_F,
+        Command::IconR(n) => n <= FLAG,
+        Command::IconP(n) => n <= ICON_P,
+        Command::IconW(n) => n <= ICON_W,
+        Command::Private(n) => n <= LEVEL,
+        Command::Handsfree(n) => n <= LEVEL,
+        Command::HandsfreeOfNote(n) => n <= LEVEL,
+        Command::Mute(n) => n <= FLAG,
         Command::KeyTimes(time1, time2) => is_time1(time1) & is_time2(time2),
-        Command::Buzzer(n) => is_buzzer(n),
+        Command::Buzzer(n) => n <= BUZZER,
         Command::Light(n) => is_light(n),
         Command::LightOn => true,
         Command::LightAutoStart => true,

@@ -27,17 +27,11 @@ enum-told-5 c = search needs
 enum-known-c-2 : tie.Need-enum-known-c-2
 enum-known-c-2 c = search needs
 
-is-column-requires : tie.Need-is-column-requires
-is-column-requires c κs = search needs
-
 enum-told-6 : tie.Need-enum-told-6
 enum-told-6 c = search needs
 
 enum-known-c-3 : tie.Need-enum-known-c-3
 enum-known-c-3 c = search needs
-
-is-flag-requires : tie.Need-is-flag-requires
-is-flag-requires c κs = search needs
 
 enum-known-c-4 : tie.Need-enum-known-c-4
 enum-known-c-4 c = search needs
@@ -48,50 +42,26 @@ is-icon-u-requires c κs = search needs
 enum-known-c-5 : tie.Need-enum-known-c-5
 enum-known-c-5 c = search needs
 
-is-icon-f-requires : tie.Need-is-icon-f-requires
-is-icon-f-requires c κs = search needs
-
 enum-known-c-6 : tie.Need-enum-known-c-6
 enum-known-c-6 c = search needs
-
-is-flag-requires-2 : tie.Need-is-flag-requires-2
-is-flag-requires-2 c κs = search needs
 
 enum-known-c-7 : tie.Need-enum-known-c-7
 enum-known-c-7 c = search needs
 
-is-icon-p-requires : tie.Need-is-icon-p-requires
-is-icon-p-requires c κs = search needs
-
 enum-known-c-8 : tie.Need-enum-known-c-8
 enum-known-c-8 c = search needs
-
-is-icon-w-requires : tie.Need-is-icon-w-requires
-is-icon-w-requires c κs = search needs
 
 enum-known-c-9 : tie.Need-enum-known-c-9
 enum-known-c-9 c = search needs
 
-is-level-requires : tie.Need-is-level-requires
-is-level-requires c κs = search needs
-
 enum-known-c-10 : tie.Need-enum-known-c-10
 enum-known-c-10 c = search needs
-
-is-level-requires-2 : tie.Need-is-level-requires-2
-is-level-requires-2 c κs = search needs
 
 enum-known-c-11 : tie.Need-enum-known-c-11
 enum-known-c-11 c = search needs
 
-is-level-requires-3 : tie.Need-is-level-requires-3
-is-level-requires-3 c κs = search needs
-
 enum-known-c-12 : tie.Need-enum-known-c-12
 enum-known-c-12 c = search needs
-
-is-flag-requires-3 : tie.Need-is-flag-requires-3
-is-flag-requires-3 c κs = search needs
 
 enum-known-c-13 : tie.Need-enum-known-c-13
 enum-known-c-13 c = search needs
@@ -104,9 +74,6 @@ is-time2-requires c κs = search needs
 
 enum-known-c-14 : tie.Need-enum-known-c-14
 enum-known-c-14 c = search needs
-
-is-buzzer-requires : tie.Need-is-buzzer-requires
-is-buzzer-requires c κs = search needs
 
 enum-known-c-15 : tie.Need-enum-known-c-15
 enum-known-c-15 c = search needs
@@ -151,46 +118,46 @@ returns-6 : tie.Need-returns-6
 returns-6 c = rw (c .enum-told5 .given .1)
 
 returns-7 : tie.Need-returns-7
-returns-7 c = rw (c .before .before .c2 .given .1, c .is-column .ensures)
+returns-7 c = rw (c .before .c2 .given .1)
 
 returns-8 : tie.Need-returns-8
 returns-8 c = rw (c .enum-told6 .given .1)
 
 returns-9 : tie.Need-returns-9
-returns-9 c = rw (c .before .before .c3 .given .1) (c .is-flag .ensures)
+returns-9 c = rw (c .before .c3 .given .1)
 
 returns-10 : tie.Need-returns-10
 returns-10 c = rw (c .before .before .c4 .given .1) (c .is-icon-u .ensures)
 
 returns-11 : tie.Need-returns-11
-returns-11 c = rw (c .before .before .c5 .given .1) (c .is-icon-f .ensures)
+returns-11 c = rw (c .before .c5 .given .1)
 
 returns-12 : tie.Need-returns-12
-returns-12 c = rw (c .before .before .c6 .given .1) (c .is-flag2 .ensures)
+returns-12 c = rw (c .before .c6 .given .1)
 
 returns-13 : tie.Need-returns-13
-returns-13 c = rw (c .before .before .c7 .given .1) (c .is-icon-p .ensures)
+returns-13 c = rw (c .before .c7 .given .1)
 
 returns-14 : tie.Need-returns-14
-returns-14 c = rw (c .before .before .c8 .given .1) (c .is-icon-w .ensures)
+returns-14 c = rw (c .before .c8 .given .1)
 
 returns-15 : tie.Need-returns-15
-returns-15 c = rw (c .before .before .c9 .given .1) (c .is-level .ensures)
+returns-15 c = rw (c .before .c9 .given .1)
 
 returns-16 : tie.Need-returns-16
-returns-16 c = rw (c .before .before .c10 .given .1) (c .is-level2 .ensures)
+returns-16 c = rw (c .before .c10 .given .1)
 
 returns-17 : tie.Need-returns-17
-returns-17 c = rw (c .before .before .c11 .given .1) (c .is-level3 .ensures)
+returns-17 c = rw (c .before .c11 .given .1)
 
 returns-18 : tie.Need-returns-18
-returns-18 c = rw (c .before .before .c12 .given .1) (c .is-flag3 .ensures)
+returns-18 c = rw (c .before .c12 .given .1)
 
 returns-19 : tie.Need-returns-19
 returns-19 c = rw (c .before .before .before .c13 .given .1, c .before .is-time1 .ensures, c .is-time2 .ensures)
 
 returns-20 : tie.Need-returns-20
-returns-20 c = rw (c .before .before .c14 .given .1) (c .is-buzzer .ensures)
+returns-20 c = rw (c .before .c14 .given .1)
 
 returns-21 : tie.Need-returns-21
 returns-21 c = rw (c .before .before .c15 .given .1) (c .is-light .ensures)
@@ -225,33 +192,22 @@ in-range-spec =
     enum-told-4
     enum-told-5
     enum-known-c-2
-    is-column-requires
     enum-told-6
     enum-known-c-3
-    is-flag-requires
     enum-known-c-4
     is-icon-u-requires
     enum-known-c-5
-    is-icon-f-requires
     enum-known-c-6
-    is-flag-requires-2
     enum-known-c-7
-    is-icon-p-requires
     enum-known-c-8
-    is-icon-w-requires
     enum-known-c-9
-    is-level-requires
     enum-known-c-10
-    is-level-requires-2
     enum-known-c-11
-    is-level-requires-3
     enum-known-c-12
-    is-flag-requires-3
     enum-known-c-13
     is-time1-requires
     is-time2-requires
     enum-known-c-14
-    is-buzzer-requires
     enum-known-c-15
     is-light-requires
     enum-told-7
