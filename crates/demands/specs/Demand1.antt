@@ -38,8 +38,8 @@ use Rattle.demands.specs.Frames.{asked, silent, wholeFrame, closed-asked
 
 -- what a refusal hands back of a call that takes a record and lends a buffer: its number, the record as it came, no byte used or
 -- written, the buffer as it was
-pub record Refused (number : ℕ) (answered : ℕ) (given back : Record) (used written : ℕ) (before after : List ℕ) : Type 0 where
-  pub named : answered ≡ number
+pub record Refused (number ended : ℕ) (given back : Record) (used written : ℕ) (before after : List ℕ) : Type 0 where
+  pub named : ended ≡ number
   pub as-it-came : back ≡ given
   pub none-used : used ≡ 0
   pub none-written : written ≡ 0

@@ -744,7 +744,7 @@ fn question(r: Record, letter: u8, args: &[u8], buffer: &mut [u8]) {
 
 // Lines.
 
-fn answered(r: Record, letter: u8, args: &[u8], buffer: &mut [u8]) -> Record {
+fn made(r: Record, letter: u8, args: &[u8], buffer: &mut [u8]) -> Record {
     match letter {
         b'P' => return power_on_call(),
         b'O' => return former_call(),
@@ -793,7 +793,7 @@ fn call(r: Record, letter: u8, args: &[u8]) -> Record {
     }
     let mut buffer = lent();
     let room = room_of(args);
-    answered(r, letter, args, &mut buffer[..room])
+    made(r, letter, args, &mut buffer[..room])
 }
 
 fn take_line(r: Record, line: &[u8]) -> Record {

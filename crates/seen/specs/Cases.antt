@@ -65,14 +65,14 @@ written = withText powerOn (replicate 16 blank ++ ascii "Meter" ++ replicate 59 
 abbrev Asked : Type 0
 Asked = Record × ℕ
 
-abbrev answered : Asked → Number × Owner
-answered q = (rowSeen (q .0) (q .1) Lit .number, rowSeen (q .0) (q .1) Lit .owner)
+abbrev told : Asked → Number × Owner
+told q = (rowSeen (q .0) (q .1) Lit .number, rowSeen (q .0) (q .1) Lit .owner)
 
 -- The row question: row 0 under overlay 11 in mode 5 is the icon bar, with no overlay it is text row 0; row 5 under 12 and 13;
 -- row 6 with no overlay and under 13; row 4 in modes 0 and 5; display off; a row above 6; a mode out of range, which is
 -- judged before the row. Row 2 of a written screen is text row 1, and its codes begin with the word.
 pub row-cases :
-    (map answered
+    (map told
     ((screen 5 11, 0)
     ∷ (screen 5 0, 0)
     ∷ (screen 0 12, 5)

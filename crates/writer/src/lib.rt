@@ -198,7 +198,7 @@ fn copy(line: Line, room: &mut [u8])
 // A line with its CR LF into the room, where there is room for all of it.
 fn deliver(line: Line, room: &mut [u8]) -> Written
     requires { ⌜ line .len + 2 ≤ 200 ⌝ }
-    ensures answered { λ r. ⌜ r ≡ writtenOf true (held line ++ carriageReturn ∷ lineFeed ∷ []) (now (room .entry)) ⌝ }
+    ensures same { λ r. ⌜ r ≡ writtenOf true (held line ++ carriageReturn ∷ lineFeed ∷ []) (now (room .entry)) ⌝ }
     ensures left { λ _. ⌜ now (room .exit) ≡ roomAfter true (held line ++ carriageReturn ∷ lineFeed ∷ []) (now (room .entry)) ⌝ }
 {
     let frame = add(line, &[CARRIAGE_RETURN, LINE_FEED]);
@@ -218,7 +218,7 @@ fn deliver(line: Line, room: &mut [u8]) -> Written
 
 // The frame of a command.
 pub fn write_command(c: Command, room: &mut [u8]) -> Written
-    ensures answered { λ r. ⌜ r ≡ writtenOf (commandInRange mostRows c) (frameOf (bodyOf c)) (now (room .entry)) ⌝ }
+    ensures same { λ r. ⌜ r ≡ writtenOf (commandInRange mostRows c) (frameOf (bodyOf c)) (now (room .entry)) ⌝ }
     ensures left { λ _. ⌜ now (room .exit) ≡ roomAfter (commandInRange mostRows c) (frameOf (bodyOf c)) (now (room .entry)) ⌝ }
 {
     if in_range(c, MOST_ROWS) {
@@ -232,7 +232,7 @@ pub fn write_command(c: Command, room: &mut [u8]) -> Written
 
 // The frame of a soft-key label.
 pub fn write_label(side: Side, codes: &[u8], room: &mut [u8]) -> Written
-    ensures answered { λ r. ⌜ r ≡ writtenOf (isLabel (now (codes .entry))) (frameOf (labelBody side (now (codes .entry)))) (now (room .entry)) ⌝ }
+    ensures same { λ r. ⌜ r ≡ writtenOf (isLabel (now (codes .entry))) (frameOf (labelBody side (now (codes .entry)))) (now (room .entry)) ⌝ }
     ensures left { λ _. ⌜ now (room .exit) ≡ roomAfter (isLabel (now (codes .entry))) (frameOf (labelBody side (now (codes .entry)))) (now (room .entry)) ⌝ }
 {
     if label_in_range(codes) {
@@ -246,7 +246,7 @@ pub fn write_label(side: Side, codes: &[u8], room: &mut [u8]) -> Written
 
 // The frame of a picture row, from its first column on.
 pub fn write_picture_row(row: u8, columns: &[u8], room: &mut [u8]) -> Written
-    ensures answered { λ r. ⌜ r ≡ writtenOf (isRow row (now (columns .entry))) (frameOf (rowBody row (now (columns .entry)))) (now (room .entry)) ⌝ }
+    ensures same { λ r. ⌜ r ≡ writtenOf (isRow row (now (columns .entry))) (frameOf (rowBody row (now (columns .entry)))) (now (room .entry)) ⌝ }
     ensures left { λ _. ⌜ now (room .exit) ≡ roomAfter (isRow row (now (columns .entry))) (frameOf (rowBody row (now (columns .entry)))) (now (room .entry)) ⌝ }
 {
     if row_in_range(row, columns) {

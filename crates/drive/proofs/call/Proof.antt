@@ -25,11 +25,11 @@ room-of-requires c κs = search needs
 array-borrow-prefix-buffer : tie.Need-array-borrow-prefix-buffer
 array-borrow-prefix-buffer c = search needs
 
-slice-aggregate-answered : tie.Need-slice-aggregate-answered
-slice-aggregate-answered c = sym (length-take-le _ _ (omega arith))
+slice-aggregate-made : tie.Need-slice-aggregate-made
+slice-aggregate-made c = sym (length-take-le _ _ (omega arith))
 
-answered-requires : tie.Need-answered-requires
-answered-requires c κs = search needs
+made-requires : tie.Need-made-requires
+made-requires c κs = search needs
 
 returns-2 : tie.Need-returns-2
 returns-2 c = search needs
@@ -44,6 +44,6 @@ call-spec =
     lent-requires
     room-of-requires
     array-borrow-prefix-buffer
-    slice-aggregate-answered
-    answered-requires
+    slice-aggregate-made
+    made-requires
     returns-2)
