@@ -87,7 +87,7 @@ effect (draw row columns) c = onPicture c (drawn (c .picture) row columns)
 unfoldable pub carryOut : Order → Core → Core
 carryOut order c = cond (inRangeInMode (c .settings .screen .mode) order) (effect order c) c
 
--- a text byte is stored at the cursor and the column rises by one; at column 16 it is dropped
+-- a text byte is stored at the cursor and the column rises by one; at the row's end it is dropped
 unfoldable pub storeText : Core → ℕ → Core
 storeText c b =
     let s = c .settings .screen in

@@ -26,7 +26,7 @@ use Rattle.record.specs.Laws.{Ranges}
 use Rattle.record.specs.Range.{rowsOf, rowEndOf, isCode, isLowColumn, isUnused, modeInRange, overlayInRange, cursorInRange, textInRange, labelInRange, pictureInRange, iconSInRange, iconUInRange, iconFInRange, iconRInRange, iconPInRange, iconWInRange, iconsInRange, whichInRange, levelInRange, volumeInRange, timesInRange, buzzerInRange, durationInRange, backlightInRange, heldInRange, frameInRange}
 use Rattle.record.specs.With.{withLeft, withRight, withShown, withIconS, withIconU, withIconF, withIconR, withIconP, withIconW}
 use Rattle.command.specs.Order.{Order, plain, label, draw}
-use Rattle.command.specs.InRange.{isOverlay, inRangeInMode}
+use Rattle.command.specs.InRange.{isOverlay, isColumn, inRangeInMode}
 use Rattle.command.specs.Grammar.{Spells}
 use Rattle.command.specs.Reading.{orderOf}
 use Rattle.command.specs.Sound.{sound}
@@ -114,11 +114,15 @@ or-left {a = false} h e = absurd (true≢false (sym h ∙ e))
 
 -- position 0,0 is in every mode
 home : (mode : ℕ) → (ltb 0 (rowsOf mode) && leb 0 (rowEndOf mode)) ≡ true
-home mode = cases (leb mode 1)
+home mode = and-both (cases (leb mode 1)) (le-leb 0 (rowEndOf mode) (omega arith))
   where
-    cases : (b : Bool) → (ltb 0 (cond b 4 5) && leb 0 16) ≡ true
+    cases : (b : Bool) → ltb 0 (cond b 4 5) ≡ true
     cases true = refl
     cases false = refl
+
+-- and so is every column that a frame can name
+named-column : (mode column : ℕ) → isColumn column ≡ true → leb column (rowEndOf mode) ≡ true
+named-column mode column h = le-leb column (rowEndOf mode) (omega (arith, leb-true column 15 h))
 
 mode-keeps : (c : Core) (n : ℕ) → CoreInRange c → (modeInRange n || isOverlay n) ≡ true → CoreInRange (effect (plain (Mode n)) c)
 mode-keeps c n k h = cases (isOverlay n) refl
@@ -247,7 +251,7 @@ effect-keeps (plain Clear) c v k h =
     on-text (onScreen c (at (c .settings .screen) 0 0)) (on-screen c k _ (k .mode) (k .overlay) (home (c .settings .screen .mode))) blanks blanks-in-range
 effect-keeps (plain (Position row column)) c v k h =
     let b = both {a = ltb row (rowsOf (c .settings .screen .mode))} h in
-    on-screen c k _ (k .mode) (k .overlay) (and-both (b .0) (le-leb column 16 (omega (arith, leb-true column 15 (b .1)))))
+    on-screen c k _ (k .mode) (k .overlay) (and-both (b .0) (named-column (c .settings .screen .mode) column (b .1)))
 effect-keeps (plain LabelsEmpty) c v k h = on-labels c k _ _ no-label no-label
 effect-keeps (label Left t) c v k h = on-labels c k (labelOf t) (c .settings .right) (label-keeps t v) (k .right)
 effect-keeps (label Right t) c v k h = on-labels c k (c .settings .left) (labelOf t) (k .left) (label-keeps t v)
@@ -299,12 +303,13 @@ text-stored t i b g h =
 -- Whatever text byte comes, the core stays in range.
 pub store-keeps : (c : Core) (b : ℕ) → CoreInRange c → 0x20 ≤ b → CoreInRange (storeText c b)
 unfolding storeText
-store-keeps c b k h = cases (ltb (c .settings .screen .column) 16) refl
+store-keeps c b k h = cases (ltb (c .settings .screen .column) (rowEndOf (c .settings .screen .mode))) refl
   where
-    cases : (small : Bool) → ltb (c .settings .screen .column) 16 ≡ small → CoreInRange (cond small (onText (onScreen c (record { display = c .settings .screen .display; mode = c .settings .screen .mode; overlay = c .settings .screen .overlay; row = c .settings .screen .row; column = c .settings .screen .column + 1 })) (set (c .text) (c .settings .screen .row * 16 + c .settings .screen .column) b)) c)
+    cases : (small : Bool) → ltb (c .settings .screen .column) (rowEndOf (c .settings .screen .mode)) ≡ small → CoreInRange (cond small (onText (onScreen c (record { display = c .settings .screen .display; mode = c .settings .screen .mode; overlay = c .settings .screen .overlay; row = c .settings .screen .row; column = c .settings .screen .column + 1 })) (set (c .text) (c .settings .screen .row * 16 + c .settings .screen .column) b)) c)
     cases true e =
         let p = both {a = ltb (c .settings .screen .row) (rowsOf (c .settings .screen .mode))} (k .cursor) in
-        on-text _ (on-screen c k _ (k .mode) (k .overlay) (and-both (p .0) (le-leb (c .settings .screen .column + 1) 16 (omega (arith, ltb-true (c .settings .screen .column) 16 e))))) _ (text-stored (c .text) _ b (k .text) h)
+        let end = rowEndOf (c .settings .screen .mode) in
+        on-text _ (on-screen c k _ (k .mode) (k .overlay) (and-both (p .0) (le-leb (c .settings .screen .column + 1) end (omega (arith, ltb-true (c .settings .screen .column) end e))))) _ (text-stored (c .text) _ b (k .text) h)
     cases false e = k
 
 -- A bad frame, and a frame with a number out of range, leave the core as it is.

@@ -1,5 +1,5 @@
 -- The handset's meaning for the parting's theory, how the record keeps a frame, and what the stream call hands back. Assumes nothing.
-use Prim.Native.Nat.{ℕ, _+_, _-_, _*_, _≤_}
+use Prim.Native.Nat.{ℕ, _+_, _-_, _*_, _≤_, _<_}
 use mathlib.Core.Path.{_≡_}
 use mathlib.Core.Bool.{true, false, cond}
 use mathlib.Core.List.{List, [], _∷_, _++_}
@@ -89,11 +89,18 @@ lent-back e t g b = λ j. together (e j .small) (t j) (g j) (b j)
 
 -- What the inner functions do -------------------------------------------------------------------------------------
 
-abbrev pub columnAfter : ℕ → ℕ
-columnAfter column = cond (ltb column 16) (column + 1) column
+-- a cursor at a place of the text, or at the end of its row; the text is kept in 5 rows of 16 codes
+pub record InRow (row column end : ℕ) : Type 0 where
+  pub below : row < 5
+  pub within : column ≤ end
+  pub kept : end ≤ 16
 
-abbrev pub textAfter : List ℕ → ℕ → ℕ → ℕ → List ℕ
-textAfter text row column b = cond (ltb column 16) (set text (row * 16 + column) b) text
+-- what a text byte at a cursor does, where the row ends at `end`
+abbrev pub columnAfter : ℕ → ℕ → ℕ
+columnAfter end column = cond (ltb column end) (column + 1) column
+
+abbrev pub textAfter : ℕ → List ℕ → ℕ → ℕ → ℕ → List ℕ
+textAfter end text row column b = cond (ltb column end) (set text (row * 16 + column) b) text
 
 -- the state that the loop's locals stand for
 abbrev pub standing : Settings → List ℕ → List ℕ → ℕ → ℕ → List ℕ → State Core

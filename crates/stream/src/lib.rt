@@ -5,7 +5,7 @@ ghost use Prim.Native.Nat.{_≤_, _<_, _+_};
 ghost use lib.ListN.{length, getD};
 ghost use Rattle.lists.specs.Codes.{blank};
 ghost use Rattle.stream.specs.Turns.{Stores};
-ghost use Rattle.stream.specs.Stream.{columnAfter, textAfter, together, lentOf, standing, fedOf, answersAfter, Ready, Closes, Reads};
+ghost use Rattle.stream.specs.Stream.{InRow, columnAfter, textAfter, together, lentOf, standing, fedOf, answersAfter, Ready, Closes, Reads};
 use effect::Obeyed;
 use record::Held;
 use record::Number;
@@ -63,12 +63,12 @@ fn wide(b: u8) -> usize
     b as usize
 }
 
-// A text byte is stored at the cursor: the column after it. At column 16 it is dropped.
-fn store(text: &mut [u8; 80], row: u8, column: u8, b: u8) -> u8
-    requires { ⌜ (row < 5) × (column ≤ 16) ⌝ }
-    ensures { λ r. ⌜ (r ≡ columnAfter column) × (r ≤ 16) × (now (text .exit) ≡ textAfter (now (text .entry)) row column b) ⌝ }
+// A text byte is stored at the cursor: the column after it. At the row's end it is dropped.
+fn store(text: &mut [u8; 80], row: u8, column: u8, end: u8, b: u8) -> u8
+    requires { ⌜ InRow row column end ⌝ }
+    ensures { λ r. ⌜ (r ≡ columnAfter end column) × (r ≤ end) × (now (text .exit) ≡ textAfter end (now (text .entry)) row column b) ⌝ }
 {
-    if column < 16 {
+    if column < end {
         let at = wide(row) * 16 + wide(column);
         text[at] = b;
         return column + 1;
@@ -83,11 +83,11 @@ struct Run {
 }
 
 // Stores the text byte at a place and all that follow it at once: most of a stream is text, and this loop is short.
-fn store_all(text: &mut [u8; 80], row: u8, column: u8, bytes: &[u8], from: usize) -> Run
-    requires { ⌜ (row < 5) × (column ≤ 16) × (from < length (now bytes)) × (blank ≤ getD (now bytes) from 0) ⌝ }
-    ensures { λ r. ⌜ (from < r .at) × (Stores row column (now (text .entry)) (now (bytes .entry)) from (r .at) (r .column) (now (text .exit))) ⌝ }
+fn store_all(text: &mut [u8; 80], row: u8, column: u8, end: u8, bytes: &[u8], from: usize) -> Run
+    requires { ⌜ InRow row column end × (from < length (now bytes)) × (blank ≤ getD (now bytes) from 0) ⌝ }
+    ensures { λ r. ⌜ (from < r .at) × (Stores row end column (now (text .entry)) (now (bytes .entry)) from (r .at) (r .column) (now (text .exit))) ⌝ }
 {
-    let mut next = store(text, row, column, bytes[from]);
+    let mut next = store(text, row, column, end, bytes[from]);
     let mut i = from + 1;
     while i < bytes.len() {
         let b = bytes[i];
@@ -97,7 +97,7 @@ fn store_all(text: &mut [u8; 80], row: u8, column: u8, bytes: &[u8], from: usize
                 column: next,
             };
         }
-        next = store(text, row, next, b);
+        next = store(text, row, next, end, b);
         i += 1;
     }
     Run {
@@ -145,7 +145,15 @@ fn read(
         let b = bytes[i];
         if state == NO_FRAME {
             if BLANK <= b {
-                let run = store_all(text, settings.screen.row, settings.screen.column, bytes, i);
+                let end = record::row_end(settings.screen.mode);
+                let run = store_all(
+                    text,
+                    settings.screen.row,
+                    settings.screen.column,
+                    end,
+                    bytes,
+                    i,
+                );
                 settings.screen.column = run.column;
                 i = run.at;
                 continue;

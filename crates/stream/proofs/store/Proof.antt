@@ -24,7 +24,7 @@ add-result : tie.Need-add-result
 add-result c = search needs
 
 returns : tie.Need-returns
-returns c = (rw (lt-ltb (c .before .before .before .args .column) 16 (omega arith)), omega arith, rw (c .before .wide .ensures, c .wide2 .ensures) (simp (lt-ltb _ _ (c .before .before .if1 .taken))))
+returns c = (rw (lt-ltb (c .before .before .before .args .column) (c .before .before .before .args .end) (omega arith)), omega arith, rw (c .before .wide .ensures, c .wide2 .ensures) (simp (lt-ltb _ _ (c .before .before .if1 .taken))))
 
 returns-2 : tie.Need-returns-2
 returns-2 c = (simp (le-ltb _ _ (c .if1 .left)), omega arith, simp (le-ltb _ _ (c .if1 .left)))

@@ -3,28 +3,27 @@ use native.Mathlib.Omega.{arith}
 use lib.ListN.{length}
 use Prim.Native.Nat.{_-_, _≤_}
 use Rattle.stream.specs.Turns.{Stores, stores-none, stores-more, stores-first, stores-on}
-use Rattle.stream.specs.Turns.{Stores, stores-none, stores-more, stores-on}
 use borrow.Author.Needs.{needs}
 use Rattle.stream.proofs.store_all.Statement.{statement}
 use Rattle.stream.proofs.store_all.Tie as tie
 
 abbrev Inv-loop : tie.InvT-loop
-Inv-loop text₀ row column bytes from next₀ i₀ text next i = (i₀ ≤ i) × Stores row next₀ text₀ bytes i₀ i next text
+Inv-loop text₀ row column end bytes from next₀ i₀ text next i = (i₀ ≤ i) × Stores row end next₀ text₀ bytes i₀ i next text
 
 abbrev μ-loop : tie.MeasureT-loop
-μ-loop text₀ row column bytes from next₀ i₀ text next i = length bytes - i
+μ-loop text₀ row column end bytes from next₀ i₀ text next i = length bytes - i
 
 shared-slice-read-store : tie.Need-shared-slice-read-store Inv-loop μ-loop
 shared-slice-read-store c = search needs
 
 store-requires : tie.Need-store-requires Inv-loop μ-loop
-store-requires c κs = (c .before .before .before .pre .0, c .before .before .before .pre .1)
+store-requires c κs = c .before .before .before .pre .0
 
 add-i : tie.Need-add-i Inv-loop μ-loop
-add-i c = let k = c .before .before .before .before .pre .2 in let g = c .before .before .before .before .good .1 .1 .1 .0 .0 in record { fits = omega arith }
+add-i c = let k = c .before .before .before .before .pre .1 in let g = c .before .before .before .before .good .1 .1 .1 .0 .0 in record { fits = omega arith }
 
 loop-holds : tie.Need-loop-holds Inv-loop μ-loop
-loop-holds c = (omega arith, stores-none _ _ _ _ _ (omega (arith, c .before .before .before .before .pre .2)) (c .store .ensures .1))
+loop-holds c = (omega arith, stores-none _ _ _ _ _ _ (omega (arith, c .before .before .before .before .pre .1)) (c .store .ensures .1))
 
 shared-slice-read-b : tie.Need-shared-slice-read-b Inv-loop μ-loop
 shared-slice-read-b c = search needs
@@ -33,7 +32,7 @@ returns : tie.Need-returns Inv-loop μ-loop
 returns c = let v = c .before .before .before .loop .inv in (let l = v .0 in omega arith, stores-on (stores-first _ _ (c .before .before .before .before .before .before .before .before .pre) (c .before .before .before .before .store .ensures)) (v .1))
 
 store-requires-2 : tie.Need-store-requires-2 Inv-loop μ-loop
-store-requires-2 c κs = (c .before .before .before .before .before .before .before .before .before .pre .0, c .before .before .before .before .loop .inv .1 .small)
+store-requires-2 c κs = let p = c .before .before .before .before .before .before .before .before .before .pre .0 in record { below = p .below; within = c .before .before .before .before .loop .inv .1 .small; kept = p .kept }
 
 add-i-2 : tie.Need-add-i-2 Inv-loop μ-loop
 add-i-2 c = search needs
