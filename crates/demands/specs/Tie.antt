@@ -10,7 +10,7 @@ use denote.Ref.{now}
 use denote.Triple.Clauses.{Ended, AtExit}
 use borrow.Fn.World.{World, Pr, ArgsD, ResD}
 use Rattle.record.specs.Number.{paperNumber}
-use Rattle.record.specs.Range.{rowsOf, rowEndOf, backlightInRange, inRange}
+use Rattle.record.specs.Range.{rowsOf, rowEndOf, rowStartOf, backlightInRange, inRange}
 use Rattle.record.specs.PowerOn.{timesAtPowerOn, formerTimes, startingWith, powerOn, formerPowerOn}
 use Rattle.record_ranges.specs.Parts.{joined}
 use Rattle.record_fields.specs.Fields.{withField}
@@ -39,6 +39,8 @@ use Rattle.record.proofs.rows as Rows
 use Rattle.record.proofs.rows.Reads as RowsReads
 use Rattle.record.proofs.row_end as RowEnd
 use Rattle.record.proofs.row_end.Reads as RowEndReads
+use Rattle.record.proofs.row_start as RowStart
+use Rattle.record.proofs.row_start.Reads as RowStartReads
 use Rattle.record.proofs.Times.power_on as TimesPowerOn
 use Rattle.record.proofs.Times.power_on.Reads as TimesPowerOnReads
 use Rattle.record.proofs.Record.starting_with as StartingWith
@@ -167,6 +169,10 @@ rows-says κs a q e w = refl
 -- record::row_end
 pub row-end-says : Says RowEnd.ended RowEndReads.ensures (λ κs a q e. q ≡ rowEndOf (a .0))
 row-end-says κs a q e w = refl
+
+-- record::row_start
+pub row-start-says : Says RowStart.ended RowStartReads.ensures (λ κs a q e. q ≡ rowStartOf (a .0) (a .1 .0))
+row-start-says κs a q e w = refl
 
 -- record::Times::power_on
 pub times-power-on-says : Says TimesPowerOn.ended TimesPowerOnReads.ensures (λ κs a q e. q ≡ timesAtPowerOn)

@@ -15,6 +15,8 @@ use Rattle.record.proofs.rows as Rows
 use Rattle.record.proofs.rows.Reads as RowsReads
 use Rattle.record.proofs.row_end as RowEnd
 use Rattle.record.proofs.row_end.Reads as RowEndReads
+use Rattle.record.proofs.row_start as RowStart
+use Rattle.record.proofs.row_start.Reads as RowStartReads
 use Rattle.record.proofs.Times.power_on as TimesPowerOn
 use Rattle.record.proofs.Times.power_on.Reads as TimesPowerOnReads
 use Rattle.record.proofs.Record.starting_with as StartingWith
@@ -134,6 +136,10 @@ rows-one κs a q q′ e e′ p p′ = two-equal p p′
 -- record::row_end
 pub row-end-one : OneResult RowEnd.ended RowEndReads.Learnt
 row-end-one κs a q q′ e e′ p p′ = two-equal p p′
+
+-- record::row_start
+pub row-start-one : OneResult RowStart.ended RowStartReads.Learnt
+row-start-one κs a q q′ e e′ p p′ = two-equal p p′
 
 -- record::Times::power_on
 pub times-power-on-one : OneResult TimesPowerOn.ended TimesPowerOnReads.Learnt

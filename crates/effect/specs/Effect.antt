@@ -11,7 +11,7 @@ use Rattle.lists.specs.Padded.{padded}
 use Rattle.record.specs.declared.Label.{Label}
 use Rattle.record.specs.declared.Volume.{Volume}
 use Rattle.record.specs.declared.Backlight.{Backlight}
-use Rattle.record.specs.Range.{rowEndOf, off, on, auto}
+use Rattle.record.specs.Range.{rowEndOf, rowStartOf, off, on, auto}
 use Rattle.record.specs.With.{withShown, withLeft, withRight, withTimes, withBuzzer, withDisplay, withColumn, withIconS, withIconU, withIconF, withIconR, withIconP, withIconW, withMute, withHidden, withLight, withDuration, withSecondsLeft, withKeypad}
 use Rattle.command.specs.Order.{Order, plain, label, draw}
 use Rattle.command.specs.InRange.{inRangeInMode}
@@ -91,4 +91,4 @@ carryOut order c = cond (inRangeInMode (c .settings .screen .mode) order) (effec
 unfoldable pub storeText : Core → ℕ → Core
 storeText c b =
     let s = c .settings .screen in
-    cond (ltb (s .column) (rowEndOf (s .mode))) (onText (onScreen c (withColumn s (s .column + 1))) (set (c .text) (s .row * 16 + s .column) b)) c
+    cond (ltb (s .column) (rowEndOf (s .mode))) (onText (onScreen c (withColumn s (s .column + 1))) (set (c .text) (rowStartOf (s .mode) (s .row) + s .column) b)) c

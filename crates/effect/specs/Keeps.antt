@@ -23,7 +23,7 @@ use Rattle.record.specs.declared.Label.{Label}
 use Rattle.record.specs.declared.Held.{Held}
 use Rattle.record.specs.declared.Frame.{Frame}
 use Rattle.record.specs.Laws.{Ranges}
-use Rattle.record.specs.Range.{rowsOf, rowEndOf, isCode, isLowColumn, isUnused, modeInRange, overlayInRange, cursorInRange, textInRange, labelInRange, pictureInRange, iconSInRange, iconUInRange, iconFInRange, iconRInRange, iconPInRange, iconWInRange, iconsInRange, whichInRange, levelInRange, volumeInRange, timesInRange, buzzerInRange, durationInRange, backlightInRange, heldInRange, frameInRange}
+use Rattle.record.specs.Range.{rowsOf, rowEndOf, rowStartOf, isCode, isLowColumn, isUnused, modeInRange, overlayInRange, cursorInRange, textInRange, labelInRange, pictureInRange, iconSInRange, iconUInRange, iconFInRange, iconRInRange, iconPInRange, iconWInRange, iconsInRange, whichInRange, levelInRange, volumeInRange, timesInRange, buzzerInRange, durationInRange, backlightInRange, heldInRange, frameInRange}
 use Rattle.record.specs.With.{withLeft, withRight, withShown, withIconS, withIconU, withIconF, withIconR, withIconP, withIconW}
 use Rattle.command.specs.Order.{Order, plain, label, draw}
 use Rattle.command.specs.InRange.{isOverlay, isColumn, inRangeInMode}
@@ -305,7 +305,7 @@ pub store-keeps : (c : Core) (b : ℕ) → CoreInRange c → 0x20 ≤ b → Core
 unfolding storeText
 store-keeps c b k h = cases (ltb (c .settings .screen .column) (rowEndOf (c .settings .screen .mode))) refl
   where
-    cases : (small : Bool) → ltb (c .settings .screen .column) (rowEndOf (c .settings .screen .mode)) ≡ small → CoreInRange (cond small (onText (onScreen c (record { display = c .settings .screen .display; mode = c .settings .screen .mode; overlay = c .settings .screen .overlay; row = c .settings .screen .row; column = c .settings .screen .column + 1 })) (set (c .text) (c .settings .screen .row * 16 + c .settings .screen .column) b)) c)
+    cases : (small : Bool) → ltb (c .settings .screen .column) (rowEndOf (c .settings .screen .mode)) ≡ small → CoreInRange (cond small (onText (onScreen c (record { display = c .settings .screen .display; mode = c .settings .screen .mode; overlay = c .settings .screen .overlay; row = c .settings .screen .row; column = c .settings .screen .column + 1 })) (set (c .text) (rowStartOf (c .settings .screen .mode) (c .settings .screen .row) + c .settings .screen .column) b)) c)
     cases true e =
         let p = both {a = ltb (c .settings .screen .row) (rowsOf (c .settings .screen .mode))} (k .cursor) in
         let end = rowEndOf (c .settings .screen .mode) in

@@ -28,6 +28,10 @@ rowsOf mode = cond (leb mode 1) 4 5
 abbrev pub rowEndOf : ℕ → ℕ
 rowEndOf mode = 16
 
+-- where a row's codes begin in the text
+abbrev pub rowStartOf : ℕ → ℕ → ℕ
+rowStartOf mode row = row * 16
+
 -- Places of an array ----------------------------------------------------------------------------------------------
 
 -- a text code: 0x20 to 0xFF

@@ -2,7 +2,7 @@
 // crate `record_ranges` asks whether a record keeps to it, and commands are judged by the same definitions.
 ghost use mathlib.Core.Path.{_≡_};
 ghost use Rattle.record.specs.Number.{paperNumber};
-ghost use Rattle.record.specs.Range.{rowsOf, rowEndOf};
+ghost use Rattle.record.specs.Range.{rowsOf, rowEndOf, rowStartOf};
 ghost use Rattle.record.specs.PowerOn.{timesAtPowerOn, formerTimes, startingWith, powerOn, formerPowerOn};
 
 // A count of 100 ms: Time1 and Time2 of the keys.
@@ -137,6 +137,13 @@ pub fn row_end(mode: u8) -> u8
     ensures same { λ r. ⌜ r ≡ rowEndOf mode ⌝ }
 {
     16
+}
+
+// Where a row's codes begin in the text.
+pub fn row_start(mode: u8, row: u8) -> usize
+    ensures same { λ r. ⌜ r ≡ rowStartOf mode row ⌝ }
+{
+    row as usize * 16
 }
 
 impl Times {

@@ -89,18 +89,17 @@ lent-back e t g b = λ j. together (e j .small) (t j) (g j) (b j)
 
 -- What the inner functions do -------------------------------------------------------------------------------------
 
--- a cursor at a place of the text, or at the end of its row; the text is kept in 5 rows of 16 codes
-pub record InRow (row column end : ℕ) : Type 0 where
-  pub below : row < 5
+-- a column of a row that begins at a place of the text, or the end of that row
+pub record InRow (start column end : ℕ) : Type 0 where
   pub within : column ≤ end
-  pub kept : end ≤ 16
+  pub kept : start + end ≤ 5 * 16
 
--- what a text byte at a cursor does, where the row ends at `end`
+-- what a text byte at a cursor does, in a row that begins at a place of the text and ends at column `end`
 abbrev pub columnAfter : ℕ → ℕ → ℕ
 columnAfter end column = cond (ltb column end) (column + 1) column
 
 abbrev pub textAfter : ℕ → List ℕ → ℕ → ℕ → ℕ → List ℕ
-textAfter end text row column b = cond (ltb column end) (set text (row * 16 + column) b) text
+textAfter end text start column b = cond (ltb column end) (set text (start + column) b) text
 
 -- the state that the loop's locals stand for
 abbrev pub standing : Settings → List ℕ → List ℕ → ℕ → ℕ → List ℕ → State Core

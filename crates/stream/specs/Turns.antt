@@ -1,5 +1,5 @@
 -- The turns of the reader's loop: what each kind of byte does to the state that the loop's locals stand for. Assumes nothing.
-use Prim.Native.Nat.{ℕ, suc, _+_, _-_, _≤_, _<_}
+use Prim.Native.Nat.{ℕ, suc, _+_, _-_, _*_, _≤_, _<_}
 use native.Mathlib.Omega.{arith}
 use native.Mathlib.Numerals.{add-one}
 use mathlib.Core.Path.{_≡_, refl, sym, ap, _∙_, subst}
@@ -16,7 +16,7 @@ use Rattle.record.specs.declared.Settings.{Settings}
 use Rattle.record.specs.declared.Held.{Held}
 use Rattle.record.specs.declared.Frame.{Frame as KeptFrame}
 use Rattle.lists.specs.Both.{both}
-use Rattle.record.specs.Range.{rowsOf, rowEndOf}
+use Rattle.record.specs.Range.{rowsOf, rowEndOf, rowStartOf}
 use Rattle.record.specs.With.{withScreen, withColumn}
 use Rattle.parting.specs.Rules.{Frame, noFrame, openFrame, overlong, limit}
 use Rattle.parting.specs.Meaning.{State}
@@ -69,12 +69,12 @@ shows-some state len bs n = rw (ne-eqb state 0 n) (go (eqb state 1))
 
 -- a text byte changes the column and the text
 stored : (p : Settings) (t g : List ℕ) (b : ℕ)
-    → storeText (core p t g) b ≡ core (withScreen p (withColumn (p .screen) (columnAfter (rowEndOf (p .screen .mode)) (p .screen .column)))) (textAfter (rowEndOf (p .screen .mode)) t (p .screen .row) (p .screen .column) b) g
+    → storeText (core p t g) b ≡ core (withScreen p (withColumn (p .screen) (columnAfter (rowEndOf (p .screen .mode)) (p .screen .column)))) (textAfter (rowEndOf (p .screen .mode)) t (rowStartOf (p .screen .mode) (p .screen .row)) (p .screen .column) b) g
 unfolding storeText
 stored p t g b = go (ltb (p .screen .column) (rowEndOf (p .screen .mode))) refl
   where
     go : (x : Bool) → ltb (p .screen .column) (rowEndOf (p .screen .mode)) ≡ x
-        → storeText (core p t g) b ≡ core (withScreen p (withColumn (p .screen) (columnAfter (rowEndOf (p .screen .mode)) (p .screen .column)))) (textAfter (rowEndOf (p .screen .mode)) t (p .screen .row) (p .screen .column) b) g
+        → storeText (core p t g) b ≡ core (withScreen p (withColumn (p .screen) (columnAfter (rowEndOf (p .screen .mode)) (p .screen .column)))) (textAfter (rowEndOf (p .screen .mode)) t (rowStartOf (p .screen .mode) (p .screen .row)) (p .screen .column) b) g
     go true e = rw e
     go false e = rw e
 
@@ -136,7 +136,7 @@ module _ (p : Settings) (t g : List ℕ) (state len : ℕ) (fr : List ℕ) (b : 
   here = standing p t g state len fr
 
   -- no frame open
-  pub turn-text : (next : ℕ) (t′ : List ℕ) → state ≡ 0 → blank ≤ b → next ≡ columnAfter (rowEndOf (p .screen .mode)) (p .screen .column) → t′ ≡ textAfter (rowEndOf (p .screen .mode)) t (p .screen .row) (p .screen .column) b
+  pub turn-text : (next : ℕ) (t′ : List ℕ) → state ≡ 0 → blank ≤ b → next ≡ columnAfter (rowEndOf (p .screen .mode)) (p .screen .column) → t′ ≡ textAfter (rowEndOf (p .screen .mode)) t (rowStartOf (p .screen .mode) (p .screen .row)) (p .screen .column) b
       → step handset (standing p t g state len fr) b ≡ quietly (standing (withScreen p (withColumn (p .screen) next)) t′ g state len fr)
   turn-text next t′ e h x y =
       step-stores handset here b (shows-noFrame state len fr e) h
@@ -242,7 +242,7 @@ pub same-core : {ran : Ran Core} {before : List ℕ} {x y : Core} {f : Frame} {i
 same-core {ran} {before} {f} {i} {w} {after} e a = subst (λ (c : Core). Account ran before (still (record { core = c; frame = f }) i w after)) e a
 
 -- the core stays in range
-pub range-stored : (p : Settings) (t g : List ℕ) (b next : ℕ) (t′ : List ℕ) → blank ≤ b → next ≡ columnAfter (rowEndOf (p .screen .mode)) (p .screen .column) → t′ ≡ textAfter (rowEndOf (p .screen .mode)) t (p .screen .row) (p .screen .column) b
+pub range-stored : (p : Settings) (t g : List ℕ) (b next : ℕ) (t′ : List ℕ) → blank ≤ b → next ≡ columnAfter (rowEndOf (p .screen .mode)) (p .screen .column) → t′ ≡ textAfter (rowEndOf (p .screen .mode)) t (rowStartOf (p .screen .mode) (p .screen .row)) (p .screen .column) b
     → CoreInRange (core p t g) → CoreInRange (core (withScreen p (withColumn (p .screen) next)) t′ g)
 range-stored p t g b next t′ h x y k = rw (x, y, ← stored p t g b) (store-keeps (core p t g) b k h)
 
@@ -253,26 +253,26 @@ rows-at-most mode row = cases (leb mode 1)
     cases true h = omega (arith, ltb-true row 4 h)
     cases false h = omega (arith, ltb-true row 5 h)
 
--- a row ends within the 16 codes that the text keeps for it
-row-end-fits : (mode : ℕ) → rowEndOf mode ≤ 16
-row-end-fits mode = omega arith
+-- a row's codes lie within the text
+row-fits : (mode row : ℕ) → ltb row (rowsOf mode) ≡ true → rowStartOf mode row + rowEndOf mode ≤ 5 * 16
+row-fits mode row h = let few = rows-at-most mode row h in omega arith
 
 -- the cursor of a core in range is at a place of the text, or at the end of its row
-pub in-place : {p : Settings} {t g : List ℕ} → CoreInRange (core p t g) → InRow (p .screen .row) (p .screen .column) (rowEndOf (p .screen .mode))
+pub in-place : {p : Settings} {t g : List ℕ} → CoreInRange (core p t g) → InRow (rowStartOf (p .screen .mode) (p .screen .row)) (p .screen .column) (rowEndOf (p .screen .mode))
 in-place {p} k =
     let e = both {a = ltb (p .screen .row) (rowsOf (p .screen .mode))} (k .cursor) in
-    record { below = rows-at-most (p .screen .mode) (p .screen .row) (e .0); within = leb-true (p .screen .column) (rowEndOf (p .screen .mode)) (e .1); kept = row-end-fits (p .screen .mode) }
+    record { within = leb-true (p .screen .column) (rowEndOf (p .screen .mode)) (e .1); kept = row-fits (p .screen .mode) (p .screen .row) (e .0) }
 
--- A run of text bytes in a row that ends at `end`: wherever the loop stood before it, it stands after it ---------------
+-- A run of text bytes in a row that begins at `start` and ends at `end`: wherever the loop stood before it, it stands after it ---------------
 
-pub record Stores (row end column : ℕ) (t bytes : List ℕ) (from at next : ℕ) (t′ : List ℕ) : Type 0 where
+pub record Stores (start end column : ℕ) (t bytes : List ℕ) (from at next : ℕ) (t′ : List ℕ) : Type 0 where
   pub inside : at ≤ length bytes
   pub small : next ≤ end
-  pub goes : {before : List ℕ} {s : State Core} {answers : List ℕ} {p : Settings} {g : List ℕ} {state len : ℕ} {fr : List ℕ} {w : ℕ} → state ≡ 0 → p .screen .row ≡ row → rowEndOf (p .screen .mode) ≡ end → p .screen .column ≡ column
+  pub goes : {before : List ℕ} {s : State Core} {answers : List ℕ} {p : Settings} {g : List ℕ} {state len : ℕ} {fr : List ℕ} {w : ℕ} → state ≡ 0 → rowStartOf (p .screen .mode) (p .screen .row) ≡ start → rowEndOf (p .screen .mode) ≡ end → p .screen .column ≡ column
       → Going bytes before s answers p t g state len fr from w → Going bytes before s answers (withScreen p (withColumn (p .screen) next)) t′ g state len fr at w
 
-pub stores-none : (row end column : ℕ) (t bytes : List ℕ) (from : ℕ) → from ≤ length bytes → column ≤ end → Stores row end column t bytes from from column t
-stores-none row end column t bytes from l k =
+pub stores-none : (start end column : ℕ) (t bytes : List ℕ) (from : ℕ) → from ≤ length bytes → column ≤ end → Stores start end column t bytes from from column t
+stores-none start end column t bytes from l k =
     record {
       inside = l;
       small = k;
@@ -280,23 +280,23 @@ stores-none row end column t bytes from l k =
           subst (λ (n : ℕ). Going bytes before s answers (withScreen p (withColumn (p .screen) n)) t g state len fr from w) c going;
     }
 
-pub stores-more : {row end column : ℕ} {t bytes : List ℕ} {from at next : ℕ} {t′ : List ℕ} (next′ : ℕ) (t″ : List ℕ) → Stores row end column t bytes from at next t′ → at < length bytes → blank ≤ getD bytes at 0 → next′ ≤ end
-    → next′ ≡ columnAfter end next → t″ ≡ textAfter end t′ row next (getD bytes at 0) → Stores row end column t bytes from (at + 1) next′ t″
-stores-more {row} {end} {column} {t} {bytes} {from} {at} {next} {t′} next′ t″ k l h small x y =
+pub stores-more : {start end column : ℕ} {t bytes : List ℕ} {from at next : ℕ} {t′ : List ℕ} (next′ : ℕ) (t″ : List ℕ) → Stores start end column t bytes from at next t′ → at < length bytes → blank ≤ getD bytes at 0 → next′ ≤ end
+    → next′ ≡ columnAfter end next → t″ ≡ textAfter end t′ start next (getD bytes at 0) → Stores start end column t bytes from (at + 1) next′ t″
+stores-more {start} {end} {column} {t} {bytes} {from} {at} {next} {t′} next′ t″ k l h small x y =
     record {
       inside = omega arith;
       small = small;
       goes = λ {before} {s} {answers} {p} {g} {state} {len} {fr} {w} e r m c going.
           let on = k .goes e r m c going in
           let v : next′ ≡ columnAfter (rowEndOf (p .screen .mode)) next = x ∙ (λ j. columnAfter (sym m j) next) in
-          let z : t″ ≡ textAfter (rowEndOf (p .screen .mode)) t′ (p .screen .row) next (getD bytes at 0) = y ∙ (λ j. textAfter (sym m j) t′ (sym r j) next (getD bytes at 0)) in
+          let z : t″ ≡ textAfter (rowEndOf (p .screen .mode)) t′ (rowStartOf (p .screen .mode) (p .screen .row)) next (getD bytes at 0) = y ∙ (λ j. textAfter (sym m j) t′ (sym r j) next (getD bytes at 0)) in
           let q : Settings = withScreen p (withColumn (p .screen) next) in
           go-quiet on l (range-stored q t′ g (getD bytes at 0) next′ t″ h v z (on .range)) (on .fits) (turn-text q t′ g state len fr (getD bytes at 0) next′ t″ e h v z);
     }
 
-pub stores-first : {row end column : ℕ} {t bytes : List ℕ} {from : ℕ} (next : ℕ) (t′ : List ℕ) → InRow row column end × (from < length bytes) × (blank ≤ getD bytes from 0) → (next ≡ columnAfter end column) × (next ≤ end) × (t′ ≡ textAfter end t row column (getD bytes from 0))
-    → Stores row end column t bytes from (from + 1) next t′
-stores-first {row} {end} {column} {t} {bytes} {from} next t′ (k, l, h) (x, small, y) = stores-more next t′ (stores-none row end column t bytes from (omega arith) (k .within)) l h small x y
+pub stores-first : {start end column : ℕ} {t bytes : List ℕ} {from : ℕ} (next : ℕ) (t′ : List ℕ) → InRow start column end × (from < length bytes) × (blank ≤ getD bytes from 0) → (next ≡ columnAfter end column) × (next ≤ end) × (t′ ≡ textAfter end t start column (getD bytes from 0))
+    → Stores start end column t bytes from (from + 1) next t′
+stores-first {start} {end} {column} {t} {bytes} {from} next t′ (k, l, h) (x, small, y) = stores-more next t′ (stores-none start end column t bytes from (omega arith) (k .within)) l h small x y
 
-pub stores-on : {row end column : ℕ} {t bytes : List ℕ} {from mid at between next : ℕ} {t′ t″ : List ℕ} → Stores row end column t bytes from mid between t′ → Stores row end between t′ bytes mid at next t″ → Stores row end column t bytes from at next t″
+pub stores-on : {start end column : ℕ} {t bytes : List ℕ} {from mid at between next : ℕ} {t′ t″ : List ℕ} → Stores start end column t bytes from mid between t′ → Stores start end between t′ bytes mid at next t″ → Stores start end column t bytes from at next t″
 stores-on first rest = record { inside = rest .inside; small = rest .small; goes = λ e r m c going. rest .goes e r m refl (first .goes e r m c going) }

@@ -64,13 +64,12 @@ fn wide(b: u8) -> usize
 }
 
 // A text byte is stored at the cursor: the column after it. At the row's end it is dropped.
-fn store(text: &mut [u8; 80], row: u8, column: u8, end: u8, b: u8) -> u8
-    requires { ⌜ InRow row column end ⌝ }
-    ensures { λ r. ⌜ (r ≡ columnAfter end column) × (r ≤ end) × (now (text .exit) ≡ textAfter end (now (text .entry)) row column b) ⌝ }
+fn store(text: &mut [u8; 80], start: usize, column: u8, end: u8, b: u8) -> u8
+    requires { ⌜ InRow start column end ⌝ }
+    ensures { λ r. ⌜ (r ≡ columnAfter end column) × (r ≤ end) × (now (text .exit) ≡ textAfter end (now (text .entry)) start column b) ⌝ }
 {
     if column < end {
-        let at = wide(row) * 16 + wide(column);
-        text[at] = b;
+        text[start + wide(column)] = b;
         return column + 1;
     }
     column
@@ -83,11 +82,18 @@ struct Run {
 }
 
 // Stores the text byte at a place and all that follow it at once: most of a stream is text, and this loop is short.
-fn store_all(text: &mut [u8; 80], row: u8, column: u8, end: u8, bytes: &[u8], from: usize) -> Run
-    requires { ⌜ InRow row column end × (from < length (now bytes)) × (blank ≤ getD (now bytes) from 0) ⌝ }
-    ensures { λ r. ⌜ (from < r .at) × (Stores row end column (now (text .entry)) (now (bytes .entry)) from (r .at) (r .column) (now (text .exit))) ⌝ }
+fn store_all(
+    text: &mut [u8; 80],
+    start: usize,
+    column: u8,
+    end: u8,
+    bytes: &[u8],
+    from: usize,
+) -> Run
+    requires { ⌜ InRow start column end × (from < length (now bytes)) × (blank ≤ getD (now bytes) from 0) ⌝ }
+    ensures { λ r. ⌜ (from < r .at) × (Stores start end column (now (text .entry)) (now (bytes .entry)) from (r .at) (r .column) (now (text .exit))) ⌝ }
 {
-    let mut next = store(text, row, column, end, bytes[from]);
+    let mut next = store(text, start, column, end, bytes[from]);
     let mut i = from + 1;
     while i < bytes.len() {
         let b = bytes[i];
@@ -97,7 +103,7 @@ fn store_all(text: &mut [u8; 80], row: u8, column: u8, end: u8, bytes: &[u8], fr
                 column: next,
             };
         }
-        next = store(text, row, next, end, b);
+        next = store(text, start, next, end, b);
         i += 1;
     }
     Run {
@@ -145,15 +151,9 @@ fn read(
         let b = bytes[i];
         if state == NO_FRAME {
             if BLANK <= b {
+                let start = record::row_start(settings.screen.mode, settings.screen.row);
                 let end = record::row_end(settings.screen.mode);
-                let run = store_all(
-                    text,
-                    settings.screen.row,
-                    settings.screen.column,
-                    end,
-                    bytes,
-                    i,
-                );
+                let run = store_all(text, start, settings.screen.column, end, bytes, i);
                 settings.screen.column = run.column;
                 i = run.at;
                 continue;

@@ -25,18 +25,21 @@ loop-holds c = record { account = go-start (step handset) _ _ _; range = c .befo
 shared-slice-read-b : tie.Need-shared-slice-read-b Inv-loop μ-loop
 shared-slice-read-b c = search needs
 
+row-start-requires : tie.Need-row-start-requires Inv-loop μ-loop
+row-start-requires c κs = search needs
+
 row-end-requires : tie.Need-row-end-requires Inv-loop μ-loop
 row-end-requires c κs = search needs
 
 store-all-requires : tie.Need-store-all-requires Inv-loop μ-loop
-store-all-requires c κs = let q = in-place (c .before .before .before .before .before .before .loop .inv .range) in
-    (rw (c .before .row-end .ensures) q, c .before .before .before .before .before .loop-test .taken, c .before .before .if2 .taken)
+store-all-requires c κs = let q = in-place (c .before .before .before .before .before .before .before .loop .inv .range) in
+    (rw (c .before .before .row-start .ensures, c .before .row-end .ensures) q, c .before .before .before .before .before .before .loop-test .taken, c .before .before .before .if2 .taken)
 
 loop-less : tie.Need-loop-less Inv-loop μ-loop
-loop-less c = let t = c .before .before .before .before .before .before .before .loop-test .taken in let k = c .before .store-all .ensures .0 in let l = c .before .store-all .ensures .1 .inside in omega arith
+loop-less c = let t = c .before .before .before .before .before .before .before .before .loop-test .taken in let k = c .before .store-all .ensures .0 in let l = c .before .store-all .ensures .1 .inside in omega arith
 
 loop-again : tie.Need-loop-again Inv-loop μ-loop
-loop-again c = let v = c .before .before .before .before .before .before .before .before .loop in c .before .store-all .ensures .1 .goes (c .before .before .before .before .before .if1 .taken) refl (sym (c .before .before .before .row-end .ensures)) refl (v .inv)
+loop-again c = let v = c .before .before .before .before .before .before .before .before .before .loop in c .before .store-all .ensures .1 .goes (c .before .before .before .before .before .before .if1 .taken) (sym (c .before .before .before .before .row-start .ensures)) (sym (c .before .before .before .row-end .ensures)) refl (v .inv)
 
 add-i : tie.Need-add-i Inv-loop μ-loop
 add-i c = search needs
@@ -186,6 +189,7 @@ read-spec =
     μ-loop
     loop-holds
     shared-slice-read-b
+    row-start-requires
     row-end-requires
     store-all-requires
     loop-less

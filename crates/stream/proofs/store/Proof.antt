@@ -8,14 +8,8 @@ use Rattle.stream.proofs.store.Tie as tie
 wide-requires : tie.Need-wide-requires
 wide-requires c κs = search needs
 
-mul-at : tie.Need-mul-at
-mul-at c = search needs
-
-wide-requires-2 : tie.Need-wide-requires-2
-wide-requires-2 c κs = search needs
-
-add-at : tie.Need-add-at
-add-at c = search needs
+add-text : tie.Need-add-text
+add-text c = search needs
 
 element-write-text : tie.Need-element-write-text
 element-write-text c = search needs
@@ -24,7 +18,7 @@ add-result : tie.Need-add-result
 add-result c = search needs
 
 returns : tie.Need-returns
-returns c = (rw (lt-ltb (c .before .before .before .args .column) (c .before .before .before .args .end) (omega arith)), omega arith, rw (c .before .wide .ensures, c .wide2 .ensures) (simp (lt-ltb _ _ (c .before .before .if1 .taken))))
+returns c = (rw (lt-ltb (c .before .before .args .column) (c .before .before .args .end) (omega arith)), omega arith, rw (c .wide .ensures) (simp (lt-ltb _ _ (c .before .if1 .taken))))
 
 returns-2 : tie.Need-returns-2
 returns-2 c = (simp (le-ltb _ _ (c .if1 .left)), omega arith, simp (le-ltb _ _ (c .if1 .left)))
@@ -34,9 +28,7 @@ store-spec =
     tie.close
     (tie.spec
     wide-requires
-    mul-at
-    wide-requires-2
-    add-at
+    add-text
     element-write-text
     add-result
     returns

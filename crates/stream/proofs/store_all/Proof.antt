@@ -8,10 +8,10 @@ use Rattle.stream.proofs.store_all.Statement.{statement}
 use Rattle.stream.proofs.store_all.Tie as tie
 
 abbrev Inv-loop : tie.InvT-loop
-Inv-loop text₀ row column end bytes from next₀ i₀ text next i = (i₀ ≤ i) × Stores row end next₀ text₀ bytes i₀ i next text
+Inv-loop text₀ start column end bytes from next₀ i₀ text next i = (i₀ ≤ i) × Stores start end next₀ text₀ bytes i₀ i next text
 
 abbrev μ-loop : tie.MeasureT-loop
-μ-loop text₀ row column end bytes from next₀ i₀ text next i = length bytes - i
+μ-loop text₀ start column end bytes from next₀ i₀ text next i = length bytes - i
 
 shared-slice-read-store : tie.Need-shared-slice-read-store Inv-loop μ-loop
 shared-slice-read-store c = search needs
@@ -32,7 +32,7 @@ returns : tie.Need-returns Inv-loop μ-loop
 returns c = let v = c .before .before .before .loop .inv in (let l = v .0 in omega arith, stores-on (stores-first _ _ (c .before .before .before .before .before .before .before .before .pre) (c .before .before .before .before .store .ensures)) (v .1))
 
 store-requires-2 : tie.Need-store-requires-2 Inv-loop μ-loop
-store-requires-2 c κs = let p = c .before .before .before .before .before .before .before .before .before .pre .0 in record { below = p .below; within = c .before .before .before .before .loop .inv .1 .small; kept = p .kept }
+store-requires-2 c κs = let p = c .before .before .before .before .before .before .before .before .before .pre .0 in record { within = c .before .before .before .before .loop .inv .1 .small; kept = p .kept }
 
 add-i-2 : tie.Need-add-i-2 Inv-loop μ-loop
 add-i-2 c = search needs
