@@ -6,6 +6,10 @@ const ESCAPE: u8 = 0x1B;
 const CARRIAGE_RETURN: u8 = 0x0D;
 const LIMIT: usize = 250;
 
+// The text mode of large digits, and where its line begins in the text.
+const LARGE: u8 = 10;
+const LINE: usize = 80;
+
 #[derive(Clone, Copy, PartialEq)]
 enum Reading {
     Text,
@@ -63,7 +67,8 @@ struct Display {
     shown: bool,
     row: usize,
     column: usize,
-    text: [u8; 80],
+    // Five rows of 16 codes, and then the large line of 24.
+    text: [u8; 104],
     labels: [Label; 2],
     picture: [u8; 672],
     icons: [u8; 6],
@@ -142,25 +147,37 @@ fn columns(data: &[u8]) -> Option<([u8; 96], usize)> {
 
 impl Display {
     fn put(&mut self, b: u8) {
-        if self.column < 16 {
-            self.text[self.row * 16 + self.column] = b;
+        if self.column < self.row_end() {
+            self.text[self.row_start() + self.column] = b;
             self.column += 1;
         }
     }
 
     fn rows(&self) -> usize {
-        if self.mode <= 1 { 4 } else { 5 }
+        match self.mode {
+            0 | 1 => 4,
+            LARGE => 1,
+            _ => 5,
+        }
+    }
+
+    fn row_start(&self) -> usize {
+        if self.mode == LARGE { LINE } else { self.row * 16 }
+    }
+
+    fn row_end(&self) -> usize {
+        if self.mode == LARGE { 24 } else { 16 }
     }
 
     fn set_mode(&mut self, n: u16) {
         match n {
-            0 | 1 | 5 | 6 => {
+            0 | 1 | 5 | 6 | 10 => {
                 self.mode = n as u8;
                 self.overlay = 0;
                 self.row = 0;
                 self.column = 0;
             }
-            11..=13 => self.overlay = n as u8,
+            11..=18 => self.overlay = n as u8,
             _ => {}
         }
     }
@@ -253,7 +270,7 @@ impl Display {
             [b'[', numbers @ .., b'H'] => match pair(numbers) {
                 None => false,
                 Some((row, column)) => {
-                    if (row as usize) < self.rows() && column <= 15 {
+                    if self.mode != LARGE && (row as usize) < self.rows() && column <= 15 {
                         self.row = row as usize;
                         self.column = column as usize;
                     }
@@ -261,7 +278,7 @@ impl Display {
                 }
             },
             [b'&', b'#'] => {
-                self.text = [0x20; 80];
+                self.text = [0x20; 104];
                 self.row = 0;
                 self.column = 0;
                 true
@@ -321,10 +338,10 @@ impl Display {
     fn in_range(&self) -> bool {
         let [s, u, f, r, p, w] = self.icons;
         let v = &self.volume;
-        matches!(self.mode, 0 | 1 | 5 | 6)
-            && matches!(self.overlay, 0 | 11 | 12 | 13)
+        matches!(self.mode, 0 | 1 | 5 | 6 | LARGE)
+            && matches!(self.overlay, 0 | 11..=18)
             && self.row < self.rows()
-            && self.column <= 16
+            && self.column <= self.row_end()
             && self.text.iter().fold(true, |ok, &b| ok & (b >= 0x20))
             && self.labels[0].in_range()
             && self.labels[1].in_range()
@@ -348,7 +365,7 @@ impl Handset {
                 shown: false,
                 row: 0,
                 column: 0,
-                text: [0x20; 80],
+                text: [0x20; 104],
                 labels: [label(), label()],
                 picture: [0; 672],
                 icons: [0; 6],
@@ -479,10 +496,10 @@ impl Handset {
         numbers.fold(0, |mark, n| (mark * 31 + n % PRIME) % PRIME)
     }
 
-    /// What a peer's screen is compared with: the text, both labels and icon P.
+    /// What a peer's screen is compared with: the rows of text, both labels and icon P.
     #[allow(dead_code)]
-    pub fn seen(&self) -> (&[u8; 80], [&[u8]; 2], u8) {
+    pub fn seen(&self) -> (&[u8], [&[u8]; 2], u8) {
         let d = &self.display;
-        (&d.text, [&d.labels[0].codes[..d.labels[0].len], &d.labels[1].codes[..d.labels[1].len]], d.icons[4])
+        (&d.text[..LINE], [&d.labels[0].codes[..d.labels[0].len], &d.labels[1].codes[..d.labels[1].len]], d.icons[4])
     }
 }

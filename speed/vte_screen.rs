@@ -90,7 +90,7 @@ pub fn agrees(work: &Work) {
     handset.feed(&work.handset, &mut [0; 64]);
     let screen = shown(&work.ansi);
     let labels = [&screen.labels[0].0[..screen.labels[0].1], &screen.labels[1].0[..screen.labels[1].1]];
-    if handset.seen() != (&screen.text, labels, screen.icon) {
+    if handset.seen() != (&screen.text[..], labels, screen.icon) {
         eprintln!("bench: the ANSI stream left another screen than the handset's");
         std::process::exit(1);
     }

@@ -311,8 +311,8 @@ done
 for line in 'icon p 3' 'icon Q 1' 'icon 3' 'icon'; do
     refused "$line" 'icons are S U F R P W, in capital letters'
 done
-refused 'mode 4' 'out of range: mode is 0 1 5 6 or 11 12 13'
-refused 'mode 14' 'out of range: mode is 0 1 5 6 or 11 12 13'
+refused 'mode 4' 'out of range: mode is 0 1 5 6 10 or 11 to 18'
+refused 'mode 19' 'out of range: mode is 0 1 5 6 10 or 11 to 18'
 refused 'at 5 0' 'out of range: at is a row 0-4 and a column 0-15'
 refused 'at 0 16' 'out of range: at is a row 0-4 and a column 0-15'
 refused 'left Keep mine' 'out of range: a label has at most 7 codes, none below 0x20'
@@ -364,7 +364,7 @@ cat >"$work/menu" <<'SCREEN'
 │                                                │
 │    S  e  n  d     t  h  e     d  a  y          │
 │                                                │
-│ S  e  l  e  c  t      ▲▼            B  a  c  k │
+│ S  e  l  e  c  t      ▲▼   B  a  c  k          │
 │                                                │
 │                                                │
 │                                                │
@@ -387,6 +387,18 @@ printf 'mode 0\ntext no\nicon F 6\npicture 1 FF\nmode 11\nleft yes\n' | screen |
     says "show_screen: icon bar, picture and labels under overlay 11" $' Y▁▂▄▆█\n⡇\n⡇\n y  e  s'
 printf 'mode 13\nleft no\npicture 5 00 81\npicture 6 1F\n' | screen | sed -n -e 's/ *$//' -e '11,14p' |
     says "show_screen: all rows are dots under overlay 13, the last five dots high" $'⠈\n⢀\n⡇\n⠁'
+printf 'mode 10\ntext 0012345678\n' | screen | sed -n -e 's/ *$//' -e '3,8p' |
+    says "show_screen: in mode 10 the last eight digits are big, the first two small" $' 0  0\n\n       ___   ___         ___   ___   ___   ___\n    |  ___|  ___| |___| |___  |___      | |___|\n    | |         |     |     | |   |     | |   |\n    | |___   ___|     |  ___| |___|     | |___|'
+printf 'mode 10\ntext A 1\n' | screen | sed -n -e 's/ *$//' -e '5,8p' |
+    says "show_screen: a big sign that is no digit is drawn two by two" $'\n  AA            |\n  AA            |\n                |'
+printf 'mode 0\ntext yes\npicture 1 FF\npicture 3 FF\nat 2 0\ntext no\nat 3 0\ntext low\nmode 17\n' | screen | sed -n -e 's/ *$//' -e '3p;7p;8p' |
+    says "show_screen: under overlay 17 two rows of text and a picture" $' y  e  s\n⡇\n⡇'
+printf 'mode 0\npicture 5 ' >"$work/words"
+printf 'FF%.0s' {1..96} >>"$work/words"
+printf '\nleft no\nicon W 3\nmode 14\n' >>"$work/words"
+full=$(printf '⣿%.0s' {1..21})
+screen <"$work/words" | sed -n -e '11,12p' |
+    says "show_screen: under overlay 14 the rocker stands between two halves of the picture" "$full  ▲▼  $full"$'\n'"$full      $full"
 letter() { # the SMS panel's words in the icon bar after these words, lit and in the pause
     program write_frame >"$work/letter"
     for phase in '' --pause; do

@@ -11,7 +11,7 @@ use Rattle.numeral.specs.Numeral.{digitOf}
 use Rattle.lists.specs.Padded.{padded}
 use Rattle.picture.specs.Reading.{hexOf, timesOf, items, columnsOf}
 use Rattle.command.specs.Order.{Order, plain, label, draw}
-use Rattle.command.specs.InRange.{orderInRange}
+use Rattle.command.specs.InRange.{rowsNamed, orderInRange}
 use Rattle.command.specs.Reading.{twoNumbers, withNumber, numberFrame, displayOf, lightOf, isText, labelRead, afterI, cursorSign, positionOf, readOf, opensPicture, rowAndData, drawnRow, pictureOf, orderOf}
 use Rattle.command.specs.declared.Command.the-variants.{DisplayOff, DisplayOn, Mode, CursorShown, CursorHidden, Clear, Position, LabelsEmpty, IconS, IconU, IconF, IconR, IconP, IconW, Private, Handsfree, HandsfreeOfNote, Mute, KeyTimes, Buzzer, Light, LightOn, LightAutoStart, LightAuto, DefaultDuration, KeypadSet, KeypadCleared}
 use Rattle.command.specs.declared.Side.the-variants.{Left, Right}
@@ -41,7 +41,7 @@ table =
     ∷ (judged 4 (ascii "IDDD"), bad)
     ∷ (judged 4 (ascii "IDd"), bad)
     ∷ (judged 4 (ascii "ID0" ++ lineFeed ∷ []), bad)
-    -- IDn: 0, 1, 5, 6, 11, 12, 13; leading zeros are allowed
+    -- IDn: 0, 1, 5, 6, 10, 11 to 18
     ∷ (judged 4 (ascii "ID0"), obeyed (plain (Mode 0)))
     ∷ (judged 4 (ascii "ID1"), obeyed (plain (Mode 1)))
     ∷ (judged 4 (ascii "ID5"), obeyed (plain (Mode 5)))
@@ -49,13 +49,16 @@ table =
     ∷ (judged 4 (ascii "ID11"), obeyed (plain (Mode 11)))
     ∷ (judged 4 (ascii "ID12"), obeyed (plain (Mode 12)))
     ∷ (judged 4 (ascii "ID13"), obeyed (plain (Mode 13)))
+    ∷ (judged 4 (ascii "ID10"), obeyed (plain (Mode 10)))
+    ∷ (judged 4 (ascii "ID14"), obeyed (plain (Mode 14)))
+    ∷ (judged 4 (ascii "ID18"), obeyed (plain (Mode 18)))
     ∷ (judged 4 (ascii "ID011"), bad)
     ∷ (judged 4 (ascii "ID00"), bad)
     ∷ (judged 4 (ascii "ID2"), passedOver (plain (Mode 2)))
     ∷ (judged 4 (ascii "ID4"), passedOver (plain (Mode 4)))
     ∷ (judged 4 (ascii "ID7"), passedOver (plain (Mode 7)))
-    ∷ (judged 4 (ascii "ID10"), passedOver (plain (Mode 10)))
-    ∷ (judged 4 (ascii "ID14"), passedOver (plain (Mode 14)))
+    ∷ (judged 4 (ascii "ID9"), passedOver (plain (Mode 9)))
+    ∷ (judged 4 (ascii "ID19"), passedOver (plain (Mode 19)))
     ∷ (judged 4 (ascii "ID999"), passedOver (plain (Mode 999)))
     ∷ (judged 4 (ascii "ID0000"), bad)
     ∷ (judged 4 (ascii "ID1a"), bad)
@@ -68,7 +71,7 @@ table =
     ∷ (judged 4 (ascii "&CC"), bad)
     ∷ (judged 4 (ascii "&V"), bad)
     ∷ (judged 4 (ascii "&C0"), bad)
-    -- [n;nH: a row of the text mode, column 0-15
+    -- [n;nH: a row of the text mode, column 0-15; none in mode 10
     ∷ (judged 4 (ascii "[0;0H"), obeyed (plain (Position 0 0)))
     ∷ (judged 4 (ascii "[3;15H"), obeyed (plain (Position 3 15)))
     ∷ (judged 4 (ascii "[03;5H"), bad)
@@ -78,6 +81,7 @@ table =
     ∷ (judged 5 (ascii "[5;0H"), passedOver (plain (Position 5 0)))
     ∷ (judged 4 (ascii "[0;16H"), passedOver (plain (Position 0 16)))
     ∷ (judged 5 (ascii "[0;16H"), passedOver (plain (Position 0 16)))
+    ∷ (judged (rowsNamed 10) (ascii "[0;0H"), passedOver (plain (Position 0 0)))
     ∷ (judged 4 (ascii "["), bad)
     ∷ (judged 4 (ascii "[1;2"), bad)
     ∷ (judged 4 (ascii "[;2H"), bad)

@@ -1,13 +1,13 @@
 -- Which orders are in range: document 01's second column, by the record's own ranges. Assumes nothing.
 use Prim.Native.Nat.{ℕ}
-use mathlib.Core.Bool.{Bool, true, not, _&&_, _||_}
+use mathlib.Core.Bool.{Bool, true, not, cond, _&&_, _||_}
 use lib.Dec.{leb, ltb, eqb}
-use Rattle.record.specs.Range.{rowsOf, modeInRange, overlayInRange, iconSInRange, iconUInRange, iconFInRange, iconRInRange, iconPInRange, iconWInRange, time1InRange, time2InRange, buzzerInRange, durationInRange}
+use Rattle.record.specs.Range.{large, rowsOf, modeInRange, overlayInRange, iconSInRange, iconUInRange, iconFInRange, iconRInRange, iconPInRange, iconWInRange, time1InRange, time2InRange, buzzerInRange, durationInRange}
 use Rattle.command.specs.Order.{Order, plain, label, draw}
 use Rattle.command.specs.declared.Command.{Command}
 use Rattle.command.specs.declared.Command.the-variants.{DisplayOff, DisplayOn, Mode, CursorShown, CursorHidden, Clear, Position, LabelsEmpty, IconS, IconU, IconF, IconR, IconP, IconW, Private, Handsfree, HandsfreeOfNote, Mute, KeyTimes, Buzzer, Light, LightOn, LightAutoStart, LightAuto, DefaultDuration, KeypadSet, KeypadCleared}
 
--- an overlay that a frame can name: 11, 12, 13 (none is no number)
+-- an overlay that a frame can name: 11 to 18 (none is no number)
 abbrev pub isOverlay : ℕ → Bool
 isOverlay n = overlayInRange n && not (eqb n 0)
 
@@ -63,9 +63,13 @@ orderInRange rows (plain c) = commandInRange rows c
 orderInRange rows (label side codes) = true
 orderInRange rows (draw row columns) = isPictureRow row
 
+-- the rows that a cursor frame can name: the text mode's, but none in mode 10
+abbrev pub rowsNamed : ℕ → ℕ
+rowsNamed mode = cond (eqb mode large) 0 (rowsOf mode)
+
 -- in a text mode
 abbrev pub inRangeInMode : ℕ → Order → Bool
-inRangeInMode mode order = orderInRange (rowsOf mode) order
+inRangeInMode mode order = orderInRange (rowsNamed mode) order
 
 -- the most rows that a text mode has: a writer, which knows no mode, takes cursor rows 0-4
 abbrev pub mostRows : ℕ

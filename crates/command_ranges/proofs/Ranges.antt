@@ -4,9 +4,10 @@ use Prim.Native.Nat.{ℕ, zero, suc, _+_, _≤_, _<_}
 use native.Mathlib.Omega.{arith}
 use mathlib.Core.Bool.{Bool, true, false, _&&_, _||_}
 use mathlib.Core.Path.{_≡_, refl, sym, subst}
-use lib.Dec.{eqb}
-use borrow.Author.Tests.{ne-eqb, eqb-true, eqb-false}
+use lib.Dec.{leb, eqb}
+use borrow.Author.Tests.{ne-eqb, eqb-true, eqb-false, leb-true}
 use Rattle.lists.specs.Both.{both}
+use Rattle.lists.specs.Tests.{by-test}
 use Rattle.record.specs.Range.{modeInRange}
 use Rattle.command.specs.InRange.{isOverlay}
 
@@ -23,7 +24,10 @@ in-range-of test first (suc count) n h low high = cases (eqb first n) refl (λ a
     cases true e later = subst (λ (m : ℕ). true ≡ test m) (eqb-true first n e) (sym (both {a = test first} h .0))
     cases false e later = later (omega (arith, eqb-false first n e))
 
-pub no-mode : (n : ℕ) → (n ≡ 0 → ⊥) → (n ≡ 1 → ⊥) → (n ≡ 5 → ⊥) → (n ≡ 6 → ⊥) → (n ≡ 11 → ⊥) → (n ≡ 12 → ⊥) → (n ≡ 13 → ⊥)
-    → false ≡ (modeInRange n || isOverlay n)
-no-mode n a b c d e f g =
-    simp (ne-eqb n 0 a, ne-eqb n 1 b, ne-eqb n 5 c, ne-eqb n 6 d, ne-eqb n 11 e, ne-eqb n 12 f, ne-eqb n 13 g)
+pub no-mode : (n : ℕ) → (n ≡ 0 → ⊥) → (n ≡ 1 → ⊥) → (n ≡ 5 → ⊥) → (n ≡ 6 → ⊥) → (10 ≤ n → n ≤ 18 → ⊥) → false ≡ (modeInRange n || isOverlay n)
+no-mode n a b c d out =
+    by-test (leb 11 n)
+    (λ low. by-test (leb n 18)
+    (λ high. absurd (out (omega (arith, leb-true 11 n low)) (leb-true n 18 high)))
+    (λ high. simp (ne-eqb n 0 a, ne-eqb n 1 b, ne-eqb n 5 c, ne-eqb n 6 d, ne-eqb n 10 (λ e. out (omega arith) (omega arith)), low, high)))
+    (λ low. simp (ne-eqb n 0 a, ne-eqb n 1 b, ne-eqb n 5 c, ne-eqb n 6 d, ne-eqb n 10 (λ e. out (omega arith) (omega arith)), low))

@@ -2,8 +2,11 @@
 ghost use mathlib.Core.Path.{_≡_};
 ghost use mathlib.Core.Bool.{_||_};
 ghost use Rattle.record.specs.Range.{modeInRange, iconUInRange, time1InRange, time2InRange};
-ghost use Rattle.command.specs.InRange.{isOverlay, isLight, commandInRange};
+ghost use Rattle.command.specs.InRange.{isOverlay, isLight, rowsNamed, commandInRange};
 use command::Command;
+
+// The text mode of large digits.
+const LARGE: u8 = 10;
 
 // The greatest value of each number that begins at 0.
 const FLAG: u16 = 1;
@@ -20,14 +23,14 @@ const LEVEL: u16 = 10;
 
 const BUZZER: u16 = 255;
 
-// A text mode 0, 1, 5 or 6, or an overlay 11, 12 or 13.
+// A text mode 0, 1, 5, 6 or 10, or an overlay 11 to 18.
 fn is_mode(n: u16) -> bool
     ensures same { λ r. ⌜ r ≡ (modeInRange n || isOverlay n) ⌝ }
 {
     match n {
         0..=1 => true,
         5..=6 => true,
-        11..=13 => true,
+        10..=18 => true,
         _ => false,
     }
 }
@@ -72,7 +75,17 @@ fn is_light(n: u16) -> bool
     }
 }
 
-// Whether a command's numbers are in range in a text mode of so many rows.
+// The rows that a cursor frame can name in a text mode: none in the one of large digits.
+pub fn rows_named(mode: u8) -> u8
+    ensures same { λ r. ⌜ r ≡ rowsNamed mode ⌝ }
+{
+    if mode == LARGE {
+        return 0;
+    }
+    record::rows(mode)
+}
+
+// Whether a command's numbers are in range where a cursor frame can name so many rows.
 pub fn in_range(c: Command, rows: u8) -> bool
     ensures same { λ r. ⌜ r ≡ commandInRange rows c ⌝ }
 {

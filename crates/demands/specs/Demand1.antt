@@ -4,7 +4,7 @@
 -- definitions. Assumes nothing.
 use Prim.Native.Nat.{ℕ, suc, _<_, _≤_}
 use mathlib.Core.Path.{_≡_, refl}
-use mathlib.Core.Bool.{true, false, cond, not}
+use mathlib.Core.Bool.{true, false, cond, not, _||_}
 use mathlib.Core.List.{List, [], _∷_}
 use lib.Dec.{ltb}
 use lib.ListN.{length, drop}
@@ -32,7 +32,8 @@ use Rattle.seen_panels.specs.declared.Phase.{Phase}
 use Rattle.seen_panels.specs.declared.SmsPanel.the-variants as Sms
 use Rattle.seen_panels.specs.declared.VolumePanel.the-variants as Sound
 use Rattle.seen.specs.Rows.{nothingSeen, rowSeen, smsSeen, volumeSeen}
-use Rattle.seen.specs.Laws.{row-number, row-refused, panel-numbers, panels-refused}
+use Rattle.seen.specs.Columns.{noPlace, columnSeen}
+use Rattle.seen.specs.Laws.{row-number, row-refused, column-number, column-refused, panel-numbers, panels-refused}
 use Rattle.writer.specs.Writing.{writtenOf, roomAfter}
 use Rattle.demands.specs.Frames.{asked, silent, wholeFrame, closed-asked, closed-passed-over, bad-whole, bad-without-room, passed-over-whole}
 
@@ -68,6 +69,12 @@ pub record Demand1 : Type 0 where
   pub row-number-is : (r : Record) (row : ℕ) (phase : Phase) → paperNumber (rowSeen r row phase .number) ≡ cond (not (inRange r)) 1 (cond (ltb 6 row) 4 0)
   pub row-refuses : (r : Record) (row : ℕ) (phase : Phase)
       → (inRange r ≡ false → rowSeen r row phase ≡ nothingSeen (numbered 1)) × (inRange r ≡ true → 6 < row → rowSeen r row phase ≡ nothingSeen (numbered 4))
+  -- The column question: 1, then 4 for a row above 6 or a column above 95.
+  pub column-number-is : (r : Record) (row column : ℕ) (phase : Phase) → paperNumber (columnSeen r row column phase .number) ≡ cond (not (inRange r)) 1 (cond (ltb 6 row || ltb 95 column) 4 0)
+  pub column-refuses : (r : Record) (row column : ℕ) (phase : Phase)
+      → (inRange r ≡ false → columnSeen r row column phase ≡ noPlace (numbered 1))
+      × (inRange r ≡ true → 6 < row → columnSeen r row column phase ≡ noPlace (numbered 4))
+      × (inRange r ≡ true → 95 < column → columnSeen r row column phase ≡ noPlace (numbered 4))
   pub panel-numbers-are : (r : Record) (phase : Phase) → (paperNumber (smsSeen r phase .number) ≡ cond (not (inRange r)) 1 0) × (paperNumber (volumeSeen r .number) ≡ cond (not (inRange r)) 1 0)
   pub panels-refuse : (r : Record) (phase : Phase) → inRange r ≡ false
       → (smsSeen r phase ≡ record { number = numbered 1; panel = Sms.Nothing }) × (volumeSeen r ≡ record { number = numbered 1; panel = Sound.Nothing })
@@ -111,6 +118,8 @@ demand1 =
       light-passes = λ b h. light-done b h .0;
       row-number-is = row-number;
       row-refuses = row-refused;
+      column-number-is = column-number;
+      column-refuses = column-refused;
       panel-numbers-are = panel-numbers;
       panels-refuse = panels-refused;
       writer-refuses-2 = λ frame room. (refl, refl, refl);

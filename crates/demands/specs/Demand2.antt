@@ -14,7 +14,7 @@ use Rattle.record.specs.declared.Backlight.{Backlight}
 use Rattle.record.specs.declared.Icons.{Icons}
 use Rattle.record.specs.Number.{numbered}
 use Rattle.record.specs.PowerOn.{powerOn}
-use Rattle.record.specs.Range.{inRange, backlightInRange}
+use Rattle.record.specs.Range.{large, cursorInRange, inRange, backlightInRange}
 use Rattle.picture.specs.Data.{Bytes}
 use Rattle.command.specs.declared.Command.{Command}
 use Rattle.command.specs.declared.Side.{Side}
@@ -25,9 +25,9 @@ use Rattle.command.specs.InRange.{commandInRange, mostRows, inRangeInMode}
 use Rattle.command.specs.Agree.{one-order}
 use Rattle.command.specs.OneSpelling.{NoData, one-frame, no-data}
 use Rattle.effect.specs.Core.{Core, coreOf}
-use Rattle.effect.specs.Effect.{effect, carryOut}
-use Rattle.effect.specs.Fields.{Field, read, sets}
-use Rattle.effect.specs.Untouched.{stays, other-rows-stay, past-data-stays, fields-are-all}
+use Rattle.effect.specs.Effect.{effect, carryOut, storeText}
+use Rattle.effect.specs.Fields.{Field, text, largeLine, read, sets}
+use Rattle.effect.specs.Untouched.{stays, other-rows-stay, past-data-stays, rows-stay, line-stays, fields-are-all}
 use Rattle.parting.specs.Rules.{closed}
 use Rattle.parting.specs.Meaning.{act}
 use Rattle.stream.specs.Stream.{handset}
@@ -42,9 +42,12 @@ use Rattle.seen_panels.specs.Panels.{smsPanel, volumePanel, lit-as-before, flas
 use Rattle.seen_panels.specs.declared.Phase.{Phase}
 use Rattle.seen_panels.specs.declared.Phase.the-variants.{Lit, Pause}
 use Rattle.seen_panels.specs.declared.SmsPanel.the-variants as Sms
-use Rattle.seen.specs.Places.{rowOwner}
+use Rattle.seen.specs.Places.{ownerAt, rowOwner}
+use Rattle.seen.specs.Columns.{placeOf, columnOf, columnSeen}
+use Rattle.seen.specs.Table.{atMostOne, one-claim}
+use Rattle.seen.specs.Agree.{columns-agree}
 use Rattle.seen.specs.Rows.{contents, rowSeen, smsSeen, volumeSeen}
-use Rattle.seen.specs.Laws.{seen-row, panels-told, steady-unseen}
+use Rattle.seen.specs.Laws.{seen-row, seen-column, panels-told, steady-unseen}
 use Rattle.writer_ranges.specs.Fitting.{isLabel, isRow}
 use Rattle.writer.specs.Writing.{bodyOf, labelBody, rowBody}
 use Rattle.writer.specs.ReadBack.{AfterZero, command-reads-back, label-reads-back, command-written, label-written, row-written}
@@ -71,6 +74,10 @@ pub record Demand2 : Type 0 where
       → getD (carryOut (draw r columns) c .picture) (other * 96 + k) 0 ≡ getD (c .picture) (other * 96 + k) 0
   pub none-past-the-data : (r : ℕ) (columns : List ℕ) (c : Core) (k : ℕ) → length columns ≤ k
       → getD (carryOut (draw r columns) c .picture) (r * 96 + k) 0 ≡ getD (c .picture) (r * 96 + k) 0
+  -- A text byte in mode 10 leaves the five rows of the text as they were, in any other mode the large line (request T-01).
+  pub no-row-in-large-mode : (c : Core) (b : ℕ) → eqb (c .settings .screen .mode) large ≡ true → read text (storeText c b) ≡ read text c
+  pub no-line-in-other-modes : (c : Core) (b : ℕ) → cursorInRange (c .settings .screen) ≡ true → eqb (c .settings .screen .mode) large ≡ false
+      → read largeLine (storeText c b) ≡ read largeLine c
   -- And the fields are all that a stream can change: where each is as it was, nothing has changed.
   pub no-other-field : (c d : Core) → ((f : Field) → read f c ≡ read f d) → c ≡ d
   -- A key log of listed edges is taken by the rules: record, counts and buffer, whatever was lent, are what its used entries do;
@@ -93,13 +100,17 @@ pub record Demand2 : Type 0 where
   pub seconds-in-place : (b : Backlight) → backlightInRange b ≡ true → lightPassed b .backlight ≡ lowered b
   -- A row shows the contents of its owner; the panels' questions tell what the panels show, in either phase.
   pub rows : (r : Record) (row : ℕ) (phase : Phase) → inRange r ≡ true → row ≤ 6 → rowSeen r row phase ≡ contents r phase (rowOwner r row)
+  -- A place of the display shows the contents of its owner, at most one sentence claims it, and a row tells what its columns do.
+  pub places : (r : Record) (row column : ℕ) (phase : Phase) → inRange r ≡ true → row ≤ 6 → column ≤ 95 → columnSeen r row column phase ≡ placeOf r phase column (ownerAt r row column)
+  pub one-claim-each : (r : Record) → inRange r ≡ true → (column : ℕ) → atMostOne (r .settings .screen) column ≡ true
+  pub rows-tell-columns : (r : Record) (row column : ℕ) (phase : Phase) → inRange r ≡ true → row ≤ 6 → column ≤ 95 → columnSeen r row column phase ≡ columnOf (rowSeen r row phase) column
   pub panels : (r : Record) (phase : Phase) → inRange r ≡ true
       → (smsSeen r phase ≡ record { number = numbered 0; panel = smsPanel (r .settings .icons) phase }) × (volumeSeen r ≡ record { number = numbered 0; panel = volumePanel (r .settings .volume) })
   -- The phase (request T-03): lit, the SMS panel is Unread if U is not 0, else Read if S is 1, else nothing, as it always was; with U
   -- 255 the pause shows it as U 0 does; and with U not 255 the phase changes nothing that is seen.
   pub lit-panel : (i : Icons) → smsPanel i Lit ≡ cond (not (eqb (i .u) 0)) Sms.Unread (cond (eqb (i .s) 1) Sms.Read Sms.Nothing)
   pub pause-panel : (i : Icons) → i .u ≡ 255 → smsPanel i Pause ≡ cond (eqb (i .s) 1) Sms.Read Sms.Nothing
-  pub phase-unseen : (r : Record) (phase : Phase) → (r .settings .icons .u ≡ 255 → ⊥) → ((row : ℕ) → rowSeen r row phase ≡ rowSeen r row Lit) × (smsSeen r phase ≡ smsSeen r Lit)
+  pub phase-unseen : (r : Record) (phase : Phase) → (r .settings .icons .u ≡ 255 → ⊥) → ((row : ℕ) → rowSeen r row phase ≡ rowSeen r row Lit) × ((row column : ℕ) → columnSeen r row column phase ≡ columnSeen r row column Lit) × (smsSeen r phase ≡ smsSeen r Lit)
   -- What is written for a command, a label or a picture row reads back as that: after number 0 the bytes counted part into one closed
   -- frame and one skipped LF, the frame spells that order, and the other places of the room are as they were.
   pub commands-read-back : (c : Command) (room : List ℕ) → AfterZero (plain c) (commandInRange mostRows c) (bodyOf c) room
@@ -124,6 +135,8 @@ demand2 =
       no-other = stays;
       no-other-row = other-rows-stay;
       none-past-the-data = past-data-stays;
+      no-row-in-large-mode = rows-stay;
+      no-line-in-other-modes = line-stays;
       no-other-field = fields-are-all;
       logs = log-done;
       log-stops = log-stops-exactly;
@@ -133,6 +146,9 @@ demand2 =
       seconds = λ r h. second-done r h .1;
       seconds-in-place = λ b h. light-done b h .1;
       rows = seen-row;
+      places = seen-column;
+      one-claim-each = one-claim;
+      rows-tell-columns = columns-agree;
       panels = panels-told;
       lit-panel = lit-as-before;
       pause-panel = flashing-pause;

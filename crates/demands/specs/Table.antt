@@ -9,7 +9,7 @@ use Rattle.lists.specs.Codes.{ascii, escape, carriageReturn, questionMark}
 use Rattle.lists.specs.Padded.{padded}
 use Rattle.record.specs.declared.Record.{Record}
 use Rattle.record.specs.PowerOn.{powerOn}
-use Rattle.record.specs.Range.{inRange, textInRange, labelInRange, pictureInRange, frameInRange}
+use Rattle.record.specs.Range.{lineOf, inRange, textInRange, labelInRange, pictureInRange, frameInRange}
 use Rattle.numeral.specs.Numeral.{digitOf}
 use Rattle.picture.specs.Reading.{hexOf, timesOf, items, columnsOf}
 use Rattle.picture.specs.Writing.{hexCode, itemText, encode}
@@ -45,6 +45,9 @@ said bytes = take (fedOf powerOn bytes (length room) .written) (answersAfter pow
 
 abbrev position : List ℕ → List ℕ
 position bytes = let s = after bytes .settings .screen in s .row ∷ s .column ∷ []
+
+abbrev largeLine : List ℕ → List ℕ
+largeLine bytes = lineOf (after bytes .text)
 
 abbrev iconP : List ℕ → List ℕ
 iconP bytes = after bytes .settings .icons .p ∷ []
@@ -94,6 +97,9 @@ table =
     ∷ (said (frame (ascii "[4;0H")) ++ position (frame (ascii "[4;0H")), 0 ∷ 0 ∷ [])
     -- in mode 5: obeyed
     ∷ (position (frame (ascii "ID5") ++ frame (ascii "[4;0H")), 4 ∷ 0 ∷ [])
+    -- in mode 10: silence; text goes to the large line, whose 25th code is dropped (request T-01)
+    ∷ (said (frame (ascii "ID10") ++ frame (ascii "[0;0H")) ++ position (frame (ascii "ID10") ++ ascii "12" ++ frame (ascii "[0;0H")), 0 ∷ 2 ∷ [])
+    ∷ (largeLine (frame (ascii "ID10") ++ ascii "1234567890123456789012345"), ascii "123456789012345678901234")
     -- [0;16H: silence
     ∷ (said (frame (ascii "[0;16H")) ++ position (frame (ascii "[0;16H")), 0 ∷ 0 ∷ [])
     -- IK1 with 8 codes: '?'

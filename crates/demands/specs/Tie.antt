@@ -17,7 +17,7 @@ use Rattle.record_fields.specs.Fields.{withField}
 use Rattle.numeral.specs.Numeral as Numerals
 use Rattle.picture.specs.Reading.{columnsRead}
 use Rattle.picture.specs.Writing.{dataWritten}
-use Rattle.command.specs.InRange.{commandInRange, mostRows}
+use Rattle.command.specs.InRange.{rowsNamed, commandInRange, mostRows}
 use Rattle.command.specs.Reading.{readOf, opensPicture, pictureOf}
 use Rattle.effect_modes.specs.Modes.{toMode, atLevel}
 use Rattle.effect.specs.Obey.{Obeys, core}
@@ -31,6 +31,7 @@ use Rattle.key_log.specs.Log.{outcome, handedBack, bufferAfter}
 use Rattle.seconds.specs.Seconds.{passed, lightPassed}
 use Rattle.seen_panels.specs.Panels.{smsPanel, volumePanel}
 use Rattle.seen.specs.Rows.{rowSeen, smsSeen, volumeSeen}
+use Rattle.seen.specs.Columns.{columnSeen}
 use Rattle.writer_ranges.specs.Fitting.{isLabel, isRow}
 use Rattle.writer.specs.Writing.{bodyOf, labelBody, rowBody, frameOf, writtenOf, roomAfter}
 use Rattle.record.proofs.paper_number as PaperNumber
@@ -70,6 +71,8 @@ use Rattle.picture.proofs.read_data as ReadData
 use Rattle.picture.proofs.read_data.Reads as ReadDataReads
 use Rattle.picture_writer.proofs.write_data as WriteData
 use Rattle.picture_writer.proofs.write_data.Reads as WriteDataReads
+use Rattle.command_ranges.proofs.rows_named as RowsNamed
+use Rattle.command_ranges.proofs.rows_named.Reads as RowsNamedReads
 use Rattle.command_ranges.proofs.in_range as CommandInRange
 use Rattle.command_ranges.proofs.in_range.Reads as CommandInRangeReads
 use Rattle.command.proofs.read_command as ReadCommand
@@ -117,6 +120,8 @@ use Rattle.seen_panels.proofs.volume_panel as VolumePanelOf
 use Rattle.seen_panels.proofs.volume_panel.Reads as VolumePanelOfReads
 use Rattle.seen.proofs.row_seen as RowSeen
 use Rattle.seen.proofs.row_seen.Reads as RowSeenReads
+use Rattle.seen.proofs.column_seen as ColumnSeen
+use Rattle.seen.proofs.column_seen.Reads as ColumnSeenReads
 use Rattle.seen.proofs.sms_seen as SmsSeen
 use Rattle.seen.proofs.sms_seen.Reads as SmsSeenReads
 use Rattle.seen.proofs.volume_seen as VolumeSeen
@@ -231,6 +236,10 @@ read-data-says κs a q e w = refl
 pub write-data-says : Says WriteData.ended WriteDataReads.ensures (λ κs a q e. q ≡ dataWritten (now (a .0)))
 write-data-says κs a q e w = refl
 
+-- command_ranges::rows_named
+pub rows-named-says : Says RowsNamed.ended RowsNamedReads.ensures (λ κs a q e. q ≡ rowsNamed (a .0))
+rows-named-says κs a q e w = refl
+
 -- command_ranges::in_range
 pub command-in-range-says : Says CommandInRange.ended CommandInRangeReads.ensures (λ κs a q e. q ≡ commandInRange (a .1 .0) (a .0))
 command-in-range-says κs a q e w = refl
@@ -327,6 +336,10 @@ volume-panel-says κs a q e w = refl
 -- seen::row_seen
 pub row-seen-says : Says RowSeen.ended RowSeenReads.ensures (λ κs a q e. q ≡ rowSeen (a .0) (a .1 .0) (a .1 .1 .0))
 row-seen-says κs a q e w = refl
+
+-- seen::column_seen
+pub column-seen-says : Says ColumnSeen.ended ColumnSeenReads.ensures (λ κs a q e. q ≡ columnSeen (a .0) (a .1 .0) (a .1 .1 .0) (a .1 .1 .1 .0))
+column-seen-says κs a q e w = refl
 
 -- seen::sms_seen
 pub sms-seen-says : Says SmsSeen.ended SmsSeenReads.ensures (λ κs a q e. q ≡ smsSeen (a .0) (a .1 .0))

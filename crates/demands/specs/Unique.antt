@@ -45,6 +45,8 @@ use Rattle.picture.proofs.read_data as ReadData
 use Rattle.picture.proofs.read_data.Reads as ReadDataReads
 use Rattle.picture_writer.proofs.write_data as WriteData
 use Rattle.picture_writer.proofs.write_data.Reads as WriteDataReads
+use Rattle.command_ranges.proofs.rows_named as RowsNamed
+use Rattle.command_ranges.proofs.rows_named.Reads as RowsNamedReads
 use Rattle.command_ranges.proofs.in_range as CommandInRange
 use Rattle.command_ranges.proofs.in_range.Reads as CommandInRangeReads
 use Rattle.command.proofs.read_command as ReadCommand
@@ -90,6 +92,8 @@ use Rattle.seen_panels.proofs.volume_panel as VolumePanelOf
 use Rattle.seen_panels.proofs.volume_panel.Reads as VolumePanelOfReads
 use Rattle.seen.proofs.row_seen as RowSeen
 use Rattle.seen.proofs.row_seen.Reads as RowSeenReads
+use Rattle.seen.proofs.column_seen as ColumnSeen
+use Rattle.seen.proofs.column_seen.Reads as ColumnSeenReads
 use Rattle.seen.proofs.sms_seen as SmsSeen
 use Rattle.seen.proofs.sms_seen.Reads as SmsSeenReads
 use Rattle.seen.proofs.volume_seen as VolumeSeen
@@ -197,6 +201,10 @@ read-data-one κs a q q′ e e′ p p′ = two-equal p p′
 pub write-data-one : OneResult WriteData.ended WriteDataReads.Learnt
 write-data-one κs a q q′ e e′ p p′ = two-equal p p′
 
+-- command_ranges::rows_named
+pub rows-named-one : OneResult RowsNamed.ended RowsNamedReads.Learnt
+rows-named-one κs a q q′ e e′ p p′ = two-equal p p′
+
 -- command_ranges::in_range
 pub command-in-range-one : OneResult CommandInRange.ended CommandInRangeReads.Learnt
 command-in-range-one κs a q q′ e e′ p p′ = two-equal p p′
@@ -269,6 +277,10 @@ volume-panel-one κs a q q′ e e′ p p′ = two-equal p p′
 -- seen::row_seen
 pub row-seen-one : OneResult RowSeen.ended RowSeenReads.Learnt
 row-seen-one κs a q q′ e e′ p p′ = two-equal p p′
+
+-- seen::column_seen
+pub column-seen-one : OneResult ColumnSeen.ended ColumnSeenReads.Learnt
+column-seen-one κs a q q′ e e′ p p′ = two-equal p p′
 
 -- seen::sms_seen
 pub sms-seen-one : OneResult SmsSeen.ended SmsSeenReads.Learnt

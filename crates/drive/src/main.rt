@@ -17,6 +17,7 @@
 //   C                           a second passes, on the record
 //   B                           a second passes in place, on a copy of the record's backlight; the record stays
 //   Q ROW PHASE                 the row question; ROW is one byte, PHASE one too: 0 lit, 1 the pause
+//   U ROW COLUMN PHASE          the column question; each is one byte
 //   M PHASE                     the SMS panel
 //   V                           the volume panel
 //   W ROOM COMMAND A B          the command writer; COMMAND is one byte, A and B are the command's numbers, 0 where it has none
@@ -40,8 +41,13 @@
 //   V                V NUMBER VOLUME LEVEL: 0 nothing, 1 Mute, 2 private, 3 handsfree; LEVEL 0 for the first two
 //   Q                Q NUMBER; then what the owner of the row shows, no line if there is nothing:
 //                      icon bar F P R SMS VOLUME LEVEL
-//                      row OWNER ROW      OWNER 2 is a text row, 3 a picture row; then "cells": 16 codes or 96 columns
+//                      row OWNER ROW      OWNER 2 is a text row, 3 a picture row, 4 the small codes of the large line, ROW 0, 5 a
+//                                         half of its big ones, ROW 0 the upper, 1 the lower, 6 a picture row with the rocker; then
+//                                         "cells": 16 codes, 8 big ones or 96 columns, and for OWNER 6 "rocker W"
 //                      soft keys W        then the lines of the labels as in the record
+//   U                U NUMBER; then the line "icon bar" as above, or what stands at the place, no line if there is nothing:
+//                      cell OWNER WHERE VALUE    OWNER and WHERE 2 to 5 as OWNER and ROW above; 6 the left label, 8 the right one,
+//                                                WHERE a cell of it, VALUE 0 past its length; 7 the rocker, WHERE 0
 //
 // After the lines of P, O, S, F, K and C the whole record follows:
 //
@@ -55,6 +61,7 @@
 //   frame STATE LENGTH                                     STATE 0 none, 1 open, 2 overlong
 //   bytes FRAME                                            all 250 places
 //   text CODES                                             80 places
+//   line CODES                                             the large line, 24 places
 //   picture COLUMNS                                        672 places
 //
 // Fields of S, with the places of an array in brackets; any other field has only place 0. Of a value the low eight bits are
@@ -66,6 +73,7 @@
 //   18 volume which     19 level            20 mute (flag)       21 hidden (flag)       22 Time1           23 Time2
 //   24 buzzer           25 backlight mode   26 duration          27 seconds left        28 keypad (flag)   29 key held (flag)
 //   30 held key         31 held tick        32 stage long (flag) 33 frame state         34 frame length    35 frame bytes [250]
+//   36 large line [24]
 //
 // Commands of W, in decimal: 0 display off, 1 display on, 2 text mode or overlay A, 3 cursor shown, 4 cursor not shown, 5 clear,
 // 6 cursor to row A, column B, 7 both labels empty, 8 to 13 icon S, U, F, R, P, W to A, 14 private volume A, 15 handsfree volume
@@ -92,10 +100,12 @@ use record::Volume;
 use record_fields::Field;
 use seconds::LightPassed;
 use seen::Bar;
+use seen::ColumnSeen;
 use seen::Labels;
 use seen::Owner;
 use seen::Phase;
 use seen::Row;
+use seen::Shown;
 use seen::SmsPanel;
 use seen::SmsSeen;
 use seen::VolumePanel;
@@ -129,6 +139,12 @@ const MOST_ENTRIES: usize = 1024;
 const MOST_CELLS: usize = 303;
 
 const LAST_COMMAND: u8 = 26;
+
+// Where the large line begins in the text.
+const LINE: usize = 80;
+
+// Its field of S.
+const LARGE_LINE: u8 = 36;
 
 // More than the longest line that is printed, the picture's.
 const MOST_PRINTED: usize = 1400;
@@ -295,8 +311,10 @@ fn say_frame(state: u8, len: u8, bytes: &[u8]) {
     say(b"bytes", bytes);
 }
 
-fn say_arrays<'a>(text: &'a [u8], picture: &'a [u8]) {
-    say(b"text", text);
+fn say_arrays<'a>(text: &'a [u8; 104], picture: &'a [u8]) {
+    let codes = &text[..];
+    say(b"text", &codes[0..LINE]);
+    say(b"line", &codes[LINE..]);
     say(b"picture", picture);
 }
 
@@ -384,6 +402,16 @@ fn say_soft_keys(labels: Labels) {
     say_labels(labels.left, labels.right);
 }
 
+fn say_big_cells(half: u8, codes: [u8; 16]) {
+    let cells = &codes[..];
+    say_cells(5, half, &cells[0..8]);
+}
+
+fn say_with_rocker(n: u8, columns: [u8; 96], w: u8) {
+    say_cells(6, n, &columns);
+    say(b"rocker", &[w]);
+}
+
 fn say_row(row: Row) {
     let owner = row.owner;
     match owner {
@@ -392,6 +420,53 @@ fn say_row(row: Row) {
         Owner::TextRow(n) => say_cells(2, n, &row.codes),
         Owner::PictureRow(n) => say_cells(3, n, &row.columns),
         Owner::SoftKeys => say_soft_keys(row.labels),
+        Owner::SmallLine => say_cells(4, 0, &row.codes),
+        Owner::BigLine(half) => say_big_cells(half, row.codes),
+        Owner::PictureWithRocker(n) => say_with_rocker(n, row.columns, row.labels.w),
+    }
+}
+
+fn say_cell(owner: u8, place: u8, value: u8) {
+    say(b"cell", &[owner, place, value]);
+}
+
+fn right_cell(column: u8) -> u8 {
+    if column < 54 {
+        return 0;
+    }
+    (column - 54) / 6
+}
+
+fn say_soft_key(shown: Shown, column: u8) {
+    match shown {
+        Shown::LeftLabel(code) => say_cell(6, column / 6, code),
+        Shown::Rocker(w) => say_cell(7, 0, w),
+        Shown::RightLabel(code) => say_cell(8, right_cell(column), code),
+        _ => say_what(),
+    }
+}
+
+fn shown_value(shown: Shown) -> u8 {
+    match shown {
+        Shown::Code(code) => code,
+        Shown::Column(value) => value,
+        _ => 0,
+    }
+}
+
+fn say_place(seen: ColumnSeen, column: u8) {
+    let owner = seen.owner;
+    let shown = seen.shown;
+    let bar = seen.bar;
+    match owner {
+        Owner::Nothing => (),
+        Owner::IconBar => say_bar(bar),
+        Owner::TextRow(n) => say_cell(2, n, shown_value(shown)),
+        Owner::PictureRow(n) => say_cell(3, n, shown_value(shown)),
+        Owner::SoftKeys => say_soft_key(shown, column),
+        Owner::SmallLine => say_cell(4, 0, shown_value(shown)),
+        Owner::BigLine(half) => say_cell(5, half, shown_value(shown)),
+        Owner::PictureWithRocker(_) => say_what(),
     }
 }
 
@@ -477,6 +552,7 @@ fn places_of(field: u8) -> u16 {
         10 => 7,
         11 => 672,
         35 => 250,
+        LARGE_LINE => 24,
         0..=34 => 1,
         _ => 0,
     }
@@ -519,7 +595,8 @@ fn field_of(field: u8) -> Field {
         32 => Field::Long,
         33 => Field::FrameState,
         34 => Field::FrameLength,
-        _ => Field::FrameByte,
+        35 => Field::FrameByte,
+        _ => Field::Text,
     }
 }
 
@@ -585,6 +662,7 @@ fn is_call(letter: u8, args: &[u8]) -> bool {
         b'F' => has_room(args, 2, MOST_BYTES),
         b'K' => has_room(args, 4, MOST_BYTES) & is_log(args),
         b'Q' => (args.len() == 2) & (byte_at(args, 1) <= 1),
+        b'U' => (args.len() == 3) & (byte_at(args, 2) <= 1),
         b'W' => has_room(args, 7, 7) & (byte_at(args, 2) <= LAST_COMMAND),
         b'T' => has_room(args, 3, MOST_CELLS) & (byte_at(args, 2) <= 1),
         b'G' => has_room(args, 3, MOST_CELLS),
@@ -611,9 +689,20 @@ fn former_call() -> Record {
     shown(Record::former_defaults())
 }
 
+// The large line is kept behind the text.
+fn place_of(field: u8, place: usize) -> usize {
+    if field != LARGE_LINE {
+        return place;
+    }
+    if place < 24 {
+        return LINE + place;
+    }
+    place
+}
+
 fn set_call(r: Record, args: &[u8]) -> Record {
     let field = field_of(byte_at(args, 0));
-    let place = number_at(args, 1, 2) as usize;
+    let place = place_of(byte_at(args, 0), number_at(args, 1, 2) as usize);
     say_number(b'S', Number::Done);
     shown(record_fields::with_field(r, field, place, number_at(args, 3, 4)))
 }
@@ -698,6 +787,13 @@ fn row_call(r: Record, row: u8, phase: u8) {
     say_row(seen);
 }
 
+fn column_call(r: Record, row: u8, column: u8, phase: u8) {
+    let seen = seen::column_seen(r, row, column, phase_of(phase));
+    let number = seen.number;
+    say_number(b'U', number);
+    say_place(seen, column);
+}
+
 fn command_at(args: &[u8]) -> Command {
     command_of(
         byte_at(args, 2),
@@ -738,6 +834,7 @@ fn question(r: Record, letter: u8, args: &[u8], buffer: &mut [u8]) {
         b'M' => say_sms(seen::sms_seen(r, phase_of(byte_at(args, 0)))),
         b'V' => say_volume(seen::volume_seen(r)),
         b'Q' => row_call(r, byte_at(args, 0), byte_at(args, 1)),
+        b'U' => column_call(r, byte_at(args, 0), byte_at(args, 1), byte_at(args, 2)),
         _ => writer_call(letter, args, buffer),
     }
 }

@@ -6,9 +6,8 @@ use mathlib.Core.Option.{Option, none, some}
 use mathlib.Core.Path.{_≡_, refl, sym, ap, _∙_}
 use lib.ListN.{take, drop}
 use borrow.Author.Tests.{eq-eqb, ne-eqb}
-use Rattle.record.specs.Range.{rowsOf}
 use Rattle.command.specs.Order.{Order, draw}
-use Rattle.command.specs.InRange.{isPictureRow, commandInRange}
+use Rattle.command.specs.InRange.{isPictureRow, rowsNamed, commandInRange}
 use Rattle.command.specs.declared.Command.{Command}
 use Rattle.command.specs.Reading.{readOf, opensPicture, pictureOf, orderRead, orderOf}
 use Rattle.command.specs.Found.{order-drawn, order-read}
@@ -35,7 +34,7 @@ module _ (f : List ℕ) {opens : Bool} (o : opens ≡ opensPicture f) where
   a-reading t q e = order-read f (sym o ∙ t) ∙ ap (λ (x : Reading). orderRead x (drop 3 f)) (sym q ∙ e)
 
 -- what was asked of the ranges, in the text mode's rows
-pub judged : {rows : ℕ} {ok : Bool} (mode : ℕ) (c : Command) (b : Bool) → rows ≡ rowsOf mode → ok ≡ commandInRange rows c → ok ≡ b → commandInRange (rowsOf mode) c ≡ b
+pub judged : {rows : ℕ} {ok : Bool} (mode : ℕ) (c : Command) (b : Bool) → rows ≡ rowsNamed mode → ok ≡ commandInRange rows c → ok ≡ b → commandInRange (rowsNamed mode) c ≡ b
 judged mode c b e h t = ap (λ (n : ℕ). commandInRange n c) (sym e) ∙ sym h ∙ t
 
 -- a drawn row is the order carried out

@@ -1,13 +1,13 @@
 -- The numbers of a command in range are bytes. Assumes nothing.
 use Prim.Native.Nat.{ℕ, _≤_, _<_}
 use native.Mathlib.Omega.{arith}
-use mathlib.Core.Bool.{Bool, true, false, true≢false, cond, _&&_, _||_}
+use mathlib.Core.Bool.{Bool, true, false, true≢false, cond, _&&_, _||_, and-false}
 use mathlib.Core.Path.{_≡_, refl, sym, subst, _∙_}
 use lib.Dec.{leb, ltb, eqb}
-use borrow.Author.Tests.{leb-true, leb-false, ltb-true, eqb-true, ne-eqb}
+use borrow.Author.Tests.{leb-true, leb-false, lt-leb, ltb-true, eqb-true, ne-eqb}
 use Rattle.lists.specs.Both.{both}
-use Rattle.record.specs.Range.{rowsOf, modeInRange, iconUInRange, time1InRange, time2InRange}
-use Rattle.command.specs.InRange.{isOverlay, isColumn, commandInRange}
+use Rattle.record.specs.Range.{large, rowsOf, modeInRange, iconUInRange, time1InRange, time2InRange}
+use Rattle.command.specs.InRange.{isOverlay, isColumn, rowsNamed, commandInRange}
 use Rattle.command.specs.declared.Command.{Command}
 use Rattle.command.specs.declared.Command.the-variants.{Position, KeyTimes}
 
@@ -25,7 +25,7 @@ at-most most n l h = omega (arith, leb-true n most h)
 pub small-mode : (n : ℕ) → (modeInRange n || isOverlay n) ≡ true → n < 256
 small-mode =
     small-by (λ n. modeInRange n || isOverlay n)
-    (λ n h. simp (ne-eqb n 0 (λ e. omega arith), ne-eqb n 1 (λ e. omega arith), ne-eqb n 5 (λ e. omega arith), ne-eqb n 6 (λ e. omega arith), ne-eqb n 11 (λ e. omega arith), ne-eqb n 12 (λ e. omega arith), ne-eqb n 13 (λ e. omega arith)))
+    (λ n h. simp (ne-eqb n 0 (λ e. omega arith), ne-eqb n 1 (λ e. omega arith), ne-eqb n 5 (λ e. omega arith), ne-eqb n 6 (λ e. omega arith), ne-eqb n 10 (λ e. omega arith), lt-leb n 18 (omega arith), and-false (leb 11 n)))
 
 pub small-icon-u : (n : ℕ) → iconUInRange n ≡ true → n < 256
 small-icon-u = small-by iconUInRange (λ n h. simp (ne-eqb n 0 (λ e. omega arith), ne-eqb n 1 (λ e. omega arith), ne-eqb n 255 (λ e. omega arith)))
@@ -39,14 +39,15 @@ small-from least most n l h = cases (eqb n 0) refl h
     cases false e k = at-most most n l (both {a = leb least n} k .1)
 
 -- a row of a text mode and a column
-pub small-position : {k : Command} {row column : ℕ} (mode : ℕ) → k ≡ Position row column → commandInRange (rowsOf mode) k ≡ true → (row < 256) × (column < 256)
+pub small-position : {k : Command} {row column : ℕ} (mode : ℕ) → k ≡ Position row column → commandInRange (rowsNamed mode) k ≡ true → (row < 256) × (column < 256)
 small-position {k} {row} {column} mode e h =
-    let b = both {a = ltb row (rowsOf mode)} {b = isColumn column} (subst (λ (x : Command). commandInRange (rowsOf mode) x ≡ true) e h) in
-    (cases (leb mode 1) (ltb-true row (rowsOf mode) (b .0)), at-most 15 column (omega arith) (b .1))
+    let b = both {a = ltb row (rowsNamed mode)} {b = isColumn column} (subst (λ (x : Command). commandInRange (rowsNamed mode) x ≡ true) e h) in
+    (cases (leb mode 1) (eqb mode large) (ltb-true row (rowsNamed mode) (b .0)), at-most 15 column (omega arith) (b .1))
   where
-    cases : (b : Bool) → row < cond b 4 5 → row < 256
-    cases true l = omega arith
-    cases false l = omega arith
+    cases : (few line : Bool) → row < cond line 0 (cond few 4 (cond line 1 5)) → row < 256
+    cases few true l = omega arith
+    cases true false l = omega arith
+    cases false false l = omega arith
 
 -- Time1 and Time2
 pub small-times : {k : Command} {time1 time2 : ℕ} (rows : ℕ) → k ≡ KeyTimes time1 time2 → commandInRange rows k ≡ true → (time1 < 256) × (time2 < 256)

@@ -11,7 +11,7 @@ use Rattle.lists.specs.Padded.{padded}
 use Rattle.record.specs.declared.Label.{Label}
 use Rattle.record.specs.declared.Volume.{Volume}
 use Rattle.record.specs.declared.Backlight.{Backlight}
-use Rattle.record.specs.Range.{rowEndOf, rowStartOf, off, on, auto}
+use Rattle.record.specs.Range.{rowEndOf, lineStart, rowStartOf, off, on, auto}
 use Rattle.record.specs.With.{withShown, withLeft, withRight, withTimes, withBuzzer, withDisplay, withColumn, withIconS, withIconU, withIconF, withIconR, withIconP, withIconW, withMute, withHidden, withLight, withDuration, withSecondsLeft, withKeypad}
 use Rattle.command.specs.Order.{Order, plain, label, draw}
 use Rattle.command.specs.InRange.{inRangeInMode}
@@ -22,9 +22,9 @@ use Rattle.effect.specs.Core.{Core, onSettings, onText, onPicture, onScr
 
 -- Parts of a line -------------------------------------------------------------------------------------------------
 
--- all text to 0x20: the five rows
+-- all text to 0x20: the five rows and the large line
 unfoldable pub blanks : List ℕ
-blanks = replicate (5 * 16) blank
+blanks = replicate (lineStart + 24) blank
 
 -- the label t: its codes, and zero in the unused places
 abbrev pub labelOf : List ℕ → Label
@@ -87,7 +87,7 @@ effect (draw row columns) c = onPicture c (drawn (c .picture) row columns)
 unfoldable pub carryOut : Order → Core → Core
 carryOut order c = cond (inRangeInMode (c .settings .screen .mode) order) (effect order c) c
 
--- a text byte is stored at the cursor and the column rises by one; at the row's end it is dropped
+-- a text byte is stored at the cursor, in mode 10 in the large line, and the column rises by one; at the row's end it is dropped
 unfoldable pub storeText : Core → ℕ → Core
 storeText c b =
     let s = c .settings .screen in

@@ -4,6 +4,7 @@ use Prim.Native.Nat.{ℕ}
 use mathlib.Core.Bool.{Bool, false, cond, _||_}
 use mathlib.Core.List.{List, [], _∷_}
 use lib.Dec.{eqb}
+use Rattle.record.specs.Range.{textOf, lineOf}
 use Rattle.record.specs.declared.Label.{Label}
 use Rattle.command.specs.Order.{Order, plain, label, draw}
 use Rattle.command.specs.InRange.{isOverlay}
@@ -12,8 +13,8 @@ use Rattle.command.specs.declared.Side.the-variants.{Left, Right}
 use Rattle.effect.specs.Core.{Core}
 
 pub data Field : Type 0 where
-  -- display, text mode, overlay, cursor position, text, cursor shown or not
-  display mode overlay row column text shown : Field
+  -- display, text mode, overlay, cursor position, text, large line, cursor shown or not
+  display mode overlay row column text largeLine shown : Field
   -- labels
   leftLabel rightLabel : Field
   -- icons
@@ -29,7 +30,7 @@ pub data Field : Type 0 where
 -- each field has a number of its own
 abbrev pub number : Field → ℕ
 number =
-    elim [ display ↦ 0 | mode ↦ 1 | overlay ↦ 2 | row ↦ 3 | column ↦ 4 | text ↦ 5 | shown ↦ 6 | leftLabel ↦ 7 | rightLabel ↦ 8 | iconS ↦ 9 | iconU ↦ 10 | iconF ↦ 11 | iconR ↦ 12 | iconP ↦ 13 | iconW ↦ 14 | which ↦ 15 | level ↦ 16 | mute ↦ 17 | hidden ↦ 18 | time1 ↦ 19 | time2 ↦ 20 | buzzer ↦ 21 | light ↦ 22 | duration ↦ 23 | secondsLeft ↦ 24 | keypad ↦ 25 | picture ↦ 26 ]
+    elim [ display ↦ 0 | mode ↦ 1 | overlay ↦ 2 | row ↦ 3 | column ↦ 4 | text ↦ 5 | largeLine ↦ 6 | shown ↦ 7 | leftLabel ↦ 8 | rightLabel ↦ 9 | iconS ↦ 10 | iconU ↦ 11 | iconF ↦ 12 | iconR ↦ 13 | iconP ↦ 14 | iconW ↦ 15 | which ↦ 16 | level ↦ 17 | mute ↦ 18 | hidden ↦ 19 | time1 ↦ 20 | time2 ↦ 21 | buzzer ↦ 22 | light ↦ 23 | duration ↦ 24 | secondsLeft ↦ 25 | keypad ↦ 26 | picture ↦ 27 ]
 
 -- What stands in a field ------------------------------------------------------------------------------------------
 
@@ -47,7 +48,8 @@ read mode c = c .settings .screen .mode ∷ []
 read overlay c = c .settings .screen .overlay ∷ []
 read row c = c .settings .screen .row ∷ []
 read column c = c .settings .screen .column ∷ []
-read text c = c .text
+read text c = textOf (c .text)
+read largeLine c = lineOf (c .text)
 read shown c = bit (c .settings .shown) ∷ []
 read leftLabel c = places (c .settings .left)
 read rightLabel c = places (c .settings .right)
@@ -77,13 +79,13 @@ abbrev pub setBy : Order → List Field
 -- IDD, IDE: display off, on
 setBy (plain DisplayOff) = display ∷ []
 setBy (plain DisplayOn) = display ∷ []
--- IDn, 11, 12, 13: overlay n, cursor untouched. 0, 1, 5, 6: text mode n, overlay none, cursor position 0,0
+-- IDn, 11 to 18: overlay n, cursor untouched. 0, 1, 5, 6, 10: text mode n, overlay none, cursor position 0,0
 setBy (plain (Mode n)) = cond (isOverlay n) (overlay ∷ []) (mode ∷ overlay ∷ row ∷ column ∷ [])
 -- &C, &D: cursor shown, not shown
 setBy (plain CursorShown) = shown ∷ []
 setBy (plain CursorHidden) = shown ∷ []
--- &#: all text to 0x20, position 0,0
-setBy (plain Clear) = text ∷ row ∷ column ∷ []
+-- &#: all text and the large line to 0x20, position 0,0
+setBy (plain Clear) = text ∷ largeLine ∷ row ∷ column ∷ []
 -- [n;nH: cursor position
 setBy (plain (Position r k)) = row ∷ column ∷ []
 -- IK0: both labels empty. IK1t, IK2t: left, right label

@@ -23,10 +23,10 @@ use Rattle.record.specs.declared.Label.{Label}
 use Rattle.record.specs.declared.Held.{Held}
 use Rattle.record.specs.declared.Frame.{Frame}
 use Rattle.record.specs.Laws.{Ranges}
-use Rattle.record.specs.Range.{rowsOf, rowEndOf, rowStartOf, isCode, isLowColumn, isUnused, modeInRange, overlayInRange, cursorInRange, textInRange, labelInRange, pictureInRange, iconSInRange, iconUInRange, iconFInRange, iconRInRange, iconPInRange, iconWInRange, iconsInRange, whichInRange, levelInRange, volumeInRange, timesInRange, buzzerInRange, durationInRange, backlightInRange, heldInRange, frameInRange}
+use Rattle.record.specs.Range.{large, rowsOf, rowEndOf, lineStart, rowStartOf, isCode, isLowColumn, isUnused, modeInRange, overlayInRange, cursorInRange, textInRange, labelInRange, pictureInRange, iconSInRange, iconUInRange, iconFInRange, iconRInRange, iconPInRange, iconWInRange, iconsInRange, whichInRange, levelInRange, volumeInRange, timesInRange, buzzerInRange, durationInRange, backlightInRange, heldInRange, frameInRange}
 use Rattle.record.specs.With.{withLeft, withRight, withShown, withIconS, withIconU, withIconF, withIconR, withIconP, withIconW}
 use Rattle.command.specs.Order.{Order, plain, label, draw}
-use Rattle.command.specs.InRange.{isOverlay, isColumn, inRangeInMode}
+use Rattle.command.specs.InRange.{isOverlay, isColumn, rowsNamed, inRangeInMode}
 use Rattle.command.specs.Grammar.{Spells}
 use Rattle.command.specs.Reading.{orderOf}
 use Rattle.command.specs.Sound.{sound}
@@ -114,15 +114,21 @@ or-left {a = false} h e = absurd (true≢false (sym h ∙ e))
 
 -- position 0,0 is in every mode
 home : (mode : ℕ) → (ltb 0 (rowsOf mode) && leb 0 (rowEndOf mode)) ≡ true
-home mode = and-both (cases (leb mode 1)) (le-leb 0 (rowEndOf mode) (omega arith))
+home mode = cases (leb mode 1) (eqb mode large)
   where
-    cases : (b : Bool) → ltb 0 (cond b 4 5) ≡ true
-    cases true = refl
-    cases false = refl
+    cases : (few line : Bool) → (ltb 0 (cond few 4 (cond line 1 5)) && leb 0 (cond line 24 16)) ≡ true
+    cases true true = refl
+    cases true false = refl
+    cases false true = refl
+    cases false false = refl
 
--- and so is every column that a frame can name
-named-column : (mode column : ℕ) → isColumn column ≡ true → leb column (rowEndOf mode) ≡ true
-named-column mode column h = le-leb column (rowEndOf mode) (omega (arith, leb-true column 15 h))
+-- and so is every position that a frame can name
+named-position : (mode row column : ℕ) → ltb row (rowsNamed mode) ≡ true → isColumn column ≡ true → (ltb row (rowsOf mode) && leb column (rowEndOf mode)) ≡ true
+named-position mode row column = cases (eqb mode large)
+  where
+    cases : (line : Bool) → ltb row (cond line 0 (rowsOf mode)) ≡ true → isColumn column ≡ true → (ltb row (rowsOf mode) && leb column (cond line 24 16)) ≡ true
+    cases true r h = absurd (omega (arith, ltb-true row 0 r))
+    cases false r h = and-both r (le-leb column 16 (omega (arith, leb-true column 15 h)))
 
 mode-keeps : (c : Core) (n : ℕ) → CoreInRange c → (modeInRange n || isOverlay n) ≡ true → CoreInRange (effect (plain (Mode n)) c)
 mode-keeps c n k h = cases (isOverlay n) refl
@@ -250,8 +256,8 @@ effect-keeps (plain CursorHidden) c v k h = on-shown c k _
 effect-keeps (plain Clear) c v k h =
     on-text (onScreen c (at (c .settings .screen) 0 0)) (on-screen c k _ (k .mode) (k .overlay) (home (c .settings .screen .mode))) blanks blanks-in-range
 effect-keeps (plain (Position row column)) c v k h =
-    let b = both {a = ltb row (rowsOf (c .settings .screen .mode))} h in
-    on-screen c k _ (k .mode) (k .overlay) (and-both (b .0) (named-column (c .settings .screen .mode) column (b .1)))
+    let b = both {a = ltb row (rowsNamed (c .settings .screen .mode))} h in
+    on-screen c k _ (k .mode) (k .overlay) (named-position (c .settings .screen .mode) row column (b .0) (b .1))
 effect-keeps (plain LabelsEmpty) c v k h = on-labels c k _ _ no-label no-label
 effect-keeps (label Left t) c v k h = on-labels c k (labelOf t) (c .settings .right) (label-keeps t v) (k .right)
 effect-keeps (label Right t) c v k h = on-labels c k (c .settings .left) (labelOf t) (k .left) (label-keeps t v)
@@ -297,8 +303,8 @@ obey-keeps c frame k = cases (orderOf frame) refl
 text-stored : (t : List ℕ) (i b : ℕ) → textInRange t ≡ true → 0x20 ≤ b → textInRange (set t i b) ≡ true
 unfolding textInRange
 text-stored t i b g h =
-    let e = both {a = eqb (length t) (5 * 16)} g in
-    and-both {a = eqb (length (set t i b)) (5 * 16)} (rw (length-set t i b) (e .0)) (every-set isCode t i b (le-leb 0x20 b h) (e .1))
+    let e = both {a = eqb (length t) (lineStart + 24)} g in
+    and-both {a = eqb (length (set t i b)) (lineStart + 24)} (rw (length-set t i b) (e .0)) (every-set isCode t i b (le-leb 0x20 b h) (e .1))
 
 -- Whatever text byte comes, the core stays in range.
 pub store-keeps : (c : Core) (b : ℕ) → CoreInRange c → 0x20 ≤ b → CoreInRange (storeText c b)

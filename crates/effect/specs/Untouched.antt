@@ -2,25 +2,29 @@
 use Prim.Native.Nat.{ℕ, _+_, _*_, _<_, _≤_}
 use native.Mathlib.Omega.{arith}
 use mathlib.Core.Bool.{Bool, true, false, cond}
-use mathlib.Core.List.{List, [], _∷_, map}
+use mathlib.Core.List.{List, [], _∷_, _++_, map}
 use mathlib.Core.Logic.{_≢_}
 use mathlib.Core.Path.{_≡_, refl, ap, sym, _∙_}
-use lib.Dec.{eqb}
-use lib.ListN.{length, getD, drop, length-map}
+use lib.Dec.{eqb, leb, ltb}
+use lib.ListN.{length, getD, drop, length-map, take-append-drop}
 use Rattle.lists.specs.Tests.{by-test, either-way}
+use lib.Seq.{take-set-le, drop-set-lt}
+use borrow.Author.Tests.{ltb-true}
+use Rattle.lists.specs.Both.{both}
+use Rattle.record.specs.Range.{large, rowsOf, rowEndOf, lineStart, cursorInRange}
 use Rattle.record.specs.declared.Label.{Label}
 use Rattle.command.specs.Order.{Order, plain, label, draw}
 use Rattle.command.specs.InRange.{isOverlay, inRangeInMode}
 use Rattle.command.specs.declared.Command.the-variants.{DisplayOff, DisplayOn, Mode, CursorShown, CursorHidden, Clear, Position, LabelsEmpty, IconS, IconU, IconF, IconR, IconP, IconW, Private, Handsfree, HandsfreeOfNote, Mute, KeyTimes, Buzzer, Light, LightOn, LightAutoStart, LightAuto, DefaultDuration, KeypadSet, KeypadCleared}
 use Rattle.command.specs.declared.Side.the-variants.{Left, Right}
 use Rattle.effect.specs.Core.{Core}
-use Rattle.effect.specs.Effect.{keptIn, drawn, effect, carryOut}
+use Rattle.effect.specs.Effect.{keptIn, drawn, effect, carryOut, storeText}
 use Rattle.effect.specs.Sets.{sets-outside}
-use Rattle.effect.specs.Fields.{Field, display, mode, overlay, row, column, text, shown, leftLabel, rightLabel, iconS, iconU, iconF, iconR, iconP, iconW, which, level, mute, hidden, time1, time2, buzzer, light, duration, secondsLeft, keypad, picture, number, bit, read, sets}
+use Rattle.effect.specs.Fields.{Field, display, mode, overlay, row, column, text, largeLine, shown, leftLabel, rightLabel, iconS, iconU, iconF, iconR, iconP, iconW, which, level, mute, hidden, time1, time2, buzzer, light, duration, secondsLeft, keypad, picture, number, bit, read, sets}
 
 allFields : List Field
 allFields =
-    display ∷ mode ∷ overlay ∷ row ∷ column ∷ text ∷ shown ∷
+    display ∷ mode ∷ overlay ∷ row ∷ column ∷ text ∷ largeLine ∷ shown ∷
     leftLabel ∷ rightLabel ∷
     iconS ∷ iconU ∷ iconF ∷ iconR ∷ iconP ∷ iconW ∷
     which ∷ level ∷ mute ∷ hidden ∷
@@ -32,7 +36,7 @@ allFields =
 at-place : {A : Type 0} (g : Field → A) (d : A) (f : Field) → getD (map g allFields) (number f) d ≡ g f
 unfolding allFields
 at-place g d =
-    elim [ display ↦ refl | mode ↦ refl | overlay ↦ refl | row ↦ refl | column ↦ refl | text ↦ refl | shown ↦ refl | leftLabel ↦ refl | rightLabel ↦ refl | iconS ↦ refl | iconU ↦ refl | iconF ↦ refl | iconR ↦ refl | iconP ↦ refl | iconW ↦ refl | which ↦ refl | level ↦ refl | mute ↦ refl | hidden ↦ refl | time1 ↦ refl | time2 ↦ refl | buzzer ↦ refl | light ↦ refl | duration ↦ refl | secondsLeft ↦ refl | keypad ↦ refl | picture ↦ refl ]
+    elim [ display ↦ refl | mode ↦ refl | overlay ↦ refl | row ↦ refl | column ↦ refl | text ↦ refl | largeLine ↦ refl | shown ↦ refl | leftLabel ↦ refl | rightLabel ↦ refl | iconS ↦ refl | iconU ↦ refl | iconF ↦ refl | iconR ↦ refl | iconP ↦ refl | iconW ↦ refl | which ↦ refl | level ↦ refl | mute ↦ refl | hidden ↦ refl | time1 ↦ refl | time2 ↦ refl | buzzer ↦ refl | light ↦ refl | duration ↦ refl | secondsLeft ↦ refl | keypad ↦ refl | picture ↦ refl ]
 
 -- No two fields have one number.
 pub one-field : (f g : Field) → number f ≡ number g → f ≡ g
@@ -106,6 +110,28 @@ pub past-data-stays : (r : ℕ) (columns : List ℕ) (c : Core) (k : ℕ) → le
     → getD (carryOut (draw r columns) c .picture) (r * 96 + k) 0 ≡ getD (c .picture) (r * 96 + k) 0
 past-data-stays r columns c k past = drawn-alone r columns c (r * 96 + k) (omega arith)
 
+-- A text byte in mode 10 leaves the five rows of the text as they were ..
+pub rows-stay : (c : Core) (b : ℕ) → eqb (c .settings .screen .mode) large ≡ true → read text (storeText c b) ≡ read text c
+unfolding storeText
+rows-stay c b h =
+    let s = c .settings .screen in
+    either-way (λ (d : Core). read text d ≡ read text c) (ltb (s .column) (rowEndOf (s .mode)))
+    (λ e. rw h (take-set-le lineStart (c .text) (lineStart + s .column) b (omega arith))) (λ e. refl)
+
+-- .. and in any other mode the large line.
+pub line-stays : (c : Core) (b : ℕ) → cursorInRange (c .settings .screen) ≡ true → eqb (c .settings .screen .mode) large ≡ false → read largeLine (storeText c b) ≡ read largeLine c
+unfolding storeText
+line-stays c b k h =
+    let s = c .settings .screen in
+    let below : ltb (s .row) (cond (leb (s .mode) 1) 4 5) ≡ true = rw h at (both {a = ltb (s .row) (rowsOf (s .mode))} k .0) in
+    let few : s .row < 5 = cases (leb (s .mode) 1) (s .row) below in
+    either-way (λ (d : Core). read largeLine d ≡ read largeLine c) (ltb (s .column) (rowEndOf (s .mode)))
+    (λ e. let near : s .column < 16 = ltb-true (s .column) 16 (rw h at e) in rw h (drop-set-lt lineStart (c .text) (s .row * 16 + s .column) b (omega arith))) (λ e. refl)
+  where
+    cases : (b : Bool) (n : ℕ) → ltb n (cond b 4 5) ≡ true → n < 5
+    cases true n r = omega (arith, ltb-true n 4 r)
+    cases false n r = ltb-true n 5 r
+
 -- a core made of what stands in its fields
 made : (Field → List ℕ) → Core
 made found =
@@ -124,7 +150,7 @@ made found =
         buzzer = record { 0 = one buzzer };
         backlight = record { mode = one light; duration = record { 0 = one duration }; left = record { 0 = one secondsLeft }; keypad = flag keypad };
       };
-      text = found text;
+      text = found text ++ found largeLine;
       picture = found picture;
     }
 
@@ -134,7 +160,7 @@ flag-read false = refl
 
 made-again : (c : Core) → made (λ f. read f c) ≡ c
 unfolding made
-made-again c = simp flag-read
+made-again c = simp (flag-read, take-append-drop)
 
 -- The fields are all that a core has: two cores with the same in every field are one.
 pub fields-are-all : (c d : Core) → ((f : Field) → read f c ≡ read f d) → c ≡ d

@@ -6,9 +6,8 @@ ghost use mathlib.Core.List.{List, []};
 ghost use Prim.Native.Nat.{ℕ, _≤_};
 ghost use lib.ListN.{length, take, drop};
 ghost use Rattle.lists.specs.Padded.{padded};
-ghost use Rattle.record.specs.Range.{rowsOf};
 ghost use Rattle.command.specs.Order.{plain, label};
-ghost use Rattle.command.specs.InRange.{isPictureRow, commandInRange};
+ghost use Rattle.command.specs.InRange.{isPictureRow, rowsNamed, commandInRange};
 ghost use Rattle.effect.specs.Effect.{blanks, labelOf, muted, lightAt, keptIn, drawn, effect, carryOut};
 ghost use Rattle.effect.specs.Obey.{core, Obeys};
 use command::Command;
@@ -78,10 +77,10 @@ fn light_at(b: Backlight, n: u8) -> Backlight
 
 // The text and the labels.
 
-fn clear(text: &mut [u8; 80])
+fn clear(text: &mut [u8; 104])
     ensures same { λ _. ⌜ now (text .exit) ≡ blanks ⌝ }
 {
-    *text = [0x20u8; 80];
+    *text = [0x20u8; 104];
 }
 
 fn no_codes() -> [u8; 7]
@@ -152,8 +151,8 @@ fn draw(picture: &mut [u8; 672], row: u8, columns: Columns)
 }
 
 // What a command in range does; its numbers are bytes.
-fn changed(mut p: Settings, text: &mut [u8; 80], c: Command) -> Settings
-    requires { ⌜ commandInRange (rowsOf (p .screen .mode)) c ≡ true ⌝ }
+fn changed(mut p: Settings, text: &mut [u8; 104], c: Command) -> Settings
+    requires { ⌜ commandInRange (rowsNamed (p .screen .mode)) c ≡ true ⌝ }
     ensures same { λ r. ⌜ ((picture : List ℕ) → core r (now (text .exit)) picture ≡ effect (plain c) (core p (now (text .entry)) picture)) ⌝ }
 {
     match c {
@@ -239,10 +238,10 @@ fn changed(mut p: Settings, text: &mut [u8; 80], c: Command) -> Settings
 }
 
 // A command of the grammar: with a number out of range it is passed over.
-fn obey_command(p: Settings, text: &mut [u8; 80], c: Command) -> Settings
+fn obey_command(p: Settings, text: &mut [u8; 104], c: Command) -> Settings
     ensures same { λ r. ⌜ ((picture : List ℕ) → core r (now (text .exit)) picture ≡ carryOut (plain c) (core p (now (text .entry)) picture)) ⌝ }
 {
-    let rows = record::rows(p.screen.mode);
+    let rows = command_ranges::rows_named(p.screen.mode);
     if command_ranges::in_range(c, rows) {
         return changed(p, text, c);
     }
@@ -264,7 +263,7 @@ fn obey_label(mut p: Settings, side: Side, f: &[u8]) -> Settings
 // Obeys a frame: the text and the picture in place, the settings handed back.
 pub fn obey(
     settings: Settings,
-    text: &mut [u8; 80],
+    text: &mut [u8; 104],
     picture: &mut [u8; 672],
     frame: &[u8],
 ) -> Obeyed

@@ -1,23 +1,19 @@
--- 11, 12 and 13 are the overlays, and no other number is. Assumes nothing.
+-- 11 to 18 are the overlays, and no other number is. Assumes nothing.
 use Prim.Native.Nat.{ℕ, _≤_}
 use native.Mathlib.Omega.{arith}
-use mathlib.Core.Bool.{Bool, true, false}
+use mathlib.Core.Bool.{true, false, _&&_}
 use mathlib.Core.Path.{_≡_, refl}
-use lib.Dec.{eqb}
-use borrow.Author.Tests.{eqb-true, eqb-false, ne-eqb}
+use lib.Dec.{leb, eqb}
+use borrow.Author.Tests.{eqb-true, leb-true, le-leb, ne-eqb}
+use Rattle.lists.specs.Tests.{by-test}
 use Rattle.command.specs.InRange.{isOverlay}
 
-pub overlays : (n : ℕ) → 11 ≤ n → n ≤ 13 → true ≡ isOverlay n
-overlays n low high = cases (eqb n 11) (eqb n 12) refl refl
-  where
-    cases : (b d : Bool) → eqb n 11 ≡ b → eqb n 12 ≡ d → true ≡ isOverlay n
-    cases true d e f = rw (eqb-true n 11 e)
-    cases false true e f = rw (eqb-true n 12 f)
-    cases false false e f = let q : n ≡ 13 = omega (arith, eqb-false n 11 e, eqb-false n 12 f) in rw q
+pub overlays : (n : ℕ) → 11 ≤ n → n ≤ 18 → true ≡ isOverlay n
+overlays n low high = rw (ne-eqb n 0 (λ e. omega arith), le-leb 11 n low, le-leb n 18 high)
 
-pub no-overlay : (n : ℕ) → (11 ≤ n → n ≤ 13 → ⊥) → isOverlay n ≡ false
-no-overlay n out = cases (eqb n 0) refl
-  where
-    cases : (b : Bool) → eqb n 0 ≡ b → isOverlay n ≡ false
-    cases true e = rw (eqb-true n 0 e)
-    cases false e = simp (e, ne-eqb n 11 (λ q. out (omega arith) (omega arith)), ne-eqb n 12 (λ q. out (omega arith) (omega arith)), ne-eqb n 13 (λ q. out (omega arith) (omega arith)))
+pub no-overlay : (n : ℕ) → (11 ≤ n → n ≤ 18 → ⊥) → isOverlay n ≡ false
+no-overlay n out =
+    by-test (eqb n 0) (λ e. rw (eqb-true n 0 e))
+    (λ e. by-test (leb 11 n)
+    (λ low. by-test (leb n 18) (λ high. absurd (out (leb-true 11 n low) (leb-true n 18 high))) (λ high. rw (e, low, high)))
+    (λ low. rw (e, low)))

@@ -15,7 +15,7 @@ at s row column = withColumn (withRow s row) column
 abbrev pub inMode : Screen → ℕ → Screen
 inMode s n = at (withOverlay (withMode s n) 0) 0 0
 
--- IDn: 11, 12, 13 are overlays, which leave the cursor untouched; the other numbers are text modes
+-- IDn: 11 to 18 are overlays, which leave the cursor untouched; the other numbers are text modes
 abbrev pub toMode : Screen → ℕ → Screen
 toMode s n = cond (isOverlay n) (withOverlay s n) (inMode s n)
 

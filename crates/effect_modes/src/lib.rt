@@ -21,7 +21,7 @@ pub fn to_mode(s: Screen, n: u8) -> Screen
     ensures same { λ r. ⌜ r ≡ toMode s n ⌝ }
 {
     match n {
-        11..=13 => Screen { overlay: n, ..s },
+        11..=18 => Screen { overlay: n, ..s },
         _ => in_mode(s, n),
     }
 }

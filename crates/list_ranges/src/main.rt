@@ -125,11 +125,11 @@ fn list_lengths(name: &[u8], r: Record, array: Field, length: Field, most: u16) 
     say(b"\n");
 }
 
-fn list_rows(name: &[u8], r: Record, mode: u16) {
+fn list_in_mode(name: &[u8], r: Record, mode: u16, field: Field) {
     list_byte(
         name,
         record_fields::with_field(r, Field::Mode, 0, mode),
-        Field::Row,
+        field,
     );
 }
 
@@ -138,12 +138,15 @@ fn list_screen(r: Record) {
     list_byte(b"text mode", r, Field::Mode);
     list_byte(b"overlay (0 none)", r, Field::Overlay);
     list_flag(b"cursor shown", r, Field::Shown);
-    list_rows(b"cursor row in mode 0", r, 0);
-    list_rows(b"cursor row in mode 1", r, 1);
-    list_rows(b"cursor row in mode 5", r, 5);
-    list_rows(b"cursor row in mode 6", r, 6);
+    list_in_mode(b"cursor row in mode 0", r, 0, Field::Row);
+    list_in_mode(b"cursor row in mode 1", r, 1, Field::Row);
+    list_in_mode(b"cursor row in mode 5", r, 5, Field::Row);
+    list_in_mode(b"cursor row in mode 6", r, 6, Field::Row);
+    list_in_mode(b"cursor row in mode 10", r, 10, Field::Row);
     list_byte(b"cursor column", r, Field::Column);
+    list_in_mode(b"cursor column in mode 10", r, 10, Field::Column);
     list(b"text, 80 places", r, Field::Text, 0, 80, 255);
+    list(b"large line, 24 places", r, Field::Text, 80, 104, 255);
 }
 
 fn list_labels(r: Record) {

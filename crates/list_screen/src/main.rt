@@ -50,7 +50,7 @@ fn say_label(words: &[u8], label: Label) {
     say_codes(&label.codes, label.len as usize);
 }
 
-fn say_text(text: [u8; 80]) {
+fn say_text(text: [u8; 104]) {
     for row in 0..5 {
         say_number(b"TEXT ", row as u64);
         say(b" ");

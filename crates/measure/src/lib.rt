@@ -90,7 +90,7 @@ pub extern "C" fn measure_one_call(s: &[u8], answers: &mut [u8]) -> u64
 }
 
 // What a call on lent arrays left, as one by value hands it back.
-fn fed(f: FedLent, text: [u8; 80], picture: [u8; 672], bytes: [u8; 250]) -> Fed
+fn fed(f: FedLent, text: [u8; 104], picture: [u8; 672], bytes: [u8; 250]) -> Fed
     ensures { λ r. ⌜ r ≡ fedFrom f text picture bytes ⌝ }
 {
     let number = f.number;

@@ -14,7 +14,7 @@ timesAtPowerOn = record { time1 = record { 0 = 12 }; time2 = record { 0 = 0 } }
 abbrev pub formerTimes : Times
 formerTimes = record { time1 = record { 0 = 12 }; time2 = record { 0 = 12 } }
 
--- display on; mode 0; overlay none; cursor not shown, 0, 0; text all 0x20; labels empty; picture 0; icons 0; volume none, 0, no,
+-- display on; mode 0; overlay none; cursor not shown, 0, 0; text and large line all 0x20; labels empty; picture 0; icons 0; volume none, 0, no,
 -- no; the times given; buzzer 0; backlight off, 30, 0, clear; held key none; frame none
 abbrev pub startingWith : Times → Record
 startingWith times =
@@ -30,7 +30,7 @@ startingWith times =
         buzzer = record { 0 = 0 };
         backlight = record { mode = off; duration = record { 0 = 30 }; left = record { 0 = 0 }; keypad = false };
       };
-      text = replicate 80 blank;
+      text = replicate 104 blank;
       picture = replicate 672 0;
       held = record { down = false; key = 0; tick = record { 0 = 0 }; long = false };
       frame = record { state = 0; len = 0; bytes = replicate 250 0 };

@@ -1,10 +1,10 @@
 -- The range of each field, in the order and the words of document 01's table. A byte is at most 255 and a tick at most 65,535 by
 -- its type, so no test says so, except where a command's number, which is no byte, is judged by the same line. Assumes nothing.
-use Prim.Native.Nat.{ℕ, _*_}
+use Prim.Native.Nat.{ℕ, _+_, _*_}
 use mathlib.Core.List.{List}
 use mathlib.Core.Bool.{Bool, not, cond, _&&_, _||_}
 use lib.Dec.{ltb, leb, eqb}
-use lib.ListN.{length}
+use lib.ListN.{length, take, drop}
 use lib.Seq.{slice}
 use Rattle.lists.specs.Codes.{escape, carriageReturn, blank}
 use Rattle.lists.specs.Every.{every}
@@ -20,17 +20,32 @@ use Rattle.record.specs.declared.Frame.{Frame}
 
 -- Sizes -----------------------------------------------------------------------------------------------------------
 
--- the rows of a text mode: 4 for modes 0 and 1, 5 for 5 and 6
+-- the text mode of large digits: its one row is the large line
+abbrev pub large : ℕ
+large = 10
+
+-- the rows of a text mode: 4 for modes 0 and 1, 5 for 5 and 6, 1 for 10
 abbrev pub rowsOf : ℕ → ℕ
-rowsOf mode = cond (leb mode 1) 4 5
+rowsOf mode = cond (leb mode 1) 4 (cond (eqb mode large) 1 5)
 
--- the column past the last one of a row: where text stops
+-- the column past the last one of a row, where text stops: 16; the large line has 24 codes (note 3.5.29: 16 small and 8 big)
 abbrev pub rowEndOf : ℕ → ℕ
-rowEndOf mode = 16
+rowEndOf mode = cond (eqb mode large) 24 16
 
--- where a row's codes begin in the text
+-- where the large line begins among the codes that are kept: after the 5 rows of 16
+abbrev pub lineStart : ℕ
+lineStart = 5 * 16
+
+-- where a row's codes begin
 abbrev pub rowStartOf : ℕ → ℕ → ℕ
-rowStartOf mode row = row * 16
+rowStartOf mode row = cond (eqb mode large) lineStart (row * 16)
+
+-- the five rows and the large line of the codes that are kept
+abbrev pub textOf : List ℕ → List ℕ
+textOf t = take lineStart t
+
+abbrev pub lineOf : List ℕ → List ℕ
+lineOf t = drop lineStart t
 
 -- Places of an array ----------------------------------------------------------------------------------------------
 
@@ -54,24 +69,24 @@ isUnused b = eqb b 0
 
 -- display: on, off. It is a flag, and so are cursor shown, mute, hidden and the keypad flag.
 
--- text mode: 0, 1, 5, 6
+-- text mode: 0, 1, 5, 6, 10
 abbrev pub modeInRange : ℕ → Bool
-modeInRange n = eqb n 0 || eqb n 1 || eqb n 5 || eqb n 6
+modeInRange n = eqb n 0 || eqb n 1 || eqb n 5 || eqb n 6 || eqb n large
 
--- overlay: none (0), 11, 12, 13
+-- overlay: none (0), 11 to 18
 abbrev pub overlayInRange : ℕ → Bool
-overlayInRange n = eqb n 0 || eqb n 11 || eqb n 12 || eqb n 13
+overlayInRange n = eqb n 0 || (leb 11 n && leb n 18)
 
--- cursor: row below the mode's rows; column 0 to 16
+-- cursor: row below the mode's rows; column 0 to the row's end
 abbrev pub rowInRange : ℕ → ℕ → Bool
 rowInRange mode row = ltb row (rowsOf mode)
 
 abbrev pub cursorInRange : Screen → Bool
 cursorInRange s = rowInRange (s .mode) (s .row) && leb (s .column) (rowEndOf (s .mode))
 
--- text: 5 rows of 16 codes, 0x20 to 0xFF
+-- text: 5 rows of 16 codes, and the large line of 24, 0x20 to 0xFF
 unfoldable pub textInRange : List ℕ → Bool
-textInRange t = eqb (length t) (5 * 16) && every isCode t
+textInRange t = eqb (length t) (lineStart + 24) && every isCode t
 
 -- labels: 0 to 7 codes, 0x20 to 0xFF; unused places hold zero
 unfoldable pub labelInRange : Label → Bool

@@ -5,6 +5,9 @@ ghost use Rattle.record.specs.Number.{paperNumber};
 ghost use Rattle.record.specs.Range.{rowsOf, rowEndOf, rowStartOf};
 ghost use Rattle.record.specs.PowerOn.{timesAtPowerOn, formerTimes, startingWith, powerOn, formerPowerOn};
 
+// The text mode of large digits: its one row is the large line.
+const LARGE: u8 = 10;
+
 // A count of 100 ms: Time1 and Time2 of the keys.
 pub struct Tenths(pub u8);
 
@@ -27,7 +30,7 @@ pub enum Number {
     UnequalLengths,
 }
 
-// overlay 0 is none; column 16 stands past the row's end.
+// overlay 0 is none; the column past a row's last one stands at its end.
 pub struct Screen {
     pub display: bool,
     pub mode: u8,
@@ -100,10 +103,11 @@ pub struct Frame {
     pub bytes: [u8; 250],
 }
 
-// The text is 5 rows of 16 codes, the picture 7 rows of 96 columns, row after row.
+// The text is 5 rows of 16 codes, row after row, and then the large line of 24: a text byte has one array to go to in every mode.
+// The picture is 7 rows of 96 columns.
 pub struct Record {
     pub settings: Settings,
-    pub text: [u8; 80],
+    pub text: [u8; 104],
     pub picture: [u8; 672],
     pub held: Held,
     pub frame: Frame,
@@ -129,6 +133,9 @@ pub fn rows(mode: u8) -> u8
     if mode <= 1 {
         return 4;
     }
+    if mode == LARGE {
+        return 1;
+    }
     5
 }
 
@@ -136,13 +143,19 @@ pub fn rows(mode: u8) -> u8
 pub fn row_end(mode: u8) -> u8
     ensures same { λ r. ⌜ r ≡ rowEndOf mode ⌝ }
 {
+    if mode == LARGE {
+        return 24;
+    }
     16
 }
 
-// Where a row's codes begin in the text.
+// Where a row's codes begin in the text: the large line stands behind the rows.
 pub fn row_start(mode: u8, row: u8) -> usize
     ensures same { λ r. ⌜ r ≡ rowStartOf mode row ⌝ }
 {
+    if mode == LARGE {
+        return 80;
+    }
     row as usize * 16
 }
 
@@ -218,7 +231,7 @@ impl Record {
                     keypad: false,
                 },
             },
-            text: [0x20u8; 80],
+            text: [0x20u8; 104],
             picture: [0u8; 672],
             held: Held {
                 down: false,

@@ -44,11 +44,11 @@ pub enum Field {
     FrameByte,
 }
 
-fn text_with(text: [u8; 80], place: usize, b: u8) -> [u8; 80]
+fn text_with(text: [u8; 104], place: usize, b: u8) -> [u8; 104]
     ensures { λ r. ⌜ r ≡ set text place b ⌝ }
 {
     let mut changed = text;
-    if place < 80 {
+    if place < 104 {
         changed[place] = b;
         return changed;
     }

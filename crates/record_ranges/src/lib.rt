@@ -58,10 +58,10 @@ fn scan(s: &[u8], len: u8, place: Place) -> bool
     ok
 }
 
-fn text_in_range(text: &[u8; 80]) -> bool
+fn text_in_range(text: &[u8; 104]) -> bool
     ensures { λ r. ⌜ r ≡ textInRange (now (text .entry)) ⌝ }
 {
-    scan(text, 80, Place::Code)
+    scan(text, 104, Place::Code)
 }
 
 // Rows 0 to 5 take every byte.
@@ -88,7 +88,7 @@ fn frame_in_range(state: u8, len: u8, bytes: &[u8; 250]) -> bool
 // Whether every field is within its range, for one who keeps the arrays elsewhere.
 pub fn in_range_lent<'a>(
     settings: Settings,
-    text: &'a [u8; 80],
+    text: &'a [u8; 104],
     picture: &'a [u8; 672],
     held: Held,
     state: u8,

@@ -14,13 +14,13 @@ use record::Volume;
 fn mode_in_range(mode: u8) -> bool
     ensures { λ r. ⌜ r ≡ modeInRange mode ⌝ }
 {
-    (mode == 0) | (mode == 1) | (mode == 5) | (mode == 6)
+    (mode == 0) | (mode == 1) | (mode == 5) | (mode == 6) | (mode == 10)
 }
 
 fn overlay_in_range(overlay: u8) -> bool
     ensures { λ r. ⌜ r ≡ overlayInRange overlay ⌝ }
 {
-    (overlay == 0) | (overlay == 11) | (overlay == 12) | (overlay == 13)
+    (overlay == 0) | ((11 <= overlay) & (overlay <= 18))
 }
 
 fn cursor_in_range(s: Screen) -> bool

@@ -1,18 +1,18 @@
--- What follows from the definitions: display off, one owner for each row, the cursor, and whose the contents are. Assumes nothing.
-use Prim.Native.Nat.{ℕ, _+_, _*_, _-_, _≤_, _<_}
+-- What follows from the definitions: numbers and refusals, the phase, display off, the owners of a row and of its columns, the
+-- cursor, and whose the contents are. Assumes nothing.
+use Prim.Native.Nat.{ℕ, _+_, _*_, _≤_, _<_}
 use native.Mathlib.Omega.{arith}
-use mathlib.Core.Path.{_≡_, refl, ap, _∙_}
-use mathlib.Core.Bool.{Bool, true, false, not, cond, _&&_}
+use mathlib.Core.Path.{_≡_, refl, sym, ap, _∙_}
+use mathlib.Core.Bool.{Bool, true, false, true≢false, not, cond, _||_, and-false, or-true}
 use mathlib.Core.List.{List}
-use lib.Dec.{leb, ltb, eqb}
+use lib.Dec.{ltb, eqb}
 use lib.ListN.{getD}
-use lib.Seq.{getD-drop, getD-take}
-use borrow.Author.Tests.{leb-true, lt-ltb, le-ltb}
-use Rattle.lists.specs.Tests.{by-test}
+use borrow.Author.Tests.{lt-ltb, le-ltb, eqb-true}
+use Rattle.lists.specs.Tests.{by-test, either-way}
 use Rattle.lists.specs.Both.{both}
 use Rattle.record.specs.Number.{paperNumber, numbered}
-use Rattle.record.specs.Range.{inRange}
-use Rattle.record.specs.With.{withSettings, withScreen, withShown, withRow, withColumn}
+use Rattle.record.specs.Range.{inRange, large}
+use Rattle.record.specs.With.{withSettings, withScreen, withShown, withDisplay, withOverlay, withRow, withColumn}
 use Rattle.record.specs.declared.Record.{Record}
 use Rattle.record.specs.declared.Screen.{Screen}
 use Rattle.seen_panels.specs.Panels.{smsPanel, volumePanel, steady-panel}
@@ -21,33 +21,54 @@ use Rattle.seen_panels.specs.declared.Phase.the-variants.{Lit}
 use Rattle.seen_panels.specs.declared.SmsPanel.the-variants as Sms
 use Rattle.seen_panels.specs.declared.VolumePanel.the-variants as Sound
 use Rattle.seen.specs.declared.Owner.{Owner}
-use Rattle.seen.specs.declared.Owner.the-variants.{Nothing, IconBar, TextRow, PictureRow, SoftKeys}
+use Rattle.seen.specs.declared.Owner.the-variants.{Nothing, IconBar, TextRow, PictureRow, SoftKeys, SmallLine, BigLine, PictureWithRocker}
 use Rattle.seen.specs.declared.Row.{Row}
-use Rattle.seen.specs.Places.{firstTextRow, covered, underBar, underLabels, underText, ownerOn, ownerAt, rowOwner, placed}
+use Rattle.seen.specs.declared.ColumnSeen.{ColumnSeen}
+use Rattle.seen.specs.Tests.{at-rocker}
+use Rattle.seen.specs.LineLaws.{row-at}
+use Rattle.seen.specs.Places.{isRocker, covers, leavesRocker, covered, underBar, underLabels, underText, underSmall, underBig, ownerOn, ownerAt, twoOwners, ownerOfRow, rowOwner}
 use Rattle.seen.specs.Rows.{rowOf, nothingSeen, contents, rowSeen, smsSeen, volumeSeen}
+use Rattle.seen.specs.Columns.{shownAt, noPlace, placeOf, columnSeen, ownerIn}
 
 -- The row question, once it is not refused.
 pub seen-row : (r : Record) (row : ℕ) (phase : Phase) → inRange r ≡ true → row ≤ 6 → rowSeen r row phase ≡ contents r phase (rowOwner r row)
 unfolding rowSeen
 seen-row r row phase ok h = rw (ok, le-ltb 6 row h)
 
+-- And the column question.
+pub seen-column : (r : Record) (row column : ℕ) (phase : Phase) → inRange r ≡ true → row ≤ 6 → column ≤ 95
+    → columnSeen r row column phase ≡ placeOf r phase column (ownerAt r row column)
+unfolding columnSeen
+seen-column r row column phase ok h k = rw (ok, le-ltb 6 row h, le-ltb 95 column k)
+
 -- Numbers -------------------------------------------------------------------------------------------------------
 
-contents-done : (r : Record) (phase : Phase) (o : Owner) → contents r phase o .number ≡ numbered 0
+-- Contents are told with number 0 and with their owner.
+pub contents-told : (r : Record) (phase : Phase) (o : Owner) → (contents r phase o .number ≡ numbered 0) × (contents r phase o .owner ≡ o)
 unfolding contents
-contents-done r phase Nothing = refl
-contents-done r phase IconBar = refl
-contents-done r phase (TextRow n) = refl
-contents-done r phase (PictureRow n) = refl
-contents-done r phase SoftKeys = refl
+contents-told r phase Nothing = (refl, refl)
+contents-told r phase IconBar = (refl, refl)
+contents-told r phase (TextRow n) = (refl, refl)
+contents-told r phase (PictureRow n) = (refl, refl)
+contents-told r phase SoftKeys = (refl, refl)
+contents-told r phase SmallLine = (refl, refl)
+contents-told r phase (BigLine half) = (refl, refl)
+contents-told r phase (PictureWithRocker n) = (refl, refl)
 
 -- The row question hands back 1 for a field out of range, then 4 for a display row above 6, else 0.
 pub row-number : (r : Record) (row : ℕ) (phase : Phase) → paperNumber (rowSeen r row phase .number) ≡ cond (not (inRange r)) 1 (cond (ltb 6 row) 4 0)
 unfolding rowSeen
 row-number r row phase =
     by-test (inRange r)
-    (λ ok. by-test (ltb 6 row) (λ above. rw (ok, above)) (λ above. rw (ok, above, contents-done r phase (rowOwner r row))))
+    (λ ok. by-test (ltb 6 row) (λ above. rw (ok, above)) (λ above. rw (ok, above, contents-told r phase (rowOwner r row) .0)))
     (λ bad. rw bad)
+
+-- The column question hands back 1 for a field out of range, then 4 for a display row above 6 or a column above 95, else 0.
+pub column-number : (r : Record) (row column : ℕ) (phase : Phase)
+    → paperNumber (columnSeen r row column phase .number) ≡ cond (not (inRange r)) 1 (cond (ltb 6 row || ltb 95 column) 4 0)
+unfolding columnSeen
+column-number r row column phase =
+    by-test (inRange r) (λ ok. by-test (ltb 6 row || ltb 95 column) (λ above. rw (ok, above)) (λ above. rw (ok, above))) (λ bad. rw bad)
 
 -- The panels' questions hand back 1 for a field out of range, else 0.
 pub panel-numbers : (r : Record) (phase : Phase)
@@ -60,6 +81,13 @@ pub row-refused : (r : Record) (row : ℕ) (phase : Phase)
     → (inRange r ≡ false → rowSeen r row phase ≡ nothingSeen (numbered 1)) × (inRange r ≡ true → 6 < row → rowSeen r row phase ≡ nothingSeen (numbered 4))
 unfolding rowSeen
 row-refused r row phase = (λ bad. rw bad, λ ok above. rw (ok, lt-ltb 6 row above))
+
+pub column-refused : (r : Record) (row column : ℕ) (phase : Phase)
+    → (inRange r ≡ false → columnSeen r row column phase ≡ noPlace (numbered 1))
+    × (inRange r ≡ true → 6 < row → columnSeen r row column phase ≡ noPlace (numbered 4))
+    × (inRange r ≡ true → 95 < column → columnSeen r row column phase ≡ noPlace (numbered 4))
+unfolding columnSeen
+column-refused r row column phase = (λ bad. rw bad, λ ok above. rw (ok, lt-ltb 6 row above), λ ok above. rw (ok, lt-ltb 95 column above, or-true))
 
 pub panels-refused : (r : Record) (phase : Phase) → inRange r ≡ false
     → (smsSeen r phase ≡ record { number = numbered 1; panel = Sms.Nothing }) × (volumeSeen r ≡ record { number = numbered 1; panel = Sound.Nothing })
@@ -74,60 +102,96 @@ panels-told r phase ok = (rw ok, rw ok)
 
 -- The phase -----------------------------------------------------------------------------------------------------
 
-steady-contents : (r : Record) (phase : Phase) → (r .settings .icons .u ≡ 255 → ⊥) → (o : Owner) → contents r phase o ≡ contents r Lit o
-unfolding contents
-steady-contents r phase steady Nothing = refl
-steady-contents r phase steady IconBar = rw (steady-panel (r .settings .icons) steady phase)
-steady-contents r phase steady (TextRow n) = refl
-steady-contents r phase steady (PictureRow n) = refl
-steady-contents r phase steady SoftKeys = refl
+module _ (r : Record) (phase : Phase) (steady : r .settings .icons .u ≡ 255 → ⊥) where
+  steady-contents : (o : Owner) → contents r phase o ≡ contents r Lit o
+  unfolding contents
+  steady-contents Nothing = refl
+  steady-contents IconBar = rw (steady-panel (r .settings .icons) steady phase)
+  steady-contents (TextRow n) = refl
+  steady-contents (PictureRow n) = refl
+  steady-contents SoftKeys = refl
+  steady-contents SmallLine = refl
+  steady-contents (BigLine half) = refl
+  steady-contents (PictureWithRocker n) = refl
 
--- With U not 255 the phase changes nothing: neither a row nor the SMS panel.
-pub steady-unseen : (r : Record) (phase : Phase) → (r .settings .icons .u ≡ 255 → ⊥) → ((row : ℕ) → rowSeen r row phase ≡ rowSeen r row Lit) × (smsSeen r phase ≡ smsSeen r Lit)
-unfolding rowSeen smsSeen
-steady-unseen r phase steady = (λ row. rw (steady-contents r phase steady (rowOwner r row)), rw (steady-panel (r .settings .icons) steady phase))
+  steady-place : (column : ℕ) (o : Owner) → placeOf r phase column o ≡ placeOf r Lit column o
+  steady-place column Nothing = refl
+  steady-place column IconBar = rw (steady-panel (r .settings .icons) steady phase)
+  steady-place column (TextRow n) = refl
+  steady-place column (PictureRow n) = refl
+  steady-place column SoftKeys = refl
+  steady-place column SmallLine = refl
+  steady-place column (BigLine half) = refl
+  steady-place column (PictureWithRocker n) = refl
+
+  -- With U not 255 the phase changes nothing: no row, no column and not the SMS panel.
+  pub steady-unseen :
+      ((row : ℕ) → rowSeen r row phase ≡ rowSeen r row Lit)
+      × ((row column : ℕ) → columnSeen r row column phase ≡ columnSeen r row column Lit)
+      × (smsSeen r phase ≡ smsSeen r Lit)
+  unfolding rowSeen columnSeen smsSeen
+  steady-unseen =
+      (λ row. rw (steady-contents (rowOwner r row)), λ row column. rw (steady-place column (ownerAt r row column)), rw (steady-panel (r .settings .icons) steady phase))
 
 -- Display off -----------------------------------------------------------------------------------------------------
 
--- With the display off every row of every record shows nothing.
-pub off-shows-nothing : (r : Record) (row : ℕ) (phase : Phase) → r .settings .screen .display ≡ false → rowSeen r row phase ≡ nothingSeen (rowSeen r row phase .number)
-unfolding rowSeen ownerOn contents
+-- With the display off every row and every column of every record shows nothing.
+pub off-shows-nothing : (r : Record) (row : ℕ) (phase : Phase) → r .settings .screen .display ≡ false
+    → (rowSeen r row phase ≡ nothingSeen (rowSeen r row phase .number))
+    × ((column : ℕ) → columnSeen r row column phase ≡ noPlace (columnSeen r row column phase .number))
+unfolding rowSeen columnSeen ownerOn twoOwners contents shownAt
 off-shows-nothing r row phase off =
     by-test (inRange r)
-    (λ ok. by-test (ltb 6 row) (λ above. rw (ok, above)) (λ above. rw (ok, above, off)))
-    (λ bad. rw bad)
+    (λ ok. (
+      by-test (ltb 6 row) (λ above. rw (ok, above)) (λ above. rw (ok, above, off)),
+      λ column. by-test (ltb 6 row || ltb 95 column) (λ above. rw (ok, above)) (λ above. rw (ok, above, off)),
+    ))
+    (λ bad. (rw bad, λ column. rw bad))
 
--- One owner -------------------------------------------------------------------------------------------------------
+-- Owners ----------------------------------------------------------------------------------------------------------
 
--- Every column of a row has the row's owner.
-pub one-owner : (r : Record) (row column : ℕ) → ownerAt r row column ≡ rowOwner r row
+-- Every column of a row has the row's owner, unless the row has two.
+pub one-owner : (s : Screen) (row column : ℕ) → twoOwners s row ≡ false → ownerOn s row column ≡ ownerOfRow s row
+unfolding ownerOn twoOwners covered underLabels
+one-owner s row column one =
+    by-test (s .display)
+    (λ on. let whole : leavesRocker (s .overlay) row ≡ false = rw on at one in rw (on, whole))
+    (λ off. rw off)
+
+-- A row of two owners is told as that, and each of its columns has one: the soft keys in the rocker panel, else the picture.
+pub two-owners : (s : Screen) (row : ℕ) → twoOwners s row ≡ true
+    → (ownerOfRow s row ≡ PictureWithRocker row) × ((column : ℕ) → ownerOn s row column ≡ cond (isRocker column) SoftKeys (PictureRow row))
+unfolding twoOwners ownerOn covers leavesRocker covered underBar underLabels
+two-owners s row two =
+    let parts : (s .display ≡ true) × (leavesRocker (s .overlay) row ≡ true) = both two in (
+      rw two,
+      λ column.
+          let P : ℕ → ℕ → Type 0 = λ overlay at. ownerOn (withOverlay (withDisplay s true) overlay) at column ≡ cond (isRocker column) SoftKeys (PictureRow at) in
+          rw (parts .0)
+          (by-test (isRocker column)
+          (λ inside. at-rocker P (rw inside) (rw inside) (rw inside) (s .overlay) row (parts .1))
+          (λ outside. at-rocker P (rw outside) (rw outside) (rw outside) (s .overlay) row (parts .1))),
+    )
+
+-- No place has two owners.
+pub no-place-has-two : (s : Screen) (row column place : ℕ) → ownerIn (ownerOn s row column) place ≡ ownerOn s row column
 unfolding ownerOn
-one-owner r row column = refl
+no-place-has-two s row column place =
+    let P : Owner → Type 0 = λ o. ownerIn o place ≡ o in
+    either-way P (not (s .display)) (λ _. refl)
+    (λ _. either-way P (covered s row column) (λ _. refl)
+    (λ _. either-way P (underBar s row) (λ _. refl)
+    (λ _. either-way P (underLabels s row column) (λ _. refl)
+    (λ _. either-way P (underText s row) (λ _. refl)
+    (λ _. either-way P (underSmall s row) (λ _. refl)
+    (λ _. either-way P (underBig s row) (λ _. refl) (λ _. refl)))))))
 
--- The six choices of a place, with any tests.
-choices-placed : (off picture bar labels text : Bool) (row n : ℕ) → row < 7 → (text ≡ true → n < 5)
-    → placed (cond off Nothing (cond picture (PictureRow row) (cond bar IconBar (cond labels SoftKeys (cond text (TextRow n) Nothing))))) ≡ true
-choices-placed true picture bar labels text row n h k = refl
-choices-placed false true bar labels text row n h k = lt-ltb row 7 h
-choices-placed false false true labels text row n h k = refl
-choices-placed false false false true text row n h k = refl
-choices-placed false false false false true row n h k = lt-ltb n 5 (k refl)
-choices-placed false false false false false row n h k = refl
-
--- Where text stands: from its first row down to row 4.
-pub text-between : (s : Screen) (row : ℕ) → underText s row ≡ true → (firstTextRow (s .mode) ≤ row) × (row ≤ 4)
-unfolding underText
-text-between s row e =
-    let parts : ((eqb (s .overlay) 0 && leb (firstTextRow (s .mode)) row) ≡ true) × (leb row 4 ≡ true) = both e in
-    let above : (eqb (s .overlay) 0 ≡ true) × (leb (firstTextRow (s .mode)) row ≡ true) = both (parts .0) in
-    (leb-true (firstTextRow (s .mode)) row (above .1), leb-true row 4 (parts .1))
-
--- An owner of a display row names a row that the record has.
-pub owner-placed : (s : Screen) (row column : ℕ) → row ≤ 6 → placed (ownerOn s row column) ≡ true
-unfolding ownerOn
-owner-placed s row column h =
-    choices-placed (not (s .display)) (covered s row) (underBar s row) (underLabels s row) (underText s row) row (row - firstTextRow (s .mode)) (omega arith)
-    (λ e. omega (arith, text-between s row e .1))
+-- So a row's owner says whose each of its columns is.
+pub owner-in-row : (s : Screen) (row column : ℕ) → ownerOn s row column ≡ ownerIn (ownerOfRow s row) column
+owner-in-row s row column =
+    by-test (twoOwners s row)
+    (λ two. rw two (two-owners s row two .1 column))
+    (λ one. sym (no-place-has-two s row column column) ∙ ap (λ (o : Owner). ownerIn o column) (one-owner s row column one))
 
 -- The cursor ------------------------------------------------------------------------------------------------------
 
@@ -136,28 +200,81 @@ abbrev pub withCursor : Record → Bool → ℕ → ℕ → Record
 withCursor r shown row column =
     withSettings r (withShown (withScreen (r .settings) (withColumn (withRow (r .settings .screen) row) column)) shown)
 
-contents-alike : (r : Record) (shown : Bool) (row column : ℕ) (phase : Phase) (o : Owner) → contents (withCursor r shown row column) phase o ≡ contents r phase o
-unfolding contents
-contents-alike r shown row column phase Nothing = refl
-contents-alike r shown row column phase IconBar = refl
-contents-alike r shown row column phase (TextRow n) = refl
-contents-alike r shown row column phase (PictureRow n) = refl
-contents-alike r shown row column phase SoftKeys = refl
+-- an owner that shows the large line
+abbrev isLine : Owner → Bool
+isLine Nothing = false
+isLine IconBar = false
+isLine (TextRow n) = false
+isLine (PictureRow n) = false
+isLine SoftKeys = false
+isLine SmallLine = true
+isLine (BigLine half) = true
+isLine (PictureWithRocker n) = false
 
--- Two records in range that differ only in the cursor are seen alike: every row, and both panels.
-pub cursor-unseen : (r : Record) (shown : Bool) (row column : ℕ) (phase : Phase) → inRange r ≡ true → inRange (withCursor r shown row column) ≡ true
-    → ((at : ℕ) → rowSeen (withCursor r shown row column) at phase ≡ rowSeen r at phase)
-    × (smsSeen (withCursor r shown row column) phase ≡ smsSeen r phase)
-    × (volumeSeen (withCursor r shown row column) ≡ volumeSeen r)
-unfolding rowSeen smsSeen volumeSeen ownerOn covered underBar underLabels underText
-cursor-unseen r shown row column phase ok ok′ =
-    (λ at. rw (ok, ok′) (ap (λ (q : Row). cond (ltb 6 at) (nothingSeen (numbered 4)) q) (contents-alike r shown row column phase (rowOwner r at))), rw (ok, ok′), rw (ok, ok′))
+-- whoever shows no line has nothing to say
+other : {A B : Type 0} → A → false ≡ true → B
+other _ e = absurd (true≢false (sym e))
+
+-- The large line is seen in mode 10 alone.
+line-at : (s : Screen) (row column : ℕ) → isLine (ownerOn s row column) ≡ true → s .mode ≡ large
+unfolding ownerOn underSmall underBig
+line-at s row column =
+    let P : Owner → Type 0 = λ o. isLine o ≡ true → s .mode ≡ large in
+    by-test (eqb (s .mode) large) (λ yes _. eqb-true (s .mode) large yes)
+    (λ no. either-way P (not (s .display)) other
+    (λ _. either-way P (covered s row column) other
+    (λ _. either-way P (underBar s row) other
+    (λ _. either-way P (underLabels s row column) other
+    (λ _. either-way P (underText s row) other
+    (λ _. either-way P (underSmall s row) (λ small _. other small (rw (no, and-false) at small))
+    (λ _. either-way P (underBig s row) (λ big _. other big (rw (no, and-false) at big)) other)))))))
+
+line-in-row : (s : Screen) (row : ℕ) → isLine (ownerOfRow s row) ≡ true → s .mode ≡ large
+line-in-row s row = either-way (λ (o : Owner). isLine o ≡ true → s .mode ≡ large) (twoOwners s row) other (λ _. line-at s row 0)
+
+-- Two records that differ only in the cursor are seen alike, but where the large line is: there with one column.
+module _ (r : Record) (shown : Bool) (row column : ℕ) (phase : Phase) where
+  contents-alike : (o : Owner) → (isLine o ≡ true → column ≡ r .settings .screen .column) → contents (withCursor r shown row column) phase o ≡ contents r phase o
+  unfolding contents
+  contents-alike Nothing same = refl
+  contents-alike IconBar same = refl
+  contents-alike (TextRow n) same = refl
+  contents-alike (PictureRow n) same = refl
+  contents-alike SoftKeys same = refl
+  contents-alike SmallLine same = rw (same refl)
+  contents-alike (BigLine half) same = rw (same refl)
+  contents-alike (PictureWithRocker n) same = refl
+
+  place-alike : (place : ℕ) (o : Owner) → (isLine o ≡ true → column ≡ r .settings .screen .column) → placeOf (withCursor r shown row column) phase place o ≡ placeOf r phase place o
+  unfolding shownAt
+  place-alike place Nothing same = refl
+  place-alike place IconBar same = refl
+  place-alike place (TextRow n) same = refl
+  place-alike place (PictureRow n) same = refl
+  place-alike place SoftKeys same = refl
+  place-alike place SmallLine same = rw (same refl)
+  place-alike place (BigLine half) same = rw (same refl)
+  place-alike place (PictureWithRocker n) same = refl
+
+  -- The cursor is no part of what is seen, but in mode 10 the column is, which says how many codes the large line has. Two records in
+  -- range that differ only in the cursor, and in mode 10 have one column, are seen alike: every row, every column and both panels.
+  pub cursor-unseen : inRange r ≡ true → inRange (withCursor r shown row column) ≡ true → (r .settings .screen .mode ≡ large → column ≡ r .settings .screen .column)
+      → ((at : ℕ) → rowSeen (withCursor r shown row column) at phase ≡ rowSeen r at phase)
+      × ((at place : ℕ) → columnSeen (withCursor r shown row column) at place phase ≡ columnSeen r at place phase)
+      × (smsSeen (withCursor r shown row column) phase ≡ smsSeen r phase)
+      × (volumeSeen (withCursor r shown row column) ≡ volumeSeen r)
+  unfolding rowSeen columnSeen smsSeen volumeSeen ownerOn twoOwners covered underBar underLabels underText underSmall underBig
+  cursor-unseen ok ok′ same =
+      let s = r .settings .screen in (
+        λ at. rw (ok, ok′) (ap (λ (q : Row). cond (ltb 6 at) (nothingSeen (numbered 4)) q)
+            (contents-alike (rowOwner r at) (λ line. same (line-in-row s at line)))),
+        λ at place. rw (ok, ok′) (ap (λ (q : ColumnSeen). cond (ltb 6 at || ltb 95 place) (noPlace (numbered 4)) q)
+            (place-alike place (ownerAt r at place) (λ line. same (line-at s at place line)))),
+        rw (ok, ok′),
+        rw (ok, ok′),
+      )
 
 -- The contents ----------------------------------------------------------------------------------------------------
-
--- Place i of row n is place width * n + i of the field.
-row-at : (width : ℕ) (cells : List ℕ) (n i : ℕ) → i < width → getD (rowOf width cells n) i 0 ≡ getD cells (width * n + i) 0
-row-at width cells n i h = getD-drop (width * n) _ i 0 ∙ getD-take (width * n + width) cells (width * n + i) 0 (omega arith)
 
 -- Text row n shows codes 16n to 16n + 15 of the text.
 pub text-row-own : (r : Record) (row n i : ℕ) (phase : Phase) → inRange r ≡ true → row ≤ 6 → rowOwner r row ≡ TextRow n → i < 16

@@ -1,10 +1,11 @@
--- What the three questions tell: the row question, the SMS panel and the volume panel. Assumes nothing.
+-- What the row question and the questions of the two panels tell. Assumes nothing.
 use Prim.Native.Nat.{ℕ, _+_, _*_}
 use mathlib.Core.Bool.{not, cond}
-use mathlib.Core.List.{List}
+use mathlib.Core.List.{List, _++_}
 use lib.Dec.{ltb}
-use lib.ListN.{replicate}
+use lib.ListN.{take, drop, replicate}
 use lib.Seq.{slice}
+use Rattle.lists.specs.Padded.{padded}
 use Rattle.record.specs.Range.{inRange}
 use Rattle.record.specs.declared.Record.{Record}
 use Rattle.record.specs.declared.Settings.{Settings}
@@ -14,8 +15,9 @@ use Rattle.record.specs.Number.{numbered}
 use Rattle.seen_panels.specs.Panels.{smsPanel, volumePanel}
 use Rattle.seen_panels.specs.declared.Phase.{Phase}
 use Rattle.seen.specs.Places.{rowOwner}
+use Rattle.seen.specs.Line.{smallLine, bigLine}
 use Rattle.seen.specs.declared.Owner.{Owner}
-use Rattle.seen.specs.declared.Owner.the-variants.{Nothing, IconBar, TextRow, PictureRow, SoftKeys}
+use Rattle.seen.specs.declared.Owner.the-variants.{Nothing, IconBar, TextRow, PictureRow, SoftKeys, SmallLine, BigLine, PictureWithRocker}
 use Rattle.seen_panels.specs.declared.SmsPanel.the-variants as Sms
 use Rattle.seen_panels.specs.declared.VolumePanel.the-variants as Sound
 use Rattle.seen.specs.declared.Bar.{Bar}
@@ -46,6 +48,10 @@ barOf p phase = record { f = p .icons .f; p = p .icons .p; r = p .icons .r; sms 
 abbrev pub labelsOf : Settings → Labels
 labelsOf p = record { left = p .left; right = p .right; w = p .icons .w }
 
+-- a picture row with zero in the columns of the rocker panel
+abbrev pub aroundRocker : List ℕ → List ℕ
+aroundRocker columns = take 42 columns ++ replicate 12 0 ++ drop 54 columns
+
 -- Unused places of what is told are zero.
 abbrev pub noCodes : List ℕ
 noCodes = replicate 16 0
@@ -73,6 +79,9 @@ contents r phase IconBar = record { number = numbered 0; owner = IconBar; codes 
 contents r phase (TextRow n) = record { number = numbered 0; owner = TextRow n; codes = textRow r n; columns = noColumns; bar = noBar; labels = noLabels }
 contents r phase (PictureRow n) = record { number = numbered 0; owner = PictureRow n; codes = noCodes; columns = pictureRow r n; bar = noBar; labels = noLabels }
 contents r phase SoftKeys = record { number = numbered 0; owner = SoftKeys; codes = noCodes; columns = noColumns; bar = noBar; labels = labelsOf (r .settings) }
+contents r phase SmallLine = record { number = numbered 0; owner = SmallLine; codes = smallLine r; columns = noColumns; bar = noBar; labels = noLabels }
+contents r phase (BigLine half) = record { number = numbered 0; owner = BigLine half; codes = padded 16 (bigLine r); columns = noColumns; bar = noBar; labels = noLabels }
+contents r phase (PictureWithRocker n) = record { number = numbered 0; owner = PictureWithRocker n; codes = noCodes; columns = aroundRocker (pictureRow r n); bar = noBar; labels = record { left = noLabel; right = noLabel; w = r .settings .icons .w } }
 
 -- The questions ---------------------------------------------------------------------------------------------------
 

@@ -1,12 +1,17 @@
-// What a person sees: the owner and the contents of each display row, and the two panels of the icon bar.
-// The definitions are document 01's "What is seen", in specs/ and, for the panels, in the crate `seen_panels`. The cursor is no part of what is told.
+// What a person sees: the owner and the contents of each display row and of each column of it, and the two panels of the icon bar.
+// The definitions are document 01's "What is seen", in specs/ and, for the panels, in the crate `seen_panels`. The cursor is no part of what is told,
+// but the column says how many codes the large line has.
 ghost use mathlib.Core.Path.{_≡_};
 ghost use mathlib.Core.Bool.{true};
 ghost use Prim.Native.Nat.{_+_, _≤_, _<_};
-ghost use lib.ListN.{length};
+ghost use lib.ListN.{length, getD};
+ghost use Rattle.lists.specs.Padded.{padded};
 ghost use lib.Seq.{slice};
-ghost use Rattle.seen.specs.Places.{covered, underBar, underLabels, underText, firstTextRow, ownerOn, placed};
-ghost use Rattle.seen.specs.Rows.{rowOf, barOf, labelsOf, noColumns, nothingSeen, contents, rowSeen, smsSeen, volumeSeen};
+ghost use Rattle.record.specs.Range.{inRange, lineOf};
+ghost use Rattle.seen.specs.Places.{isRocker, covers, leavesRocker, covered, underBar, underLabels, ofTextMode, underText, underSmall, underBig, firstTextRow, ownerOn, twoOwners, ownerOfRow, placed};
+ghost use Rattle.seen.specs.Line.{codesIn, smallIn, smallCells, bigCells};
+ghost use Rattle.seen.specs.Columns.{softKeyAt, shownAt, barAt, noPlace, columnSeen};
+ghost use Rattle.seen.specs.Rows.{rowOf, aroundRocker, barOf, labelsOf, noColumns, nothingSeen, contents, rowSeen, smsSeen, volumeSeen};
 use record::Label;
 use record::Number;
 use record::Record;
@@ -19,13 +24,51 @@ pub use seen_panels::VolumePanel;
 use seen_panels::sms_panel;
 use seen_panels::volume_panel;
 
-// Who owns a display row. The number is the text row or the picture row.
+// The code of an empty cell.
+const BLANK: u8 = 0x20;
+
+// The text mode of large digits.
+const LARGE: u8 = 10;
+
+// The soft keys' row, and where its parts begin: the rocker panel stands between the labels.
+const LABELS_ROW: u8 = 5;
+
+const ROCKER: u8 = 42;
+
+const RIGHT_LABEL: u8 = 54;
+
+// So many columns has a character, and a big one.
+const CELL: u8 = 6;
+
+const BIG_CELL: u8 = 12;
+
+// The big codes of the large line, and where the line begins in the text.
+const BIG_CODES: u8 = 8;
+
+const LINE: usize = 80;
+
+// Who owns a display row or a place of it. The number is the text row or the picture row, and of the big codes the half that is
+// shown: 0 the upper, 1 the lower. PictureWithRocker has a row alone: each of its places belongs to one of the two.
 pub enum Owner {
     Nothing,
     IconBar,
     TextRow(u8),
     PictureRow(u8),
     SoftKeys,
+    SmallLine,
+    BigLine(u8),
+    PictureWithRocker(u8),
+}
+
+// What stands at a place: a code, a picture's column, icon W; a cell past a label's length is 0. The icon bar is told whole.
+pub enum Shown {
+    Nothing,
+    Bar,
+    Code(u8),
+    Column(u8),
+    LeftLabel(u8),
+    Rocker(u8),
+    RightLabel(u8),
 }
 
 // The icon bar: icons F, P and R, and the two panels.
@@ -44,8 +87,9 @@ pub struct Labels {
     pub w: u8,
 }
 
-// What the row question tells: codes for a text row, columns for a picture row, bar for the icon bar, labels for the soft
-// keys. What the owner does not use is zero.
+// What the row question tells: codes for a text row and for the large line, whose big codes are eight, columns for a picture row,
+// bar for the icon bar, labels for the soft keys. A picture with the rocker has zero in the rocker's columns, and icon W in labels.
+// What the owner does not use is zero.
 pub struct Row {
     pub number: Number,
     pub owner: Owner,
@@ -53,6 +97,14 @@ pub struct Row {
     pub columns: [u8; 96],
     pub bar: Bar,
     pub labels: Labels,
+}
+
+// What the column question tells: bar for the icon bar.
+pub struct ColumnSeen {
+    pub number: Number,
+    pub owner: Owner,
+    pub shown: Shown,
+    pub bar: Bar,
 }
 
 pub struct SmsSeen {
@@ -99,24 +151,70 @@ pub fn volume_seen(r: Record) -> VolumeSeen
     }
 }
 
-fn covered_at(s: Screen, row: u8) -> bool
-    ensures { λ b. ⌜ b ≡ covered s row ⌝ }
+fn in_rocker(column: u8) -> bool
+    ensures { λ b. ⌜ b ≡ isRocker column ⌝ }
 {
-    ((s.overlay == 11) & (1 <= row) & (row <= 4))
-        | ((s.overlay == 12) & (row <= 4))
-        | ((s.overlay == 13) & (row <= 6))
+    (ROCKER <= column) & (column < RIGHT_LABEL)
+}
+
+// The rows of each overlay's picture.
+fn picture_covers(overlay: u8, row: u8) -> bool
+    ensures { λ b. ⌜ b ≡ covers overlay row ⌝ }
+{
+    ((overlay == 11) & (1 <= row) & (row <= 4))
+        | ((overlay == 12) & (row <= 4))
+        | ((overlay == 13) & (row <= 6))
+        | ((overlay == 14) & (1 <= row) & (row <= 6))
+        | ((overlay == 15) & (row <= 6))
+        | ((overlay == 16) & (1 <= row) & (row <= 2))
+        | ((overlay == 17) & (3 <= row) & (row <= 4))
+        | ((overlay == 18) & (5 <= row) & (row <= 6))
+}
+
+fn leaves_rocker(overlay: u8, row: u8) -> bool
+    ensures { λ b. ⌜ b ≡ leavesRocker overlay row ⌝ }
+{
+    (row == LABELS_ROW) & ((overlay == 14) | (overlay == 15) | (overlay == 18))
+}
+
+fn covered_at(s: Screen, row: u8, column: u8) -> bool
+    ensures { λ b. ⌜ b ≡ covered s row column ⌝ }
+{
+    picture_covers(s.overlay, row) & !(leaves_rocker(s.overlay, row) & in_rocker(column))
 }
 
 fn bar_at(s: Screen, row: u8) -> bool
     ensures { λ b. ⌜ b ≡ underBar s row ⌝ }
 {
-    (row == 0) & ((s.overlay == 11) | ((s.overlay == 0) & (s.mode <= 1)))
+    (row == 0)
+        & ((s.overlay == 11)
+            | (s.overlay == 14)
+            | (s.overlay == 16)
+            | (s.overlay == 17)
+            | (s.overlay == 18)
+            | ((s.overlay == 0) & ((s.mode <= 1) | (s.mode == LARGE))))
 }
 
-fn labels_at(s: Screen, row: u8) -> bool
-    ensures { λ b. ⌜ b ≡ underLabels s row ⌝ }
+fn labels_at(s: Screen, row: u8, column: u8) -> bool
+    ensures { λ b. ⌜ b ≡ underLabels s row column ⌝ }
 {
-    (row == 5) & (s.overlay != 13)
+    (row == LABELS_ROW)
+        & ((s.overlay == 0)
+            | (s.overlay == 11)
+            | (s.overlay == 12)
+            | (s.overlay == 16)
+            | (s.overlay == 17)
+            | (leaves_rocker(s.overlay, row) & in_rocker(column)))
+}
+
+// The rows that each overlay leaves to the text mode.
+fn of_text_mode(overlay: u8, row: u8) -> bool
+    ensures { λ b. ⌜ b ≡ ofTextMode overlay row ⌝ }
+{
+    ((overlay == 0) & (row <= 4))
+        | ((overlay == 16) & (3 <= row) & (row <= 4))
+        | ((overlay == 17) & (1 <= row) & (row <= 2))
+        | ((overlay == 18) & (1 <= row) & (row <= 4))
 }
 
 fn first_text_row(mode: u8) -> u8
@@ -132,29 +230,57 @@ fn text_at(s: Screen, row: u8) -> bool
     ensures { λ b. ⌜ b ≡ underText s row ⌝ }
 {
     let first = first_text_row(s.mode);
-    (s.overlay == 0) & (first <= row) & (row <= 4)
+    of_text_mode(s.overlay, row) & (s.mode != LARGE) & (first <= row)
 }
 
-fn owner_of(s: Screen, row: u8) -> Owner
-    ensures { λ o. ⌜ o ≡ ownerOn s row 0 ⌝ }
+fn small_at(s: Screen, row: u8) -> bool
+    ensures { λ b. ⌜ b ≡ underSmall s row ⌝ }
+{
+    of_text_mode(s.overlay, row) & (s.mode == LARGE) & (row == 1)
+}
+
+fn big_at(s: Screen, row: u8) -> bool
+    ensures { λ b. ⌜ b ≡ underBig s row ⌝ }
+{
+    of_text_mode(s.overlay, row) & (s.mode == LARGE) & (2 <= row) & (row <= 3)
+}
+
+fn owner_of(s: Screen, row: u8, column: u8) -> Owner
+    ensures { λ o. ⌜ o ≡ ownerOn s row column ⌝ }
 {
     if !s.display {
         return Owner::Nothing;
     }
-    if covered_at(s, row) {
+    if covered_at(s, row, column) {
         return Owner::PictureRow(row);
     }
     if bar_at(s, row) {
         return Owner::IconBar;
     }
-    if labels_at(s, row) {
+    if labels_at(s, row, column) {
         return Owner::SoftKeys;
     }
     if text_at(s, row) {
         let first = first_text_row(s.mode);
         return Owner::TextRow(row - first);
     }
+    if small_at(s, row) {
+        return Owner::SmallLine;
+    }
+    if big_at(s, row) {
+        return Owner::BigLine(row - 2);
+    }
     Owner::Nothing
+}
+
+// The columns of a row have one owner, that of the first, but for a picture with the rocker in it.
+fn owner_of_row(s: Screen, row: u8) -> Owner
+    ensures { λ o. ⌜ o ≡ ownerOfRow s row ⌝ }
+{
+    if s.display & leaves_rocker(s.overlay, row) {
+        return Owner::PictureWithRocker(row);
+    }
+    owner_of(s, row, 0)
 }
 
 // Fills `to` with what stands in `cells` from place `at` on.
@@ -169,7 +295,7 @@ fn fill(to: &mut [u8], cells: &[u8], at: usize)
     }
 }
 
-fn text_row(text: &[u8; 80], n: u8) -> [u8; 16]
+fn text_row(text: &[u8; 104], n: u8) -> [u8; 16]
     requires { ⌜ n < 5 ⌝ }
     ensures { λ codes. ⌜ codes ≡ rowOf 16 (now (text .entry)) n ⌝ }
 {
@@ -185,6 +311,69 @@ fn picture_row(picture: &[u8; 672], n: u8) -> [u8; 96]
     let mut columns = [0u8; 96];
     fill(&mut columns, picture, 96 * n as usize);
     columns
+}
+
+// A picture row with zero in the columns of the rocker panel.
+fn picture_around_rocker(picture: &[u8; 672], n: u8) -> [u8; 96]
+    requires { ⌜ n < 7 ⌝ }
+    ensures { λ columns. ⌜ columns ≡ aroundRocker (rowOf 96 (now (picture .entry)) n) ⌝ }
+{
+    let mut columns = picture_row(picture, n);
+    let mut i = ROCKER as usize;
+    while i < RIGHT_LABEL as usize {
+        columns[i] = 0;
+        i += 1;
+    }
+    columns
+}
+
+// How many codes the large line has: those before the column, and those up to the last that is not blank.
+fn codes_in(text: &[u8], column: u8) -> u8
+    requires { ⌜ length (now text) ≡ 104 ⌝ }
+    ensures { λ n. ⌜ n ≡ codesIn column (lineOf (now (text .entry))) ⌝ }
+{
+    let mut i: u8 = 24;
+    while column < i {
+        if text[LINE + i as usize - 1] != BLANK {
+            return i;
+        }
+        i -= 1;
+    }
+    column
+}
+
+// How many of them are small: all but the last eight.
+fn small_count(text: &[u8; 104], column: u8) -> u8
+    ensures { λ n. ⌜ n ≡ smallIn column (lineOf (now (text .entry))) ⌝ }
+{
+    let count = codes_in(text, column);
+    if count < BIG_CODES {
+        return 0;
+    }
+    count - BIG_CODES
+}
+
+// From here on the text is read as a slice: of a slice a proof knows the length, of a lent array it does not.
+fn small_line(text: &[u8; 104], column: u8) -> [u8; 16]
+    requires { ⌜ column ≤ 24 ⌝ }
+    ensures { λ codes. ⌜ codes ≡ smallCells column (lineOf (now (text .entry))) ⌝ }
+{
+    let cells = &text[..];
+    let mut codes = [BLANK; 16];
+    let small = small_count(text, column) as usize;
+    fill(&mut codes[..small], cells, LINE);
+    codes
+}
+
+fn big_line(text: &[u8; 104], column: u8) -> [u8; 16]
+    requires { ⌜ column ≤ 24 ⌝ }
+    ensures { λ codes. ⌜ codes ≡ padded 16 (bigCells column (lineOf (now (text .entry)))) ⌝ }
+{
+    let cells = &text[..];
+    let mut codes = [0u8; 16];
+    let small = small_count(text, column) as usize;
+    fill(&mut codes[..BIG_CODES as usize], cells, LINE + small);
+    codes
 }
 
 fn no_columns() -> [u8; 96]
@@ -250,7 +439,7 @@ fn labels_of(p: Settings) -> Labels
 }
 
 fn contents_of(r: Record, phase: Phase, owner: Owner) -> Row
-    requires { ⌜ placed owner ≡ true ⌝ }
+    requires { ⌜ (placed owner ≡ true) × (inRange r ≡ true) ⌝ }
     ensures { λ q. ⌜ q ≡ contents r phase owner ⌝ }
 {
     let empty = nothing_seen(Number::Done);
@@ -288,6 +477,32 @@ fn contents_of(r: Record, phase: Phase, owner: Owner) -> Row
                 ..empty
             }
         }
+        Owner::SmallLine => {
+            let codes = small_line(&r.text, r.settings.screen.column);
+            Row {
+                owner: Owner::SmallLine,
+                codes: codes,
+                ..empty
+            }
+        }
+        Owner::BigLine(half) => {
+            let codes = big_line(&r.text, r.settings.screen.column);
+            Row {
+                owner: Owner::BigLine(half),
+                codes: codes,
+                ..empty
+            }
+        }
+        Owner::PictureWithRocker(n) => {
+            let columns = picture_around_rocker(&r.picture, n);
+            let mut row = Row {
+                owner: Owner::PictureWithRocker(n),
+                columns: columns,
+                ..empty
+            };
+            row.labels.w = r.settings.icons.w;
+            row
+        }
     }
 }
 
@@ -302,6 +517,121 @@ pub fn row_seen(r: Record, row: u8, phase: Phase) -> Row
     if 6 < row {
         return nothing_seen(Number::NotListed);
     }
-    let owner = owner_of(r.settings.screen, row);
+    let owner = owner_of_row(r.settings.screen, row);
     contents_of(r, phase, owner)
+}
+
+fn no_place(number: Number) -> ColumnSeen
+    ensures { λ q. ⌜ q ≡ noPlace number ⌝ }
+{
+    ColumnSeen {
+        number: number,
+        owner: Owner::Nothing,
+        shown: Shown::Nothing,
+        bar: Bar {
+            f: 0,
+            p: 0,
+            r: 0,
+            sms: SmsPanel::Nothing,
+            volume: VolumePanel::Nothing,
+        },
+    }
+}
+
+fn soft_key_at(labels: Labels, column: u8) -> Shown
+    requires { ⌜ column ≤ 95 ⌝ }
+    ensures { λ s. ⌜ s ≡ softKeyAt labels column ⌝ }
+{
+    if column < ROCKER {
+        let left = labels.left;
+        return Shown::LeftLabel(left.codes[(column / CELL) as usize]);
+    }
+    if column < RIGHT_LABEL {
+        return Shown::Rocker(labels.w);
+    }
+    let right = labels.right;
+    Shown::RightLabel(right.codes[((column - RIGHT_LABEL) / CELL) as usize])
+}
+
+// Cell `cell` of the small codes of the large line.
+fn small_cell(text: &[u8; 104], column: u8, cell: u8) -> u8
+    requires { ⌜ (column ≤ 24) × (cell < 16) ⌝ }
+    ensures { λ b. ⌜ b ≡ getD (smallCells column (lineOf (now (text .entry)))) cell 0 ⌝ }
+{
+    let cells = &text[..];
+    if cell < small_count(text, column) {
+        return cells[LINE + cell as usize];
+    }
+    BLANK
+}
+
+// Cell `cell` of the big ones.
+fn big_cell(text: &[u8; 104], column: u8, cell: u8) -> u8
+    requires { ⌜ (column ≤ 24) × (cell < 8) ⌝ }
+    ensures { λ b. ⌜ b ≡ getD (bigCells column (lineOf (now (text .entry)))) cell 0 ⌝ }
+{
+    let cells = &text[..];
+    let small = small_count(text, column) as usize;
+    cells[LINE + small + cell as usize]
+}
+
+fn shown_at(r: Record, column: u8, owner: Owner) -> Shown
+    requires { ⌜ (placed owner ≡ true) × (inRange r ≡ true) × (column ≤ 95) ⌝ }
+    ensures { λ s. ⌜ s ≡ shownAt r column owner ⌝ }
+{
+    match owner {
+        Owner::Nothing => Shown::Nothing,
+        Owner::IconBar => Shown::Bar,
+        Owner::TextRow(n) => Shown::Code(r.text[16 * n as usize + (column / CELL) as usize]),
+        Owner::PictureRow(n) => Shown::Column(r.picture[96 * n as usize + column as usize]),
+        Owner::SoftKeys => soft_key_at(labels_of(r.settings), column),
+        Owner::SmallLine => Shown::Code(small_cell(
+            &r.text,
+            r.settings.screen.column,
+            column / CELL,
+        )),
+        Owner::BigLine(half) => Shown::Code(big_cell(
+            &r.text,
+            r.settings.screen.column,
+            column / BIG_CELL,
+        )),
+        Owner::PictureWithRocker(n) => Shown::Nothing,
+    }
+}
+
+fn bar_at_place(r: Record, phase: Phase, owner: Owner) -> Bar
+    ensures { λ bar. ⌜ bar ≡ barAt r phase owner ⌝ }
+{
+    match owner {
+        Owner::IconBar => bar_of(r.settings, phase),
+        _ => Bar {
+            f: 0,
+            p: 0,
+            r: 0,
+            sms: SmsPanel::Nothing,
+            volume: VolumePanel::Nothing,
+        },
+    }
+}
+
+// Row 0 is the top one, column 0 the left one. A row above 6 or a column above 95 is refused, a bad record before it.
+pub fn column_seen(r: Record, row: u8, column: u8, phase: Phase) -> ColumnSeen
+    ensures same { λ q. ⌜ q ≡ columnSeen r row column phase ⌝ }
+{
+    let ok = in_range(r);
+    if !ok {
+        return no_place(Number::FieldOutOfRange);
+    }
+    if (6 < row) | (95 < column) {
+        return no_place(Number::NotListed);
+    }
+    let owner = owner_of(r.settings.screen, row, column);
+    let shown = shown_at(r, column, owner);
+    let bar = bar_at_place(r, phase, owner);
+    ColumnSeen {
+        number: Number::Done,
+        owner: owner,
+        shown: shown,
+        bar: bar,
+    }
 }

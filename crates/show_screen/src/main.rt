@@ -8,8 +8,11 @@
 // Each of the seven display rows is asked for by the proved row question and drawn as two lines of 48 places in a frame, 50
 // columns in all. A place is two dots wide and four high, so a picture row is drawn dot by dot in braille signs, and a code of
 // a text row, six dots wide, has three places. Codes outside 0x20 to 0x7E are drawn as '.'. The icon bar is drawn in words:
-// signal strength, missed calls, roaming, SMS, volume. The soft keys' row has a label at each side and the rocker between.
+// signal strength, missed calls, roaming, SMS, volume. The soft keys' row has a label at each side and the rocker between, and so
+// has a picture that leaves the rocker its columns. A big code is six places wide and two rows high: a digit in strokes, any other
+// as two by two of its sign.
 // With the display off the frame is empty. The cursor is no part of what is seen. Of an input that fails nothing is drawn.
+ghost use Prim.Native.Nat.{_≤_};
 use program::Input;
 use record::Label;
 use record::Record;
@@ -21,6 +24,11 @@ use seen::SmsPanel;
 use seen::VolumePanel;
 
 const PLACES: usize = 48;
+
+// Where the rocker's places begin, and those behind it.
+const ROCKER: usize = 21;
+
+const RIGHT_LABEL: usize = 27;
 
 fn say(words: &[u8]) {
     program::write(b"show_screen", words);
@@ -179,14 +187,9 @@ fn places_left(len: u8) -> usize {
     0
 }
 
-fn say_left(label: Label) {
+fn say_label(label: Label) {
     say_codes(&label.codes, label.len as usize);
     blanks(places_left(label.len));
-}
-
-fn say_right(label: Label) {
-    blanks(places_left(label.len));
-    say_codes(&label.codes, label.len as usize);
 }
 
 // 1 is down, 2 up, 3 both.
@@ -203,9 +206,9 @@ fn draw_labels(labels: Labels) {
     let left = labels.left;
     let right = labels.right;
     side();
-    say_left(left);
+    say_label(left);
     say_rocker(labels.w);
-    say_right(right);
+    say_label(right);
     end_of_line();
     empty_line();
 }
@@ -227,20 +230,130 @@ fn half(column: u8, lower: bool) -> u8 {
     column
 }
 
-// One of the two lines of a picture row.
-fn dots_line(columns: &[u8; 96], lower: bool) {
-    side();
-    for i in 0..PLACES {
+// Some places of one of the two lines of a picture row.
+fn dots(columns: &[u8; 96], from: usize, to: usize, lower: bool)
+    requires { ⌜ (from ≤ to) × (to ≤ 48) ⌝ }
+{
+    for i in from..to {
         let left = half(columns[2 * i], lower);
         let right = half(columns[2 * i + 1], lower);
         say_dots(left, right);
     }
+}
+
+fn dots_line(columns: &[u8; 96], lower: bool) {
+    side();
+    dots(columns, 0, PLACES, lower);
     end_of_line();
 }
 
 fn draw_picture(columns: [u8; 96]) {
     dots_line(&columns, false);
     dots_line(&columns, true);
+}
+
+// The same around the rocker's places; it stands in the first line.
+fn dots_around(columns: &[u8; 96], w: u8, lower: bool) {
+    side();
+    dots(columns, 0, ROCKER, lower);
+    say_rocker(w);
+    dots(columns, RIGHT_LABEL, PLACES, lower);
+    end_of_line();
+}
+
+fn draw_picture_with_rocker(columns: [u8; 96], w: u8) {
+    dots_around(&columns, w, false);
+    dots_around(&columns, 0, true);
+}
+
+// The strokes of a digit, as on a meter: 1 the top, 2 and 4 the upper left and right, 8 the middle, 16 and 32 the lower left and
+// right, 64 the bottom. 0 is no digit.
+fn strokes(code: u8) -> u8 {
+    match code {
+        b'0' => 119,
+        b'1' => 36,
+        b'2' => 93,
+        b'3' => 109,
+        b'4' => 46,
+        b'5' => 107,
+        b'6' => 123,
+        b'7' => 37,
+        b'8' => 127,
+        b'9' => 111,
+        _ => 0,
+    }
+}
+
+fn say_if(there: bool, sign: &[u8], none: &[u8]) {
+    if there {
+        say(sign);
+        return;
+    }
+    say(none);
+}
+
+// Three strokes of a digit: left, level and right.
+fn say_strokes(left: bool, level: bool, right: bool) {
+    say_if(left, b"|", b" ");
+    say_if(level, b"___", b"   ");
+    say_if(right, b"|", b" ");
+    say(b" ");
+}
+
+// Of the four lines of a big digit, from the top.
+fn say_digit(strokes: u8, line: u8) {
+    match line {
+        0 => say_strokes(false, strokes % 2 == 1, false),
+        1 => say_strokes(
+            strokes / 2 % 2 == 1,
+            strokes / 8 % 2 == 1,
+            strokes / 4 % 2 == 1,
+        ),
+        2 => say_strokes(strokes / 16 % 2 == 1, false, strokes / 32 % 2 == 1),
+        _ => say_strokes(
+            strokes / 16 % 2 == 1,
+            strokes / 64 % 2 == 1,
+            strokes / 32 % 2 == 1,
+        ),
+    }
+}
+
+// Of the four lines of another code.
+fn say_sign(code: u8, line: u8) {
+    let sign = printable(code);
+    match line {
+        1 => say(&[b' ', b' ', sign, sign, b' ', b' ']),
+        2 => say(&[b' ', b' ', sign, sign, b' ', b' ']),
+        _ => blanks(6),
+    }
+}
+
+fn say_big(code: u8, line: u8) {
+    let strokes = strokes(code);
+    if strokes == 0 {
+        say_sign(code, line);
+        return;
+    }
+    say_digit(strokes, line);
+}
+
+fn big_line(codes: &[u8; 16], line: u8) {
+    side();
+    for i in 0..8 {
+        say_big(codes[i], line);
+    }
+    end_of_line();
+}
+
+// A half of the big codes is two of their four lines.
+fn draw_big(codes: [u8; 16], half: u8) {
+    if half == 0 {
+        big_line(&codes, 0);
+        big_line(&codes, 1);
+        return;
+    }
+    big_line(&codes, 2);
+    big_line(&codes, 3);
 }
 
 fn draw_nothing() {
@@ -261,6 +374,9 @@ fn draw_row(r: Record, row: u8, phase: Phase) {
         Owner::TextRow(_) => draw_text(codes),
         Owner::PictureRow(_) => draw_picture(columns),
         Owner::SoftKeys => draw_labels(labels),
+        Owner::SmallLine => draw_text(codes),
+        Owner::BigLine(half) => draw_big(codes, half),
+        Owner::PictureWithRocker(_) => draw_picture_with_rocker(columns, labels.w),
     }
 }
 

@@ -12,7 +12,7 @@ use Rattle.record.specs.declared.Settings.{Settings}
 use Rattle.record.specs.declared.Held.{Held}
 use Rattle.record.specs.declared.Frame.{Frame as KeptFrame}
 use Rattle.record.specs.declared.Record.{Record}
-use Rattle.record.specs.Range.{inRange}
+use Rattle.record.specs.Range.{lineStart, inRange}
 use Rattle.record_ranges.specs.Parts.{joined}
 use Rattle.parting.specs.Rules.{Frame, noFrame, openFrame, overlong, limit}
 use Rattle.parting.specs.Meaning.{Answered, Meaning, State, Taken}
@@ -92,7 +92,7 @@ lent-back e t g b = λ j. together (e j .small) (t j) (g j) (b j)
 -- a column of a row that begins at a place of the text, or the end of that row
 pub record InRow (start column end : ℕ) : Type 0 where
   pub within : column ≤ end
-  pub kept : start + end ≤ 5 * 16
+  pub kept : start + end ≤ lineStart + 24
 
 -- what a text byte at a cursor does, in a row that begins at a place of the text and ends at column `end`
 abbrev pub columnAfter : ℕ → ℕ → ℕ

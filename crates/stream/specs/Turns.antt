@@ -16,7 +16,7 @@ use Rattle.record.specs.declared.Settings.{Settings}
 use Rattle.record.specs.declared.Held.{Held}
 use Rattle.record.specs.declared.Frame.{Frame as KeptFrame}
 use Rattle.lists.specs.Both.{both}
-use Rattle.record.specs.Range.{rowsOf, rowEndOf, rowStartOf}
+use Rattle.record.specs.Range.{large, rowsOf, rowEndOf, lineStart, rowStartOf}
 use Rattle.record.specs.With.{withScreen, withColumn}
 use Rattle.parting.specs.Rules.{Frame, noFrame, openFrame, overlong, limit}
 use Rattle.parting.specs.Meaning.{State}
@@ -246,16 +246,14 @@ pub range-stored : (p : Settings) (t g : List ℕ) (b next : ℕ) (t′ : List �
     → CoreInRange (core p t g) → CoreInRange (core (withScreen p (withColumn (p .screen) next)) t′ g)
 range-stored p t g b next t′ h x y k = rw (x, y, ← stored p t g b) (store-keeps (core p t g) b k h)
 
-rows-at-most : (mode row : ℕ) → ltb row (rowsOf mode) ≡ true → row < 5
-rows-at-most mode row = cases (leb mode 1)
-  where
-    cases : (few : Bool) → ltb row (cond few 4 5) ≡ true → row < 5
-    cases true h = omega (arith, ltb-true row 4 h)
-    cases false h = omega (arith, ltb-true row 5 h)
-
 -- a row's codes lie within the text
-row-fits : (mode row : ℕ) → ltb row (rowsOf mode) ≡ true → rowStartOf mode row + rowEndOf mode ≤ 5 * 16
-row-fits mode row h = let few = rows-at-most mode row h in omega arith
+row-fits : (mode row : ℕ) → ltb row (rowsOf mode) ≡ true → rowStartOf mode row + rowEndOf mode ≤ lineStart + 24
+row-fits mode row = cases (leb mode 1) (eqb mode large)
+  where
+    cases : (few line : Bool) → ltb row (cond few 4 (cond line 1 5)) ≡ true → cond line lineStart (row * 16) + cond line 24 16 ≤ lineStart + 24
+    cases few true h = omega arith
+    cases true false h = omega (arith, ltb-true row 4 h)
+    cases false false h = omega (arith, ltb-true row 5 h)
 
 -- the cursor of a core in range is at a place of the text, or at the end of its row
 pub in-place : {p : Settings} {t g : List ℕ} → CoreInRange (core p t g) → InRow (rowStartOf (p .screen .mode) (p .screen .row)) (p .screen .column) (rowEndOf (p .screen .mode))

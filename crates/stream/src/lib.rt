@@ -64,7 +64,7 @@ fn wide(b: u8) -> usize
 }
 
 // A text byte is stored at the cursor: the column after it. At the row's end it is dropped.
-fn store(text: &mut [u8; 80], start: usize, column: u8, end: u8, b: u8) -> u8
+fn store(text: &mut [u8; 104], start: usize, column: u8, end: u8, b: u8) -> u8
     requires { ⌜ InRow start column end ⌝ }
     ensures { λ r. ⌜ (r ≡ columnAfter end column) × (r ≤ end) × (now (text .exit) ≡ textAfter end (now (text .entry)) start column b) ⌝ }
 {
@@ -83,7 +83,7 @@ struct Run {
 
 // Stores the text byte at a place and all that follow it at once: most of a stream is text, and this loop is short.
 fn store_all(
-    text: &mut [u8; 80],
+    text: &mut [u8; 104],
     start: usize,
     column: u8,
     end: u8,
@@ -115,7 +115,7 @@ fn store_all(
 // CR in a frame: a whole one is obeyed, if it is good. One that is not, and an overlong one, is to be asked about.
 fn close(
     settings: Settings,
-    text: &mut [u8; 80],
+    text: &mut [u8; 104],
     picture: &mut [u8; 672],
     frame: &[u8],
     state: u8,
@@ -134,7 +134,7 @@ fn close(
 // Reads bytes until they end or an answer has no room.
 fn read(
     mut settings: Settings,
-    text: &mut [u8; 80],
+    text: &mut [u8; 104],
     picture: &mut [u8; 672],
     frame: &mut [u8],
     mut state: u8,
@@ -233,7 +233,7 @@ fn read(
 // The stream call on lent arrays, for any record at all.
 pub fn feed_lent(
     small: Small,
-    text: &mut [u8; 80],
+    text: &mut [u8; 104],
     picture: &mut [u8; 672],
     frame: &mut [u8; 250],
     bytes: &[u8],

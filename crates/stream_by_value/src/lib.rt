@@ -8,7 +8,7 @@ use stream::Fed;
 use stream::Small;
 
 // The record put together of its small fields and its arrays.
-pub fn whole(small: Small, text: [u8; 80], picture: [u8; 672], bytes: [u8; 250]) -> Record
+pub fn whole(small: Small, text: [u8; 104], picture: [u8; 672], bytes: [u8; 250]) -> Record
     ensures same { λ r. ⌜ r ≡ together small text picture bytes ⌝ }
 {
     let settings = small.settings;

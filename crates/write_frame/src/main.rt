@@ -326,7 +326,7 @@ fn tell_range(phrase: u8) {
         b"< a label has at most 7 codes, none below 0x20\n\
         > a label has at most 7 codes, none below 0x20\n\
         : picture rows are 0-6, and columns of row 6 are 00-1F\n\
-        D mode is 0 1 5 6 or 11 12 13\n\
+        D mode is 0 1 5 6 10 or 11 to 18\n\
         S icon S is 0-1\n\
         U icon U is 0 1 or 255\n\
         F icon F is 0-6\n\
@@ -488,7 +488,7 @@ fn usage(asked_by_line: bool) -> bool {
     let text = b"usage: ./run write_frame [FILE]\n\
         Reads lines from FILE, or from standard input without one, and writes the bytes of their frames. The lines:\n\
         display on | display off\n\
-        mode N                    text mode 0 1 5 6, or overlay 11 12 13\n\
+        mode N                    text mode 0 1 5 6 10, or overlay 11 to 18\n\
         cursor show | cursor hide\n\
         clear                     all text blank, cursor at 0 0\n\
         at ROW COLUMN             the cursor: row 0-4, column 0-15\n\

@@ -83,7 +83,9 @@ table =
     -- numbers without leading zeros
     ∷ (commandIn 12 (Mode 5), done (ascii "ID5") 6)
     ∷ (commandIn 12 (Mode 11), done (ascii "ID11") 5)
-    ∷ (commandIn 12 (Mode 10), refused 2 12)
+    ∷ (commandIn 12 (Mode 10), done (ascii "ID10") 5)
+    ∷ (commandIn 12 (Mode 18), done (ascii "ID18") 5)
+    ∷ (commandIn 12 (Mode 19), refused 2 12)
     ∷ (commandIn 12 (IconU 255), done (ascii "IU255") 4)
     ∷ (commandIn 12 (IconU 2), refused 2 12)
     ∷ (commandIn 12 (Light 0), done (ascii "IE0") 6)

@@ -12,7 +12,7 @@ use Rattle.lists.specs.Codes.{ascii, carriageReturn, lineFeed}
 use Rattle.lists.specs.Both.{both}
 use Rattle.lists.specs.Every.{every}
 use Rattle.record.specs.Number.{numbered}
-use Rattle.record.specs.Range.{isCode, isFrameByte, modeInRange, overlayInRange, iconUInRange, time1InRange, time2InRange}
+use Rattle.record.specs.Range.{large, isCode, isFrameByte, modeInRange, overlayInRange, iconUInRange, time1InRange, time2InRange}
 use Rattle.numeral.specs.Numeral.{decimal}
 use Rattle.numeral.specs.Laws.{written}
 use Rattle.picture.specs.Data.{Bytes}
@@ -90,22 +90,22 @@ one-of-four n i j k l p q r s =
     (either n (eqb n i || eqb n j) (eqb n k) (either n (eqb n i) (eqb n j) (equal-to n i p) (equal-to n j q)) (equal-to n k r))
     (equal-to n l s)
 
+-- none, or from one number up to another
+none-or-up-to : (n least most : ℕ) → most < 1000 → (eqb n 0 || (leb least n && leb n most)) ≡ true → n < 1000
+none-or-up-to n least most l =
+    either n (eqb n 0) (leb least n && leb n most) (equal-to n 0 (omega arith)) (λ h. at-most n most l (both {a = leb least n} {b = leb n most} h .1))
+
 mode-low : (n : ℕ) → (modeInRange n || isOverlay n) ≡ true → n < 1000
 mode-low n =
     either n (modeInRange n) (isOverlay n)
-    (one-of-four n 0 1 5 6 (omega arith) (omega arith) (omega arith) (omega arith))
-    (λ h. one-of-four n 0 11 12 13 (omega arith) (omega arith) (omega arith) (omega arith) (both {a = overlayInRange n} {b = not (eqb n 0)} h .0))
+    (either n (eqb n 0 || eqb n 1 || eqb n 5 || eqb n 6) (eqb n large) (one-of-four n 0 1 5 6 (omega arith) (omega arith) (omega arith) (omega arith)) (equal-to n large (omega arith)))
+    (λ h. none-or-up-to n 11 18 (omega arith) (both {a = overlayInRange n} {b = not (eqb n 0)} h .0))
 
 icon-u-low : (n : ℕ) → iconUInRange n ≡ true → n < 1000
 icon-u-low n =
     either n (eqb n 0 || eqb n 1) (eqb n 255)
     (either n (eqb n 0) (eqb n 1) (equal-to n 0 (omega arith)) (equal-to n 1 (omega arith)))
     (equal-to n 255 (omega arith))
-
--- none, or from one number up to another
-none-or-up-to : (n least most : ℕ) → most < 1000 → (eqb n 0 || (leb least n && leb n most)) ≡ true → n < 1000
-none-or-up-to n least most l =
-    either n (eqb n 0) (leb least n && leb n most) (equal-to n 0 (omega arith)) (λ h. at-most n most l (both {a = leb least n} {b = leb n most} h .1))
 
 spells : (c : Command) → commandInRange mostRows c ≡ true → Spells (plain c) (bodyOf c)
 spells DisplayOff h = signs-alone (ascii "IDD")

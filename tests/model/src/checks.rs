@@ -4,7 +4,7 @@ use crate::cover;
 use crate::grammar::{spelt, Command};
 use crate::record::*;
 use crate::script::{self, Answer, Call};
-use crate::seen::{self, Owner, Phase, PHASES};
+use crate::seen::{self, Bar, Column, Half, Owner, Phase, PHASES};
 use crate::{generate, keys, property, ranges, stream, writers};
 
 /// Feeds a stream with room for all answers; gives the answers.
@@ -50,7 +50,8 @@ fn obeyed(record: &Record, body: &str, change: impl Fn(&mut Record)) -> Record {
 /// A record with something in every field.
 fn full() -> Record {
     let mut record = power_on();
-    let stream = b"\x1BID6\r\x1B[4;3H\rabcdefghijklmnop\x1B[2;15H\rz\x1BID13\r\x1B&C\r\
+    let stream =
+        b"\x1BID10\rlarge line\x1BID6\r\x1B[4;3H\rabcdefghijklmnop\x1B[2;15H\rz\x1BID13\r\x1B&C\r\
         \x1BIK1Keep\r\x1BIK2Leave\r\x1BIS1\r\x1BIU255\r\x1BIF4\r\x1BIR1\r\x1BIP17\r\x1BIW2\r\
         \x1BIJ7\r\x1BIM1\r\x1BIT20;8\r\x1BIB77\r\x1BIE9\r\x1BIEA\r\x1BIEe\r\
         \x1BGr0,c00dFFg331B2Cf00z\r\x1BGr6,1F0EFFz\r";
@@ -235,6 +236,7 @@ fn clear_under_an_overlay() {
     assert_eq!(record.overlay, 13);
     obeyed(&record, "&#", |r| {
         r.text = [0x20; 80];
+        r.line = [0x20; 24];
         (r.row, r.column) = (0, 0);
     });
 }
@@ -243,16 +245,16 @@ fn clear_under_an_overlay() {
 fn modes_and_overlays() {
     let mut record = full();
     (record.row, record.column) = (2, 16);
-    for (body, mode) in [("ID0", 0), ("ID1", 1), ("ID5", 5), ("ID6", 6)] {
-        obeyed(&record, body, |r| {
+    for mode in [0, 1, 5, 6, 10] {
+        obeyed(&record, &format!("ID{mode}"), |r| {
             (r.mode, r.overlay, r.row, r.column) = (mode, 0, 0, 0);
         });
     }
-    for (body, overlay) in [("ID11", 11), ("ID12", 12), ("ID13", 13)] {
-        obeyed(&record, body, |r| r.overlay = overlay);
+    for overlay in 11..=18 {
+        obeyed(&record, &format!("ID{overlay}"), |r| r.overlay = overlay);
     }
-    for body in ["ID2", "ID10", "ID14", "ID18", "ID999", "ID7"] {
-        silent(&record, body);
+    for number in (0..=999).filter(|n| ![0, 1, 5, 6].contains(n) && !(10..=18).contains(n)) {
+        silent(&record, &format!("ID{number}"));
     }
     for body in [
         "ID", "IDe", "IDd", "ID0011", "ID00", "ID01", "ID005", "ID011", "ID1 ", "ID-1", "IDDE",
@@ -453,6 +455,84 @@ fn text_to_column_16() {
 }
 
 #[test]
+fn the_large_line() {
+    // The note's telephone number.
+    let mut record = power_on();
+    feed(&mut record, b"\x1B&#\r\n\x1BID10\r\n0332835160\r\n");
+    assert_eq!(&record.line, b"0332835160              ");
+    assert_eq!((record.mode, record.row, record.column), (10, 0, 10));
+    assert_eq!(record.text, [0x20; 80]);
+    let cells = |text: &str, count: usize| format!("{text:count$}").into_bytes();
+    let row = |record: &Record, row: u8| match seen::row(record, row, Phase::Lit) {
+        (0, Owner::Small { codes }) => (0, codes.to_vec()),
+        (0, Owner::Big { half, codes }) => (1 + half as u8, codes.to_vec()),
+        other => panic!("{other:?}"),
+    };
+    assert_eq!(row(&record, 1), (0, cells("03", 16)));
+    assert_eq!(row(&record, 2), (1, cells("32835160", 8)));
+    assert_eq!(row(&record, 3), (2, cells("32835160", 8)));
+    // Every cursor frame is passed over, and a bad one still is bad.
+    for body in [
+        "[0;0H",
+        "[0;15H",
+        "[0;24H",
+        "[1;0H",
+        "[3;15H",
+        "[4;0H",
+        "[999;999H",
+    ] {
+        silent(&record, body);
+    }
+    for body in ["[0;0h", "[00;0H", "[;H", "[0;1000H"] {
+        bad(&record, body);
+    }
+    // 24 codes, and the 25th is dropped.
+    feed(&mut record, b"abcdefghijklmnopq");
+    assert_eq!(&record.line, b"0332835160abcdefghijklmn");
+    assert_eq!(record.column, 24);
+    assert_eq!(row(&record, 1), (0, cells("0332835160abcdef", 16)));
+    assert_eq!(row(&record, 3), (2, cells("ghijklmn", 8)));
+    // A line that was kept stays seen, and is written over from its start.
+    let kept = obeyed(&record, "ID10", |r| r.column = 0);
+    assert_eq!(row(&kept, 1), row(&record, 1));
+    assert_eq!(row(&kept, 2), row(&record, 2));
+    for mode in [0, 1, 5, 6] {
+        let other = obeyed(&record, &format!("ID{mode}"), |r| {
+            (r.mode, r.column) = (mode, 0)
+        });
+        obeyed(&other, "ID10", |r| r.mode = 10);
+    }
+    let mut over = kept.clone();
+    feed(&mut over, b"\x1BID16\r\x1BIDD\rXY\x1BIDE\r\x1BID10\r");
+    assert_eq!(&over.line, b"XY32835160abcdefghijklmn");
+    // Blanks count up to the cursor, and not behind it.
+    let mut blanks = obeyed(&record, "&#", |r| {
+        r.line = [0x20; 24];
+        r.column = 0;
+    });
+    assert_eq!(row(&blanks, 2), (1, cells("", 8)));
+    feed(&mut blanks, b"1       ");
+    assert_eq!(row(&blanks, 1), (0, cells("", 16)));
+    assert_eq!(row(&blanks, 2), (1, cells("1", 8)));
+    feed(&mut blanks, b" ");
+    assert_eq!(row(&blanks, 1), (0, cells("1", 16)));
+    assert_eq!(row(&blanks, 2), (1, cells("", 8)));
+    frame(&mut blanks, "ID10");
+    assert_eq!(row(&blanks, 1), (0, cells("", 16)));
+    assert_eq!(row(&blanks, 2), (1, cells("1", 8)));
+    // An overlay lets the cursor be, and &# in another mode blanks the line.
+    let under = obeyed(&record, "ID18", |r| r.overlay = 18);
+    assert_eq!(under.column, 24);
+    let mut cleared = record.clone();
+    feed(&mut cleared, b"\x1BID5\r\x1BID13\r\x1B&#\r");
+    assert_eq!(cleared.line, [0x20; 24]);
+    // The list screen has its twelve lines.
+    let listing = seen::listing(b"\x1BID10\r12345678901234567\x1BID18\r");
+    assert_eq!(listing.lines().count(), 12);
+    assert!(listing.contains("\nMODE 10 OVER 18 DISPLAY 1\nCURSOR 0 0 17\nTEXT 0 [      "));
+}
+
+#[test]
 fn stop_for_room() {
     let go = |frame_before: &[u8], bytes: &[u8], room: usize| {
         let mut record = power_on();
@@ -612,11 +692,23 @@ fn ranges_of_the_record() {
     let empty = power_on();
     let mut open = power_on();
     feed(&mut open, b"\x1BIP");
-    let wrong: [(&Record, u16, usize, u16); 44] = [
+    let mut large = power_on();
+    frame(&mut large, "ID10");
+    let wrong: [(&Record, u16, usize, u16); 54] = [
         (&empty, 1, 0, 2),
-        (&empty, 1, 0, 10),
+        (&empty, 1, 0, 9),
+        (&empty, 1, 0, 11),
+        (&record, 1, 0, 10),
         (&empty, 2, 0, 1),
-        (&empty, 2, 0, 14),
+        (&empty, 2, 0, 10),
+        (&empty, 2, 0, 19),
+        (&large, 4, 0, 1),
+        (&large, 5, 0, 25),
+        (&large, 5, 0, 255),
+        (&large, 36, 0, 0x1F),
+        (&large, 36, 23, 0),
+        (&empty, 36, 0, 0x1F),
+        (&empty, 36, 23, 0x1F),
         (&empty, 4, 0, 4),
         (&record, 4, 0, 5),
         (&empty, 5, 0, 17),
@@ -679,8 +771,15 @@ fn ranges_of_the_record() {
     let mut overlong = open.clone();
     overlong.frame.state = 2;
     refused(&overlong);
-    let right: [(&Record, u16, usize, u16); 11] = [
+    let right: [(&Record, u16, usize, u16); 18] = [
         (&empty, 5, 0, 16),
+        (&empty, 1, 0, 10),
+        (&empty, 2, 0, 14),
+        (&empty, 2, 0, 18),
+        (&large, 5, 0, 17),
+        (&large, 5, 0, 24),
+        (&large, 36, 23, 0xFF),
+        (&empty, 36, 0, 0xFF),
         (&empty, 11, 575, 255),
         (&empty, 11, 671, 31),
         (&empty, 21, 0, 1),
@@ -714,6 +813,8 @@ fn refused(record: &Record) {
     for phase in PHASES {
         assert_eq!(seen::row(&after, 0, phase), (1, Owner::Nothing));
         assert_eq!(seen::row(&after, 7, phase), (1, Owner::Nothing));
+        assert_eq!(seen::column(&after, 0, 0, phase), (1, Column::Nothing));
+        assert_eq!(seen::column(&after, 7, 96, phase), (1, Column::Nothing));
         assert_eq!(seen::sms(&after, phase), (1, 0));
     }
     assert_eq!(seen::volume(&after), (1, 0, 0));
@@ -751,48 +852,166 @@ fn rows_of_the_display() {
         (0..7)
             .map(|row| match seen::row(record, row, Phase::Lit) {
                 (0, Owner::Nothing) => '.',
-                (0, Owner::IconBar { .. }) => 'I',
+                (0, Owner::IconBar(_)) => 'I',
                 (0, Owner::Text { row, .. }) => char::from(b'0' + row),
                 (0, Owner::Picture { row: k, .. }) if k == row => 'P',
+                (0, Owner::PictureWithRocker { row: 5, .. }) if row == 5 => 'R',
                 (0, Owner::SoftKeys { .. }) => 'S',
+                (0, Owner::Small { .. }) => 's',
+                (0, Owner::Big { half, .. }) if half == Half::Upper => 'u',
+                (0, Owner::Big { .. }) => 'l',
                 _ => '!',
             })
             .collect()
     };
-    for (mode, overlay, wanted) in [
-        (0, 0, "I0123S."),
-        (1, 0, "I0123S."),
-        (5, 0, "01234S."),
-        (6, 0, "01234S."),
-        (0, 11, "IPPPPS."),
-        (6, 11, "IPPPPS."),
-        (1, 12, "PPPPPS."),
-        (5, 12, "PPPPPS."),
-        (0, 13, "PPPPPPP"),
+    // The same by one column of each row: left of the rocker, or within it.
+    let by_column = |record: &Record, column: u8| -> String {
+        (0..7)
+            .map(
+                |row| match seen::column(record, row, column, Phase::Pause) {
+                    (0, Column::Nothing) => '.',
+                    (0, Column::IconBar(_)) => 'I',
+                    (0, Column::Text { row, .. }) => char::from(b'0' + row),
+                    (0, Column::Picture { row: k, .. }) if k == row => 'P',
+                    (0, Column::Left { .. } | Column::Right { .. }) => 'S',
+                    (0, Column::Rocker { w }) if w == record.icons[ICON_W] => 'R',
+                    (0, Column::Small { .. }) => 's',
+                    (0, Column::Big { half, .. }) if half == Half::Upper => 'u',
+                    (0, Column::Big { .. }) => 'l',
+                    _ => '!',
+                },
+            )
+            .collect()
+    };
+    // Each overlay in modes 0 and 1, in 5 and 6, in 10.
+    for (overlay, wanted) in [
+        (0, ["I0123S.", "01234S.", "Isul.S."]),
+        (11, ["IPPPPS.", "IPPPPS.", "IPPPPS."]),
+        (12, ["PPPPPS.", "PPPPPS.", "PPPPPS."]),
+        (13, ["PPPPPPP", "PPPPPPP", "PPPPPPP"]),
+        (14, ["IPPPPRP", "IPPPPRP", "IPPPPRP"]),
+        (15, ["PPPPPRP", "PPPPPRP", "PPPPPRP"]),
+        (16, ["IPP23S.", "IPP34S.", "IPPl.S."]),
+        (17, ["I01PPS.", "I12PPS.", "IsuPPS."]),
+        (18, ["I0123RP", "I1234RP", "Isul.RP"]),
     ] {
-        let mut record = full();
-        (record.mode, record.overlay, record.row) = (mode, overlay, 0);
-        assert_eq!(owners(&record), wanted);
-        record.display = false;
-        assert_eq!(owners(&record), ".......");
-        assert_eq!(seen::row(&record, 7, Phase::Lit), (4, Owner::Nothing));
+        for (modes, wanted) in [&[0, 1][..], &[5, 6], &[10]].into_iter().zip(wanted) {
+            for mode in modes {
+                let mut record = full();
+                (record.mode, record.overlay, record.row) = (*mode, overlay, 0);
+                assert_eq!(owners(&record), wanted);
+                for column in [0, 41, 54, 95] {
+                    assert_eq!(by_column(&record, column), wanted.replace('R', "P"));
+                }
+                for column in [42, 53] {
+                    assert_eq!(by_column(&record, column), wanted.replace('S', "R"));
+                }
+                record.display = false;
+                assert_eq!(owners(&record), ".......");
+                assert_eq!(by_column(&record, 42), ".......");
+                assert_eq!(seen::row(&record, 7, Phase::Lit), (4, Owner::Nothing));
+            }
+        }
     }
     let mut record = full();
     record.overlay = 11;
-    let bar = Owner::IconBar {
+    let bar = Bar {
         f: 4,
         p: 17,
         r: 1,
         sms: 2,
         volume: (1, 0),
     };
-    assert_eq!(seen::row(&record, 0, Phase::Lit), (0, bar));
+    assert_eq!(seen::row(&record, 0, Phase::Lit), (0, Owner::IconBar(bar)));
+    for column in [0, 50, 95] {
+        let whole = seen::column(&record, 0, column, Phase::Lit);
+        assert_eq!(whole, (0, Column::IconBar(bar)));
+    }
     let keys = Owner::SoftKeys {
         left: label_of(b"Keep"),
         right: label_of(b"Leave"),
         w: 2,
     };
     assert_eq!(seen::row(&record, 5, Phase::Lit), (0, keys));
+}
+
+#[test]
+fn columns_of_the_display() {
+    let mut record = power_on();
+    let row_5: Vec<String> = (0..96).map(|n| format!("{:02X}", n + 1)).collect();
+    let stream = format!(
+        "\x1B[1;0H\rABCDEFGHIJKLMNOP\x1BIK1Keep\r\x1BIK2Leave\r\x1BIW2\r\x1BGr5,{}z\r\
+        \x1BGr6,1F0Ez\r\x1BID10\rabcdefghij",
+        row_5.concat()
+    );
+    assert_eq!(feed(&mut record, stream.as_bytes()), b"");
+    let at = |record: &Record, row: u8, column: u8| {
+        let (number, there) = seen::column(record, row, column, Phase::Lit);
+        assert_eq!(number, 0);
+        script::cell(&there).unwrap_or([0; 3])
+    };
+    // Soft keys: labels of 4 and 5 codes, empty cells, and the rocker.
+    for (column, wanted) in [
+        (0, [6, 0, b'K']),
+        (5, [6, 0, b'K']),
+        (6, [6, 1, b'e']),
+        (23, [6, 3, b'p']),
+        (24, [6, 4, 0]),
+        (41, [6, 6, 0]),
+        (42, [7, 0, 2]),
+        (53, [7, 0, 2]),
+        (54, [8, 0, b'L']),
+        (59, [8, 0, b'L']),
+        (83, [8, 4, b'e']),
+        (84, [8, 5, 0]),
+        (95, [8, 6, 0]),
+    ] {
+        assert_eq!(at(&record, 5, column), wanted, "{column}");
+    }
+    // The large line: ab small, cdefghij big.
+    for (row, column, wanted) in [
+        (1, 0, [4, 0, b'a']),
+        (1, 11, [4, 0, b'b']),
+        (1, 12, [4, 0, 0x20]),
+        (1, 95, [4, 0, 0x20]),
+        (2, 0, [5, 0, b'c']),
+        (2, 11, [5, 0, b'c']),
+        (2, 12, [5, 0, b'd']),
+        (3, 95, [5, 1, b'j']),
+        (3, 83, [5, 1, b'i']),
+        (4, 0, [0; 3]),
+        (6, 95, [0; 3]),
+    ] {
+        assert_eq!(at(&record, row, column), wanted, "{row} {column}");
+    }
+    // Row 5 of a picture, but for the rocker.
+    for overlay in [14, 15, 18] {
+        frame(&mut record, &format!("ID{overlay}"));
+        for column in (0..42).chain(54..96) {
+            assert_eq!(at(&record, 5, column), [3, 5, column + 1]);
+        }
+        for column in 42..54 {
+            assert_eq!(at(&record, 5, column), [7, 0, 2]);
+        }
+        assert_eq!(at(&record, 6, 1), [3, 6, 0x0E]);
+        let (_, owner) = seen::row(&record, 5, Phase::Lit);
+        let mut columns: [u8; 96] = std::array::from_fn(|column| column as u8 + 1);
+        columns[42..54].fill(0);
+        let row = 5;
+        assert_eq!(owner, Owner::PictureWithRocker { row, columns, w: 2 });
+    }
+    frame(&mut record, "ID13");
+    assert_eq!(at(&record, 5, 42), [3, 5, 43]);
+    frame(&mut record, "ID0");
+    for (column, code) in [(0, b'A'), (5, b'A'), (6, b'B'), (47, b'H'), (95, b'P')] {
+        assert_eq!(at(&record, 2, column), [2, 1, code]);
+    }
+    for (row, column) in [(0, 96), (6, 255), (7, 0), (255, 95), (7, 96)] {
+        for phase in PHASES {
+            let refused = seen::column(&record, row, column, phase);
+            assert_eq!(refused, (4, Column::Nothing));
+        }
+    }
 }
 
 #[test]
@@ -811,14 +1030,16 @@ fn the_flashing_letter() {
         frame(&mut record, &format!("IS{s}"));
         for (phase, panel) in [(Phase::Lit, lit), (Phase::Pause, pause)] {
             assert_eq!(seen::sms(&record, phase), (0, panel));
-            let bar = Owner::IconBar {
+            let bar = Bar {
                 f: 0,
                 p: 0,
                 r: 0,
                 sms: panel,
                 volume: (0, 0),
             };
-            assert_eq!(seen::row(&record, 0, phase), (0, bar));
+            assert_eq!(seen::row(&record, 0, phase), (0, Owner::IconBar(bar)));
+            let column = seen::column(&record, 0, 95, phase);
+            assert_eq!(column, (0, Column::IconBar(bar)));
         }
     }
 }
@@ -837,7 +1058,10 @@ fn writers_write() {
         (0, 0, 0, "IDD"),
         (1, 0, 0, "IDE"),
         (2, 0, 0, "ID0"),
+        (2, 10, 0, "ID10"),
         (2, 13, 0, "ID13"),
+        (2, 14, 0, "ID14"),
+        (2, 18, 0, "ID18"),
         (3, 0, 0, "&C"),
         (4, 0, 0, "&D"),
         (5, 0, 0, "&#"),
@@ -871,7 +1095,8 @@ fn writers_write() {
     }
     for (command, a, b) in [
         (2, 2, 0),
-        (2, 10, 0),
+        (2, 9, 0),
+        (2, 19, 0),
         (6, 5, 0),
         (6, 0, 16),
         (9, 2, 0),
@@ -939,6 +1164,55 @@ fn script_lines() {
     assert_eq!(ask("Q 0001"), "Q 00\nicon bar 000000010000\n");
     ask("P");
     assert_eq!(ask("V"), "V 000000\n");
+    assert_eq!(ask("U 000000"), "U 00\nicon bar 000000000000\n");
+    assert_eq!(ask("U 005F01"), "U 00\nicon bar 000000000000\n");
+    assert_eq!(ask("U 020B00"), "U 00\ncell 020120\n");
+    assert_eq!(ask("U 050001"), "U 00\ncell 060000\n");
+    assert_eq!(ask("U 052A00"), "U 00\ncell 070000\n");
+    assert_eq!(ask("U 055F00"), "U 00\ncell 080600\n");
+    assert_eq!(ask("U 065F00"), "U 00\n");
+    assert_eq!(ask("U 066000"), "U 04\n");
+    assert_eq!(ask("U 070001"), "U 04\n");
+    // Ten codes in the line: two small, eight big.
+    ask("F 00001B494431300D30313233343536373839");
+    let blanks = "20".repeat(14);
+    assert_eq!(
+        ask("Q 0100"),
+        format!("Q 00\nrow 0400\ncells 3031{blanks}\n")
+    );
+    assert_eq!(ask("Q 0200"), "Q 00\nrow 0500\ncells 3233343536373839\n");
+    assert_eq!(ask("Q 0301"), "Q 00\nrow 0501\ncells 3233343536373839\n");
+    assert_eq!(ask("Q 0400"), "Q 00\n");
+    assert_eq!(ask("U 010600"), "U 00\ncell 040031\n");
+    assert_eq!(ask("U 020B00"), "U 00\ncell 050032\n");
+    assert_eq!(ask("U 030C01"), "U 00\ncell 050133\n");
+    assert_eq!(ask("U 040000"), "U 00\n");
+    let answer = ask("S 240017017E");
+    let blanks = "20".repeat(13);
+    let line = format!("\nline 30313233343536373839{blanks}7E\npicture 00");
+    assert!(answer.starts_with("S 00\nscreen 010A0000000A\n"));
+    assert!(answer.contains(&line));
+    assert_eq!(
+        ask("Q 0200"),
+        format!("Q 00\nrow 0500\ncells {}7E\n", "20".repeat(7))
+    );
+    // A picture and the rocker.
+    ask("S 0200000012");
+    ask("S 0B01E000FF");
+    ask("S 0B020A00FF");
+    ask("S 1100000003");
+    assert_eq!(
+        ask("Q 0500"),
+        format!("Q 00\nrow 0605\ncells FF{}\nrocker 03\n", "00".repeat(95))
+    );
+    assert_eq!(ask("U 050000"), "U 00\ncell 0305FF\n");
+    assert_eq!(ask("U 052901"), "U 00\ncell 030500\n");
+    assert_eq!(ask("U 052A01"), "U 00\ncell 070003\n");
+    assert_eq!(ask("U 053500"), "U 00\ncell 070003\n");
+    ask("S 2400000000");
+    assert_eq!(ask("R"), "R 00\n");
+    assert_eq!(ask("U 070000"), "U 01\n");
+    ask("P");
     assert_eq!(ask("B"), "B 00\nbacklight 001E0000\n");
     assert_eq!(
         ask("W 000802000D0000"),
@@ -965,6 +1239,7 @@ fn script_lines() {
         "frame 0101",
         &format!("bytes 51{}", "00".repeat(249)),
         &format!("text 41{}", "20".repeat(79)),
+        &format!("line {}", "20".repeat(24)),
         &format!("picture {}", "00".repeat(672)),
     ];
     assert_eq!(lines, wanted);
@@ -983,7 +1258,7 @@ fn script_lines() {
     assert_eq!(now[1..].replace("0C00\n", "0C0C\n"), former[1..]);
     assert_eq!(now[..1], *"P");
     assert_eq!(former[..2], *"O ");
-    assert_eq!(former.lines().count(), 12);
+    assert_eq!(former.lines().count(), 13);
     let held = "K 000400030000007800F000FFFF";
     ask("O ");
     assert!(ask(held).starts_with("K 0000030002\nbuffer CCEC1118\n"));
@@ -1005,7 +1280,9 @@ fn script_lines() {
         ("G 000000", "41", 300),
         ("Q 04", "01", 1),
         ("M ", "01", 1),
+        ("U 0460", "01", 1),
         ("S 230000", "00", 2),
+        ("S 240017", "00", 2),
         ("W 00001A0000", "00", 2),
     ] {
         assert_ne!(ask(&full(head, byte, most)), "what\n", "{head}");
@@ -1041,7 +1318,8 @@ fn script_lines() {
         "F +001",
         "K 000100",
         "K 0001000100",
-        "S 2400000000",
+        "S 2500000000",
+        "S 2400180020",
         "S 0100010000",
         "S 0600500000",
         "S 01000000",
@@ -1057,6 +1335,12 @@ fn script_lines() {
         "M 02",
         "M FF",
         "M 0000",
+        "U",
+        "U 00",
+        "U 0000",
+        "U 000002",
+        "U 0760FF",
+        "U 00000000",
         "W 00011B00000000",
         "W 000100000000",
         "W 0001000000000000",
@@ -1081,7 +1365,7 @@ fn lines_of_calls_read_back() {
 
 #[test]
 fn kinds_are_kept() {
-    for kinds in ["F", "PSRF", "O", "OK", "K", "W", "TG", "QMV", "CB"] {
+    for kinds in ["F", "PSRF", "O", "OK", "K", "W", "TG", "QUMV", "CB"] {
         let calls = generate::calls(5, 300, kinds);
         assert_eq!(calls.len(), 300);
         for (call, _, _) in calls {

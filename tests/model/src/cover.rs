@@ -2,13 +2,13 @@
 
 use std::collections::BTreeMap;
 
-use crate::generate::{distance, number_commands, REFUSABLE};
+use crate::generate::{distance, number_commands, BORDERS, MODES, OVERLAYS, REFUSABLE};
 use crate::grammar::{count_of_numbers, spelt, Command, SHAPES};
 use crate::keys::{self, KEYS};
 use crate::ranges::faults;
 use crate::record::*;
-use crate::script::{command, letter, words, Answer, Call, COMMANDS};
-use crate::seen::{Owner, Phase, PHASES};
+use crate::script::{cell, command, letter, words, Answer, Call, COMMANDS, FIELDS};
+use crate::seen::{self, Column, Owner, Phase, PHASES};
 use crate::stream::{self, Part};
 use crate::{effect, generate};
 
@@ -61,6 +61,7 @@ pub fn wanted() -> Vec<String> {
         ('C', &[0, 1]),
         ('B', &[0, 1]),
         ('Q', &[0, 1, 4]),
+        ('U', &[0, 1, 4]),
         ('M', &[0, 1]),
         ('V', &[0, 1]),
         ('W', &[0, 2, 3]),
@@ -72,7 +73,7 @@ pub fn wanted() -> Vec<String> {
     }
     for field in REFUSABLE {
         let name = FIELD_NAMES[usize::from(field)];
-        for letter in ['R', 'F', 'K', 'C', 'Q', 'M', 'V'] {
+        for letter in ['R', 'F', 'K', 'C', 'Q', 'U', 'M', 'V'] {
             names.push(format!("refused {letter} for {name} alone"));
         }
     }
@@ -96,13 +97,18 @@ pub fn wanted() -> Vec<String> {
             names.push(format!("{what} {near} the threshold"));
         }
     }
-    for mode in [0, 1, 5, 6] {
-        for overlay in [0, 11, 12, 13] {
+    for mode in MODES {
+        for overlay in OVERLAYS {
             for row in 0..7 {
                 names.push(format!("row {row} in mode {mode} overlay {overlay}"));
+                names.push(format!(
+                    "column of row {row} in mode {mode} overlay {overlay}"
+                ));
             }
         }
     }
+    names.extend(wanted_columns());
+    names.extend(wanted_large());
     for power in ["power-on", "former power-on"] {
         for before in ["from itself", "from the other", "in range", "out of range"] {
             names.push(format!("{power} {before}"));
@@ -111,7 +117,7 @@ pub fn wanted() -> Vec<String> {
     }
     for phase in PHASES {
         for (u, s) in [(0, 0), (0, 1), (1, 0), (1, 1), (255, 0), (255, 1)] {
-            for asked in ["panel", "icon bar"] {
+            for asked in ["panel", "icon bar", "icon bar by its column"] {
                 names.push(format!("{asked} with U {u} S {s} in the phase {phase:?}"));
             }
         }
@@ -119,7 +125,7 @@ pub fn wanted() -> Vec<String> {
             names.push(format!("row {row} in the phase {phase:?}"));
         }
     }
-    for letter in ['M', 'Q'] {
+    for letter in ['M', 'Q', 'U'] {
         for fault in [
             "no phase",
             "a byte behind the phase",
@@ -133,7 +139,12 @@ pub fn wanted() -> Vec<String> {
         names.push(format!("frame length wrong in state {state}"));
         names.push(format!("frame bytes wrong in state {state}"));
     }
-    for (set, value) in [("sms", 0..3), ("volume panel", 0..4), ("owner", 0..5)] {
+    for (set, value) in [
+        ("sms", 0..3),
+        ("volume panel", 0..4),
+        ("owner", 0..9),
+        ("column owner", 0..9),
+    ] {
         names.extend(value.map(|n| format!("{set} {n}")));
     }
     for level in 1..=10 {
@@ -180,7 +191,11 @@ pub fn wanted() -> Vec<String> {
         "tail of 250 bytes",
         "tail overlong",
         "text stored",
+        "text stored in the large line",
         "text dropped",
+        "text dropped behind the large line",
+        "text stored in its last place",
+        "text stored in the last place of the large line",
         "byte skipped",
         "picture frame of 96 columns",
         "picture frame of row 6 cut to five bits",
@@ -199,6 +214,115 @@ pub fn wanted() -> Vec<String> {
     names
 }
 
+/// The column question: borders, cells, refusals.
+fn wanted_columns() -> Vec<String> {
+    let mut names = vec![];
+    for overlay in OVERLAYS {
+        for column in BORDERS {
+            names.push(format!("column {column} of row 5 under overlay {overlay}"));
+        }
+    }
+    for end in ["first", "last"] {
+        for cell in 0..16 {
+            names.push(format!("{end} column of text cell {cell}"));
+            names.push(format!("{end} column of small cell {cell}"));
+        }
+        for cell in 0..8 {
+            names.push(format!("{end} column of upper big cell {cell}"));
+            names.push(format!("{end} column of lower big cell {cell}"));
+        }
+        for cell in 0..7 {
+            for side in ["left", "right"] {
+                names.push(format!("{end} column of {side} label cell {cell}"));
+                names.push(format!("{end} column of {side} label cell {cell}, empty"));
+            }
+        }
+    }
+    for w in 0..4 {
+        names.push(format!("rocker {w} by its column"));
+        names.push(format!("rocker {w} beside a picture"));
+    }
+    for (row, column) in [("6", "95"), ("6", "96"), ("7", "95"), ("7", "96")] {
+        names.push(format!("U of row {row} and column {column}"));
+    }
+    for name in [
+        "U 4 for the row alone",
+        "U 4 for the column alone",
+        "U 4 for both",
+        "U 1 with a row or column that is none",
+        "picture row with the rocker, not blank below it",
+        "column of a display off",
+    ] {
+        names.push(name.to_string());
+    }
+    names
+}
+
+/// The large line and the modes that came with it.
+fn wanted_large() -> Vec<String> {
+    let mut names = vec![];
+    for count in 0..=LINE {
+        for row in 1..4 {
+            names.push(format!("line of {count} codes by row {row}"));
+            names.push(format!("line of {count} codes by a column of row {row}"));
+        }
+    }
+    for what in ["the cursor", "the last code", "both"] {
+        names.push(format!("codes of the line counted by {what}"));
+    }
+    for number in [0, 1, 5, 6, 10, 11, 12, 13, 14, 15, 16, 17, 18] {
+        names.push(format!("ID{number} obeyed"));
+        names.push(format!("ID{number} written"));
+        names.push(format!("ID{number} obeyed in mode 10"));
+        names.push(format!("ID{number} obeyed with a line that isn't blank"));
+    }
+    for number in [2, 3, 4, 7, 8, 9, 19] {
+        names.push(format!("ID{number} passed over"));
+        names.push(format!("ID{number} not written"));
+    }
+    for mode in MODES {
+        names.push(format!("ID10 obeyed in mode {mode}"));
+        names.push(format!("&# in mode {mode} with a line that isn't blank"));
+        let (row, column) = match mode {
+            0 | 1 => (4, 17),
+            5 | 6 => (5, 17),
+            _ => (1, 25),
+        };
+        names.push(format!("row {row} refused in mode {mode}"));
+        names.push(format!("column {column} refused in mode {mode}"));
+        names.push(format!("column {} in range in mode {mode}", column - 1));
+    }
+    for overlay in OVERLAYS {
+        names.push(format!("text to the large line under overlay {overlay}"));
+    }
+    for name in [
+        "cursor frame 0;0 in mode 10",
+        "cursor frame in mode 10, else obeyed",
+        "cursor frame in mode 10, else passed over",
+        "first place of the large line set",
+        "last place of the large line set",
+    ] {
+        names.push(name.to_string());
+    }
+    for field in [1, 6, 8, 10, 11, 31, 35, 36] {
+        let name = FIELD_NAMES[field];
+        names.push(format!("line S one place behind {name}"));
+    }
+    names.push(format!("line S with field {FIELDS}"));
+    names
+}
+
+/// What the large line's count of codes rests on.
+fn counted_by(record: &Record) -> &'static str {
+    let mut home = record.clone();
+    home.column = 0;
+    match seen::codes_in_line(&home).cmp(&usize::from(record.column)) {
+        std::cmp::Ordering::Less => "the cursor",
+        std::cmp::Ordering::Greater => "the last code",
+        std::cmp::Ordering::Equal => "both",
+    }
+}
+
 impl Cover {
     fn add(&mut self, name: impl Into<String>) {
         *self.counts.entry(name.into()).or_default() += 1;
@@ -215,6 +339,7 @@ impl Cover {
             Answer::InRange(yes) => Some(u8::from(*yes)),
             Answer::Counts { number, .. } | Answer::Written { number, .. } => Some(*number),
             Answer::Number(n) | Answer::Thin(n, _) | Answer::Row(n, _) => Some(*n),
+            Answer::Column(n, _) => Some(*n),
             Answer::Sms(n, _) | Answer::Volume(n, _, _) => Some(*n),
             Answer::Done | Answer::What | Answer::Silence => None,
         };
@@ -229,6 +354,12 @@ impl Cover {
             if let [field] = faults(before)[..] {
                 let name = FIELD_NAMES[usize::from(field)];
                 self.add(format!("refused {letter} for {name} alone"));
+                let (mode, row, column) = (before.mode, before.row, before.column);
+                match field {
+                    4 => self.add(format!("row {row} refused in mode {mode}")),
+                    5 => self.add(format!("column {column} refused in mode {mode}")),
+                    _ => (),
+                }
                 match (field, before.frame.state) {
                     (34, state) => self.add(format!("frame length wrong in state {state}")),
                     (35, state) => self.add(format!("frame bytes wrong in state {state}")),
@@ -276,6 +407,17 @@ impl Cover {
             (Call::Row { row, phase }, Answer::Row(0, owner)) => {
                 self.see_row(before, *row, *phase, owner);
             }
+            (Call::Column { row, column, phase }, Answer::Column(number, there)) => {
+                self.see_column(before, (*row, *column, *phase), *number, there);
+            }
+            (Call::Set { field, place, .. }, Answer::Done) => {
+                if (*field, *place) == (36, 0) {
+                    self.add("first place of the large line set");
+                }
+                if (*field, usize::from(*place)) == (36, LINE - 1) {
+                    self.add("last place of the large line set");
+                }
+            }
             (Call::Sms { phase }, Answer::Sms(0, panel)) => {
                 self.add(format!("sms {panel}"));
                 self.see_letter("panel", before, *phase);
@@ -293,6 +435,13 @@ impl Cover {
             }
             (Call::Command { command: n, .. }, Answer::Written { number, .. }) => {
                 self.add(format!("writer {:?} {number}", command(*n)));
+                if let (Call::Command { numbers, .. }, Command::Mode) = (call, command(*n)) {
+                    match number {
+                        0 => self.add(format!("ID{} written", numbers[0])),
+                        2 => self.add(format!("ID{} not written", numbers[0])),
+                        _ => (),
+                    }
+                }
             }
             (Call::Label { codes, .. }, Answer::Written { number: 0, .. }) if codes.len() == 7 => {
                 self.add("label of 7 codes written");
@@ -324,6 +473,10 @@ impl Cover {
     }
 
     fn see_stream(&mut self, before: &Record, room: usize, bytes: &[u8], used: usize) {
+        self.add(format!(
+            "column {} in range in mode {}",
+            before.column, before.mode
+        ));
         match before.frame.state {
             1 => self.add("frame open before the call"),
             2 => self.add("frame overlong before the call"),
@@ -354,11 +507,7 @@ impl Cover {
         for (part, _) in &parts {
             match part {
                 Part::Text(code) => {
-                    self.add(if record.column < 16 {
-                        "text stored"
-                    } else {
-                        "text dropped"
-                    });
+                    self.see_text(&record);
                     effect::text(&mut record, *code);
                 }
                 Part::Skipped(_) => self.add("byte skipped"),
@@ -389,6 +538,7 @@ impl Cover {
                         "passed over"
                     };
                     self.add(format!("frame {:?} {how}", good.command));
+                    self.see_screen(&record, good.command, &good.numbers, how);
                     if body.starts_with(b"Gr") {
                         self.add(format!("picture frame of {} columns", good.codes.len()));
                         if good.numbers == [6] && good.codes.iter().any(|&dots| dots > 31) {
@@ -401,6 +551,57 @@ impl Cover {
                     effect::take(&mut record, &good);
                 }
             }
+        }
+    }
+
+    fn see_text(&mut self, record: &Record) {
+        let large = record.mode == LARGE;
+        let left = capacity(record.mode) - usize::from(record.column);
+        self.add(match (left, large) {
+            (0, false) => "text dropped",
+            (0, true) => "text dropped behind the large line",
+            (_, false) => "text stored",
+            (_, true) => "text stored in the large line",
+        });
+        if left == 1 {
+            self.add(if large {
+                "text stored in the last place of the large line"
+            } else {
+                "text stored in its last place"
+            });
+        }
+        if large && left > 0 {
+            let overlay = record.overlay;
+            self.add(format!("text to the large line under overlay {overlay}"));
+        }
+    }
+
+    /// A good frame that has to do with modes and the large line.
+    fn see_screen(&mut self, record: &Record, command: Command, numbers: &[u16], how: &str) {
+        let mode = record.mode;
+        let blank = record.line == [0x20; LINE];
+        match (command, numbers) {
+            (Command::Mode, [number]) => {
+                self.add(format!("ID{number} {how}"));
+                self.add(format!("ID{number} {how} in mode {mode}"));
+                if !blank {
+                    self.add(format!("ID{number} {how} with a line that isn't blank"));
+                }
+            }
+            (Command::Clear, _) if !blank => {
+                self.add(format!("&# in mode {mode} with a line that isn't blank"));
+            }
+            (Command::Position, [row, column]) if mode == LARGE => {
+                if (*row, *column) == (0, 0) {
+                    self.add("cursor frame 0;0 in mode 10");
+                }
+                self.add(if *row < 5 && *column < 16 {
+                    "cursor frame in mode 10, else obeyed"
+                } else {
+                    "cursor frame in mode 10, else passed over"
+                });
+            }
+            _ => (),
         }
     }
 
@@ -551,15 +752,26 @@ impl Cover {
         }
     }
 
-    /// A line that can't be taken: what is wrong with its phase.
+    /// A line that can't be taken: what is wrong with its phase, its field or
+    /// its place.
     fn see_misfit(&mut self, call: &Call) {
         let Call::Other(line) = call else { return };
         let Some((letter, bytes)) = words(line) else {
             return;
         };
+        if let (b'S', &[field, p, q, _, _]) = (letter, &bytes[..]) {
+            let (field, place) = (u16::from(field), u16::from_be_bytes([p, q]));
+            if field == FIELDS {
+                self.add(format!("line S with field {field}"));
+            } else if usize::from(place) == places(field) {
+                let name = FIELD_NAMES[usize::from(field)];
+                self.add(format!("line S one place behind {name}"));
+            }
+        }
         let before_phase = match letter {
             b'M' => 0,
             b'Q' => 1,
+            b'U' => 2,
             _ => return,
         };
         let fault = match bytes.get(before_phase..) {
@@ -579,8 +791,21 @@ impl Cover {
 
     fn see_row(&mut self, before: &Record, row: u8, phase: Phase, owner: &Owner) {
         self.add(format!("row {row} in the phase {phase:?}"));
-        if matches!(owner, Owner::IconBar { .. }) {
-            self.see_letter("icon bar", before, phase);
+        match owner {
+            Owner::IconBar(_) => self.see_letter("icon bar", before, phase),
+            Owner::Small { .. } | Owner::Big { .. } => {
+                let count = seen::codes_in_line(before);
+                self.add(format!("line of {count} codes by row {row}"));
+                let by = counted_by(before);
+                self.add(format!("codes of the line counted by {by}"));
+            }
+            Owner::PictureWithRocker { w, .. } => {
+                self.add(format!("rocker {w} beside a picture"));
+                if before.picture[5 * COLUMNS..][42..54] != [0; 12] {
+                    self.add("picture row with the rocker, not blank below it");
+                }
+            }
+            _ => (),
         }
         if before.display {
             self.add(format!(
@@ -596,8 +821,89 @@ impl Cover {
             Owner::Text { .. } => 2,
             Owner::Picture { .. } => 3,
             Owner::SoftKeys { .. } => 4,
+            Owner::Small { .. } => 5,
+            Owner::Big {
+                half: seen::Half::Upper,
+                ..
+            } => 6,
+            Owner::Big { .. } => 7,
+            Owner::PictureWithRocker { .. } => 8,
         };
         self.add(format!("owner {owner}"));
+    }
+
+    fn see_column(
+        &mut self,
+        before: &Record,
+        (row, column, phase): (u8, u8, Phase),
+        number: u8,
+        there: &Column,
+    ) {
+        let wrong = (row > 6, column > 95);
+        match (number, wrong) {
+            (4, (true, false)) => self.add("U 4 for the row alone"),
+            (4, (false, true)) => self.add("U 4 for the column alone"),
+            (4, _) => self.add("U 4 for both"),
+            (1, (false, false)) => (),
+            (1, _) => self.add("U 1 with a row or column that is none"),
+            _ => (),
+        }
+        if number != 1 {
+            self.add(format!("U of row {row} and column {column}"));
+        }
+        if number != 0 {
+            return;
+        }
+        if !before.display {
+            self.add("column of a display off");
+            return;
+        }
+        let (mode, overlay) = (before.mode, before.overlay);
+        self.add(format!(
+            "column of row {row} in mode {mode} overlay {overlay}"
+        ));
+        if row == 5 {
+            self.add(format!("column {column} of row 5 under overlay {overlay}"));
+        }
+        let owner = match there {
+            Column::Nothing => 0,
+            Column::IconBar(_) => 1,
+            _ => cell(there).map_or(0, |[owner, _, _]| owner),
+        };
+        self.add(format!("column owner {owner}"));
+        let empty = |code: u8| if code == 0 { ", empty" } else { "" };
+        let (what, width, from) = match *there {
+            Column::IconBar(_) => {
+                self.see_letter("icon bar by its column", before, phase);
+                return;
+            }
+            Column::Rocker { w } => {
+                self.add(format!("rocker {w} by its column"));
+                return;
+            }
+            Column::Text { .. } => ("text", 6, 0),
+            Column::Small { .. } => ("small", 6, 0),
+            Column::Big { .. } if row == 2 => ("upper big", 12, 0),
+            Column::Big { .. } => ("lower big", 12, 0),
+            Column::Left { .. } => ("left label", 6, 0),
+            Column::Right { .. } => ("right label", 6, 54),
+            Column::Nothing | Column::Picture { .. } => return,
+        };
+        if let Column::Small { .. } | Column::Big { .. } = there {
+            let count = seen::codes_in_line(before);
+            self.add(format!("line of {count} codes by a column of row {row}"));
+        }
+        let end = match (column - from) % width {
+            0 => "first",
+            last if last == width - 1 => "last",
+            _ => return,
+        };
+        let which = (column - from) / width;
+        let note = match *there {
+            Column::Left { code, .. } | Column::Right { code, .. } => empty(code),
+            _ => "",
+        };
+        self.add(format!("{end} column of {what} cell {which}{note}"));
     }
 }
 

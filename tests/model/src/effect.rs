@@ -5,7 +5,7 @@ use crate::record::*;
 
 /// Whether the record's text mode lets this command be obeyed.
 pub fn obeyed(record: &Record, spelt: &Spelt) -> bool {
-    let rows = rows(record.mode).unwrap_or(0);
+    let rows = rows_to_name(record.mode);
     numbers_in_range(spelt.command, &spelt.numbers, rows.into())
 }
 
@@ -28,6 +28,7 @@ pub fn take(record: &mut Record, spelt: &Spelt) {
         CursorNotShown => record.shown = false,
         Clear => {
             record.text.fill(0x20);
+            record.line.fill(0x20);
             home(record);
         }
         Position => {
@@ -96,11 +97,16 @@ fn light(record: &mut Record, mode: u8, left: Option<u8>) {
     }
 }
 
-/// A text byte: stored at the cursor, dropped at column 16.
+/// A text byte: stored at the cursor, dropped at the end of the row. In mode
+/// 10 the row is the large line.
 pub fn text(record: &mut Record, code: u8) {
     let (row, column) = (usize::from(record.row), usize::from(record.column));
-    if column < CODES {
-        record.text[row * CODES + column] = code;
+    let row = match record.mode {
+        LARGE => &mut record.line[..],
+        _ => &mut record.text[row * CODES..][..CODES],
+    };
+    if let Some(place) = row.get_mut(column) {
+        *place = code;
         record.column += 1;
     }
 }

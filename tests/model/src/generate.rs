@@ -11,13 +11,20 @@ use crate::seen::PHASES;
 use crate::writers;
 
 /// The letters of all calls; X stands for lines that can't be taken.
-pub const KINDS: &str = "POSRFKCBQMVWTGX";
+pub const KINDS: &str = "POSRFKCBQUMVWTGX";
 
 /// Values around the ends of the ranges.
-const EDGES: [u16; 44] = [
-    0, 1, 2, 3, 4, 5, 6, 7, 8, 9, 10, 11, 12, 13, 14, 15, 16, 17, 18, 19, 20, 25, 26, 27, 30, 31,
-    32, 33, 48, 49, 50, 51, 99, 100, 127, 128, 249, 250, 251, 254, 255, 256, 511, 999,
+const EDGES: [u16; 46] = [
+    0, 1, 2, 3, 4, 5, 6, 7, 8, 9, 10, 11, 12, 13, 14, 15, 16, 17, 18, 19, 20, 23, 24, 25, 26, 27,
+    30, 31, 32, 33, 48, 49, 50, 51, 99, 100, 127, 128, 249, 250, 251, 254, 255, 256, 511, 999,
 ];
+
+/// The text modes, and the overlays with none among them.
+pub const MODES: [u8; 5] = [0, 1, 5, 6, LARGE];
+pub const OVERLAYS: [u8; 9] = [0, 11, 12, 13, 14, 15, 16, 17, 18];
+
+/// Columns of the display at which something ends or begins.
+pub const BORDERS: [u8; 6] = [0, 41, 42, 53, 54, 95];
 
 pub struct Generator {
     rng: Rng,
@@ -113,17 +120,18 @@ impl Generator {
     fn episode(&mut self) {
         match self.rng.below(100) {
             0 => self.power(),
-            1..=34 => self.streams(),
-            35..=49 => self.key_logs(),
-            50..=54 => self.seconds(),
-            55..=62 => self.questions(),
-            63..=72 => self.write(),
-            73..=84 => self.odd_values(),
-            85..=95 => self.out_of_range(),
-            96 => {
+            1..=32 => self.streams(),
+            33..=44 => self.key_logs(),
+            45..=48 => self.seconds(),
+            49..=55 => self.questions(),
+            56..=61 => self.look(),
+            62..=70 => self.write(),
+            71..=81 => self.odd_values(),
+            82..=93 => self.out_of_range(),
+            94 => {
                 self.emit(Call::InRange);
             }
-            97 | 98 if self.has('X') => {
+            95..=98 if self.has('X') => {
                 let line = misfit(&mut self.rng);
                 self.emit(Call::Other(line));
             }
@@ -325,6 +333,12 @@ impl Generator {
                 self.emit(Call::Sms { phase });
             }
             self.emit(Call::Volume);
+        } else if self.rng.one_in(4) {
+            let row = self.rng.below(7) as u8;
+            for column in [0, 41, 42, 53, 54, 95, 96, 97, 255] {
+                let phase = self.rng.pick(&PHASES);
+                self.emit(Call::Column { row, column, phase });
+            }
         } else {
             for _ in 0..self.rng.between(1, 4) {
                 self.question();
@@ -334,7 +348,17 @@ impl Generator {
 
     fn question(&mut self) {
         let phase = self.rng.pick(&PHASES);
-        let call = match self.rng.below(9) {
+        let call = match self.rng.below(13) {
+            9..=11 => Call::Column {
+                row: self.rng.below(8) as u8,
+                column: self.column(),
+                phase,
+            },
+            12 => Call::Column {
+                row: self.rng.pick(&[0, 5, 6, 7, 8, 128, 255]),
+                column: self.rng.pick(&[0, 94, 95, 96, 97, 128, 254, 255]),
+                phase,
+            },
             0 | 1 => Call::Sms { phase },
             2 | 3 => Call::Volume,
             4 => Call::InRange,
@@ -348,6 +372,113 @@ impl Generator {
             },
         };
         self.emit(call);
+    }
+
+    /// A column of the display, often the first or the last of a cell.
+    fn column(&mut self) -> u8 {
+        let cell = self.rng.below(16) as u8;
+        match self.rng.below(6) {
+            0 => self.rng.pick(&BORDERS),
+            1 => self.rng.below(96) as u8,
+            2 | 3 => cell * 6,
+            _ => cell * 6 + 5,
+        }
+    }
+
+    /// A text mode and an overlay of which every row is looked at.
+    fn look(&mut self) {
+        if !self.has('S') || !in_range(&self.record) {
+            return;
+        }
+        match self.rng.below(6) {
+            0 | 1 => return self.look_at_line(),
+            2 => return self.look_at_labels(),
+            _ => (),
+        }
+        let mode = self.rng.pick(&MODES);
+        let overlay = self.rng.pick(&OVERLAYS);
+        let row = self.rng.below(rows(mode).map_or(0, usize::from)) as u16;
+        let column = self.rng.below(capacity(mode) + 1) as u16;
+        let w = self.rng.below(4) as u16;
+        self.settle(&[(0, 1), (1, mode.into()), (4, row), (5, column)]);
+        self.settle(&[(2, overlay.into()), (17, w)]);
+        for row in 0..7 {
+            let phase = self.rng.pick(&PHASES);
+            self.emit(Call::Row { row, phase });
+            let column = self.column();
+            self.emit(Call::Column { row, column, phase });
+        }
+        for column in BORDERS {
+            let phase = self.rng.pick(&PHASES);
+            self.emit(Call::Column {
+                row: 5,
+                column,
+                phase,
+            });
+        }
+    }
+
+    /// Labels of some length, and cells of them.
+    fn look_at_labels(&mut self) {
+        let mut bytes = vec![];
+        for side in ["IK1", "IK2"] {
+            bytes.extend(format!("\x1B{side}").bytes());
+            let length = self.rng.pick(&[0, 1, 3, 5, 6, 7, 7]);
+            bytes.extend((0..length).map(|_| text_code(&mut self.rng)));
+            bytes.push(CR);
+        }
+        bytes.extend(b"\x1BIDE\r");
+        let screens = ["ID0", "ID5", "ID10", "ID11", "ID12", "ID16", "ID17"];
+        bytes.extend(format!("\x1B{}\r\n", self.rng.pick(&screens)).bytes());
+        self.emit(Call::Stream { room: 9, bytes });
+        let phase = self.rng.pick(&PHASES);
+        self.emit(Call::Row { row: 5, phase });
+        for _ in 0..9 {
+            let column = self.column();
+            self.emit(Call::Column {
+                row: 5,
+                column,
+                phase,
+            });
+        }
+    }
+
+    /// A large line of some length, kept or not, and what is seen of it.
+    fn look_at_line(&mut self) {
+        let mut bytes = vec![];
+        if !self.rng.one_in(4) {
+            bytes.extend(b"\x1B&#\r");
+        }
+        bytes.extend(b"\x1BID10\r\n");
+        let most = self.rng.pick(&[BIG + 1, LINE + 1]);
+        let length = self.rng.between(0, most);
+        bytes.extend((0..length).map(|_| text_code(&mut self.rng)));
+        if self.rng.one_in(3) {
+            bytes.extend(vec![b' '; self.rng.below(9)]);
+        }
+        if self.rng.one_in(3) {
+            bytes.extend(b"\x1BID10\r");
+        }
+        let overlay = self.rng.pick(&["", "", "ID16", "ID17", "ID18"]);
+        if !overlay.is_empty() {
+            bytes.extend(format!("\x1B{overlay}\r").bytes());
+        }
+        self.emit(Call::Stream { room: 9, bytes });
+        if !self.record.display {
+            self.put(0, 0, 1);
+        }
+        if self.record.mode == LARGE && self.rng.one_in(3) {
+            let column = self.rng.below(LINE + 1) as u16;
+            self.put(5, 0, column);
+        }
+        for row in 1..5 {
+            let phase = self.rng.pick(&PHASES);
+            self.emit(Call::Row { row, phase });
+            for _ in 0..2 {
+                let column = self.column();
+                self.emit(Call::Column { row, column, phase });
+            }
+        }
     }
 
     // Writers.
@@ -377,7 +508,10 @@ impl Generator {
     }
 
     fn command_call(&mut self) -> Call {
-        let number = self.rng.below(usize::from(COMMANDS)) as u16;
+        let number = match self.rng.below(6) {
+            0 => 2, // the display mode
+            _ => self.rng.below(usize::from(COMMANDS)) as u16,
+        };
         let command = crate::script::command(number);
         let mut numbers = [0; 2];
         let good = good_numbers(&mut self.rng, command);
@@ -474,7 +608,7 @@ impl Generator {
         if !self.has('S') {
             return;
         }
-        match self.rng.below(11) {
+        match self.rng.below(12) {
             0 => self.odd_volume(),
             1 => self.odd_held(),
             2 | 3 => self.odd_frame(),
@@ -482,19 +616,28 @@ impl Generator {
             5 => self.odd_light(),
             10 => self.odd_letter(),
             6 => {
-                let mode = self.rng.pick(&[0, 1, 5, 6]);
-                let rows = if mode < 5 { 4 } else { 5 };
-                let row = self.rng.below(rows) as u16;
-                self.put(1, 0, mode);
+                let mode = self.rng.pick(&MODES);
+                let row = self.rng.below(rows(mode).map_or(0, usize::from)) as u16;
+                self.put(1, 0, mode.into());
                 self.put(4, 0, row);
-                let column = self.rng.pick(&[0, 14, 15, 16]);
+                let end = capacity(mode) as u16;
+                let column = self.rng.pick(&[0, end - 2, end - 1, end]);
                 self.put(5, 0, column);
-                let overlay = self.rng.pick(&[0, 0, 11, 12, 13]);
-                self.put(2, 0, overlay);
+                let overlay = self.rng.pick(&OVERLAYS);
+                self.put(2, 0, overlay.into());
+            }
+            7 => {
+                // The large line, at its ends and in the middle.
+                for _ in 0..self.rng.between(1, 3) {
+                    let any = self.rng.below(LINE);
+                    let place = self.rng.pick(&[0, 7, 8, 15, 16, 23, any]);
+                    let code = text_code(&mut self.rng);
+                    self.put(36, place, code.into());
+                }
             }
             _ => {
                 for _ in 0..self.rng.between(1, 4) {
-                    let field = self.rng.below(36) as u16;
+                    let field = self.rng.below(crate::script::FIELDS.into()) as u16;
                     let place = self.rng.below(places(field));
                     let value = self.any_value();
                     let mut tried = self.record.clone();
@@ -531,16 +674,29 @@ impl Generator {
 
     /// The letter, in a row that is seen, asked for in both phases.
     fn odd_letter(&mut self) {
-        let (mode, overlay) = self.rng.pick(&[(0, 0), (1, 0), (0, 11), (6, 11)]);
+        let screens = [(0, 0), (1, 0), (10, 0), (0, 11), (6, 11), (5, 14), (1, 18)];
+        let (mode, overlay) = self.rng.pick(&screens);
         let (u, s) = (self.rng.pick(&[0, 1, 255]), self.rng.below(2) as u16);
-        for (field, value) in [(0, 1), (1, mode), (4, 0), (2, overlay), (12, s), (13, u)] {
+        self.settle(&[(0, 1), (1, mode), (4, 0), (5, 0), (2, overlay)]);
+        self.settle(&[(12, s), (13, u)]);
+        for phase in PHASES {
+            self.emit(Call::Row { row: 0, phase });
+            let column = self.column();
+            self.emit(Call::Column {
+                row: 0,
+                column,
+                phase,
+            });
+            self.emit(Call::Sms { phase });
+        }
+    }
+
+    /// Sets fields of one place that hold something else.
+    fn settle(&mut self, fields: &[(u16, u16)]) {
+        for &(field, value) in fields {
             if get(&self.record, field, 0) != value {
                 self.put(field, 0, value);
             }
-        }
-        for phase in PHASES {
-            self.emit(Call::Row { row: 0, phase });
-            self.emit(Call::Sms { phase });
         }
     }
 
@@ -674,7 +830,7 @@ impl Generator {
             let field = self.rng.pick(&REFUSABLE);
             touched.extend(self.spoil(field));
         }
-        for _ in 0..self.rng.between(1, 5) {
+        for _ in 0..self.rng.between(2, 6) {
             match self.rng.below(12) {
                 0 => {
                     self.emit(Call::InRange);
@@ -710,6 +866,10 @@ impl Generator {
     /// places it touched.
     fn spoil(&mut self, field: u16) -> Vec<(u16, usize)> {
         let mut settings: Vec<(u16, usize, u16)> = match field {
+            4 | 5 => {
+                let mode = self.rng.pick(&MODES);
+                vec![(1, 0, mode.into()), (4, 0, 0), (5, 0, 0)]
+            }
             21 if self.record.volume.which == 0 => {
                 let which = self.rng.between(1, 2) as u16;
                 let level = self.rng.between(1, 10) as u16;
@@ -770,19 +930,19 @@ impl Generator {
 }
 
 /// The fields that can be out of range.
-pub const REFUSABLE: [u16; 30] = [
+pub const REFUSABLE: [u16; 31] = [
     1, 2, 4, 5, 6, 7, 8, 9, 10, 11, 12, 13, 14, 15, 16, 17, 18, 19, 21, 22, 23, 25, 26, 27, 30, 31,
-    32, 33, 34, 35,
+    32, 33, 34, 35, 36,
 ];
 
 /// Values right outside the range of a field, in some record.
 fn just_outside(field: u16) -> &'static [u16] {
     match field {
-        1 => &[2, 4, 7, 10, 11, 255],
-        2 => &[1, 5, 10, 14, 255],
-        4 => &[4, 5],
-        5 => &[17, 18, 255],
-        6 => &[0x1F, 0x1B, 0x0D, 0],
+        1 => &[2, 4, 7, 9, 11, 255],
+        2 => &[1, 5, 10, 19, 255],
+        4 => &[1, 4, 5],
+        5 => &[17, 25, 17, 25, 18, 255],
+        6 | 36 => &[0x1F, 0x1B, 0x0D, 0],
         7 | 9 => &[8, 9, 255],
         8 | 10 => &[0x1F, 0, 1, 0x20],
         11 => &[32, 33, 64, 255],
@@ -810,7 +970,7 @@ fn just_outside(field: u16) -> &'static [u16] {
 fn just_above(rng: &mut Rng, command: Command, place: usize) -> u16 {
     use Command::*;
     match (command, place) {
-        (Mode, _) => rng.pick(&[2, 4, 7, 10, 14, 15, 18]),
+        (Mode, _) => rng.pick(&[2, 3, 4, 7, 8, 9, 19, 20]),
         (Position, 0) => rng.pick(&[4, 5, 6]),
         (Position, _) => 16,
         (IconU, _) => rng.pick(&[2, 254, 256]),
@@ -847,7 +1007,11 @@ fn good_numbers(rng: &mut Rng, command: Command) -> Vec<u16> {
         _ => rng.between(0, high) as u16,
     };
     match command {
-        Mode => vec![rng.pick(&[0, 1, 5, 6, 11, 12, 13])],
+        Mode => {
+            let overlay = rng.between(11, 18) as u16;
+            let mode = rng.pick(&[0, 1, 5, 6, 10, 10]);
+            vec![rng.pick(&[mode, overlay])]
+        }
         Position => vec![up_to(rng, 4), up_to(rng, 15)],
         IconS | IconR | Mute => vec![up_to(rng, 1)],
         IconU => vec![rng.pick(&[0, 1, 255])],
@@ -1206,7 +1370,7 @@ fn long_frame(rng: &mut Rng) -> Vec<u8> {
 }
 
 fn text_run(rng: &mut Rng) -> Vec<u8> {
-    let length = rng.pick(&[1, 2, 5, 15, 16, 17, 18, 33, 40]);
+    let length = rng.pick(&[1, 2, 5, 8, 9, 15, 16, 17, 18, 23, 24, 25, 33, 40]);
     (0..length)
         .map(|_| match rng.below(20) {
             0 => rng.below(0x1B) as u8,
@@ -1366,8 +1530,13 @@ fn story(rng: &mut Rng) -> Vec<u8> {
     const LIGHT: [&str; 9] = [
         "IE0", "IE1", "IE5", "IE255", "IEE", "IEA", "IES", "IER", "IEe",
     ];
-    const SCREEN: [&str; 12] = [
-        "ID0", "ID1", "ID5", "ID6", "ID11", "ID12", "ID13", "IDD", "IDE", "&#", "[4;1H", "[3;15H",
+    const SCREEN: [&str; 18] = [
+        "ID0", "ID1", "ID5", "ID6", "ID10", "ID11", "ID12", "ID13", "ID14", "ID15", "ID16", "ID17",
+        "ID18", "IDD", "IDE", "&#", "[4;1H", "[3;15H",
+    ];
+    const DEPOT: [&str; 12] = [
+        "ID10", "ID10", "ID10", "ID0", "ID5", "ID16", "ID17", "ID18", "&#", "[0;0H", "[0;9H",
+        "[1;24H",
     ];
     const LABELS: [&str; 9] = [
         "IK0",
@@ -1380,7 +1549,7 @@ fn story(rng: &mut Rng) -> Vec<u8> {
         "IK1K",
         "IK2older",
     ];
-    let list = rng.pick(&[&VOLUME[..], &LIGHT, &SCREEN, &LABELS]);
+    let list = rng.pick(&[&VOLUME[..], &LIGHT, &SCREEN, &DEPOT, &LABELS]);
     let mut out = vec![];
     for _ in 0..rng.between(2, 5) {
         out.push(ESC);
@@ -1431,7 +1600,7 @@ fn sender(rng: &mut Rng, pieces: usize) -> Vec<u8> {
 
 /// A line that can't be taken, or an empty one.
 fn misfit(rng: &mut Rng) -> Vec<u8> {
-    const LINES: [&str; 73] = [
+    const LINES: [&str; 67] = [
         "",
         " ",
         "Z",
@@ -1485,15 +1654,9 @@ fn misfit(rng: &mut Rng) -> Vec<u8> {
         "K 000300020000FF",
         "K 012D00010000FF",
         "K 0003FFFF0000FF",
-        "S 2400000000",
         "S FF00000000",
-        "S 0600500020",
-        "S 0800070020",
-        "S 0A00070020",
-        "S 0B02A00000",
-        "S 2300FA0000",
-        "S 0100010000",
-        "S 1F00010000",
+        "U ",
+        "u 000000",
         "S 01000000",
         "S 010000000000",
         "Q ",
@@ -1507,7 +1670,7 @@ fn misfit(rng: &mut Rng) -> Vec<u8> {
         "T 001E0241",
     ];
     let stream = |count: usize| format!("F 000A{}", "41".repeat(count));
-    match rng.below(16) {
+    match rng.below(18) {
         0 => stream(4097).into_bytes(),
         1 => format!("{}4", stream(4096)).into_bytes(),
         2 => format!("G 000A00{}", "41".repeat(301)).into_bytes(),
@@ -1521,6 +1684,7 @@ fn misfit(rng: &mut Rng) -> Vec<u8> {
             .to_vec(),
         8 | 9 => damaged(rng).unwrap_or_default(),
         10..=13 => no_phase(rng).into_bytes(),
+        14 | 15 => no_field(rng).into_bytes(),
         _ => rng.pick(&LINES).as_bytes().to_vec(),
     }
 }
@@ -1528,9 +1692,10 @@ fn misfit(rng: &mut Rng) -> Vec<u8> {
 /// A question that takes a phase, with a byte too few, a byte too many, or a
 /// byte that is none.
 fn no_phase(rng: &mut Rng) -> String {
-    let question = match rng.below(2) {
+    let question = match rng.below(3) {
         0 => "M ".to_string(),
-        _ => format!("Q {:02X}", rng.below(8)),
+        1 => format!("Q {:02X}", rng.below(8)),
+        _ => format!("U {:02X}{:02X}", rng.below(8), rng.below(97)),
     };
     let none = rng.between(2, 255);
     match rng.below(4) {
@@ -1541,10 +1706,18 @@ fn no_phase(rng: &mut Rng) -> String {
     }
 }
 
+/// A field or a place of a field that there isn't: the next one.
+fn no_field(rng: &mut Rng) -> String {
+    let fields = crate::script::FIELDS;
+    let field = rng.pick(&[1, 6, 8, 10, 11, 31, 35, 36, 36, fields, fields]);
+    let place = if field == fields { 0 } else { places(field) };
+    format!("S {field:02X}{place:04X}{:04X}", rng.below(256))
+}
+
 /// The line of a good call with one sign too few, too many or another, if it
 /// can't be taken then.
 fn damaged(rng: &mut Rng) -> Option<Vec<u8>> {
-    let call = match rng.below(6) {
+    let call = match rng.below(7) {
         0 => Call::Set {
             field: 1,
             place: 0,
@@ -1562,7 +1735,12 @@ fn damaged(rng: &mut Rng) -> Option<Vec<u8>> {
             row: rng.below(8) as u8,
             phase: rng.pick(&PHASES),
         },
-        4 => Call::Command {
+        4 => Call::Column {
+            row: rng.below(8) as u8,
+            column: rng.below(97) as u8,
+            phase: rng.pick(&PHASES),
+        },
+        5 => Call::Command {
             room: rng.below(30) as u16,
             command: rng.below(usize::from(COMMANDS)) as u16,
             numbers: [rng.next() as u16, rng.next() as u16],

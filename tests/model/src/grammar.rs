@@ -234,13 +234,13 @@ fn data_ways(mut rest: &[u8]) -> Vec<(Vec<u8>, &[u8])> {
     ways
 }
 
-/// Whether the numbers of a command are in range, where the cursor may stand
-/// in `rows` rows.
+/// Whether the numbers of a command are in range, where a cursor frame can
+/// name `rows` rows.
 pub fn numbers_in_range(command: Command, numbers: &[u16], rows: u16) -> bool {
     let within = |low: u16, high: u16| numbers[0] >= low && numbers[0] <= high;
     let one_of = |list: &[u16]| list.contains(&numbers[0]);
     match command {
-        Mode => one_of(&[0, 1, 5, 6, 11, 12, 13]),
+        Mode => one_of(&[0, 1, 5, 6, 10, 11, 12, 13, 14, 15, 16, 17, 18]),
         Position => numbers[0] < rows && numbers[1] < 16,
         IconS | IconR | Mute => one_of(&[0, 1]),
         IconU => one_of(&[0, 1, 255]),

@@ -1,5 +1,6 @@
-//! A second, independent program of the handset's rules, made from the paper
-//! alone, and a tester that holds another program against it.
+//! A second, independent program of the handset's rules, made from the papers
+//! alone, and a tester that holds another program against it. Of the change
+//! requests it has T-01, T-02, T-03 and T-05.
 //!
 //! The model is written plainly, to be read beside the paper: `record`,
 //! `ranges` (a list of rules), `grammar` (a table of shapes), `effect`,
@@ -23,7 +24,7 @@
 //!   reach; exit status 1 if something isn't reached.
 //!
 //! KINDS is a list of call letters, for instance `PSRF`; without it all
-//! (`POSRFKCBQMVWTGX`, where X stands for lines that can't be taken).
+//! (`POSRFKCBQUMVWTGX`, where X stands for lines that can't be taken).
 
 mod compare;
 mod cover;

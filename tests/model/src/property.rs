@@ -3,14 +3,14 @@
 use std::collections::BTreeMap;
 
 use crate::effect;
-use crate::generate::{close_bodies, random_record, stream_of};
+use crate::generate::{close_bodies, random_record, stream_of, OVERLAYS};
 use crate::grammar::{readings, spelt, Command, Spelt};
 use crate::keys;
 use crate::ranges::in_range;
 use crate::record::*;
 use crate::rng::Rng;
 use crate::script::{command, COMMANDS};
-use crate::seen::{self, Owner, Phase, PHASES};
+use crate::seen::{self, Column, Half, Owner, Phase, PHASES};
 use crate::stream::{self, parting, Part};
 use crate::writers;
 
@@ -176,7 +176,7 @@ pub fn commands_read_back() -> Result<(), String> {
         }
     }
     // 12 without numbers, and the sizes of all ranges.
-    let sizes = 7 + 5 * 16 + (2 + 3 + 7 + 2 + 20 + 4) + 3 * 11 + 2 + 47 * 48 + 256 + 256;
+    let sizes = 13 + 5 * 16 + (2 + 3 + 7 + 2 + 20 + 4) + 3 * 11 + 2 + 47 * 48 + 256 + 256;
     if written == 12 + sizes {
         Ok(())
     } else {
@@ -372,8 +372,8 @@ pub fn phases(seed: u64) -> Result<(), String> {
             if seen::row(&letter, row, like) != lit {
                 return Err(format!("seed {seed}: U 255 {like:?} isn't U {u}"));
             }
-            if let (_, Owner::IconBar { sms, .. }) = lit {
-                if seen::sms(&steady, Phase::Pause) != (0, sms) {
+            if let (_, Owner::IconBar(bar)) = lit {
+                if seen::sms(&steady, Phase::Pause) != (0, bar.sms) {
                     return Err(format!("seed {seed}: panel and icon bar"));
                 }
             }
@@ -385,10 +385,192 @@ pub fn phases(seed: u64) -> Result<(), String> {
     Ok(())
 }
 
+/// A record that shows the large line in half of all cases.
+fn record_to_see(rng: &mut Rng, seed: u64) -> Record {
+    let mut record = random_record(seed);
+    record.display = !rng.one_in(8);
+    record.overlay = rng.pick(&OVERLAYS);
+    if rng.one_in(2) {
+        (record.mode, record.row) = (LARGE, 0);
+        record.column = rng.below(LINE + 1) as u8;
+        let end = rng.below(LINE + 1);
+        for (place, code) in record.line.iter_mut().enumerate() {
+            *code = if place < end {
+                rng.between(0x20, 0xFF) as u8
+            } else {
+                0x20
+            };
+        }
+    }
+    record
+}
+
+/// What a row's answer says of one of its columns.
+fn column_of_row(owner: &Owner, column: u8) -> Column {
+    let (at, cell) = (usize::from(column), usize::from(column) / 6);
+    let in_label = |label: &Label, cell: usize| match cell < usize::from(label.length) {
+        true => label.codes[cell],
+        false => 0,
+    };
+    match *owner {
+        Owner::Nothing => Column::Nothing,
+        Owner::IconBar(bar) => Column::IconBar(bar),
+        Owner::Text { row, codes } => Column::Text {
+            row,
+            code: codes[cell],
+        },
+        Owner::Picture { row, columns } => Column::Picture {
+            row,
+            dots: columns[at],
+        },
+        Owner::Small { codes } => Column::Small { code: codes[cell] },
+        Owner::Big { half, codes } => Column::Big {
+            half,
+            code: codes[at / 12],
+        },
+        // Two labels of 42 columns leave twelve between them.
+        Owner::SoftKeys { w, .. } | Owner::PictureWithRocker { w, .. }
+            if at >= 42 && at < 96 - 42 =>
+        {
+            Column::Rocker { w }
+        }
+        Owner::PictureWithRocker { row, columns, .. } => Column::Picture {
+            row,
+            dots: columns[at],
+        },
+        Owner::SoftKeys { left, .. } if at < 42 => Column::Left {
+            cell: cell as u8,
+            code: in_label(&left, cell),
+        },
+        Owner::SoftKeys { right, .. } => Column::Right {
+            cell: cell as u8 - 9,
+            code: in_label(&right, cell - 9),
+        },
+    }
+}
+
+/// The row question and the column question agree at every column; and a
+/// display that is off shows nothing.
+pub fn rows_and_columns(seed: u64) -> Result<(), String> {
+    let mut rng = Rng::new(seed ^ 0xC01);
+    let record = record_to_see(&mut rng, seed);
+    for phase in PHASES {
+        for row in 0..7 {
+            let (_, owner) = seen::row(&record, row, phase);
+            if !record.display && owner != Owner::Nothing {
+                return Err(format!("seed {seed}: row {row} of a display off"));
+            }
+            if let Owner::PictureWithRocker { columns, .. } = &owner {
+                if columns[42..54] != [0; 12] {
+                    return Err(format!("seed {seed}: columns under the rocker"));
+                }
+            }
+            for column in 0..96 {
+                let there = seen::column(&record, row, column, phase);
+                if there != (0, column_of_row(&owner, column)) {
+                    return Err(format!("seed {seed}: row {row} column {column}: {there:?}"));
+                }
+            }
+            if seen::column(&record, row, 96, phase) != (4, Column::Nothing) {
+                return Err(format!("seed {seed}: column 96"));
+            }
+        }
+        if seen::column(&record, 7, rng.below(96) as u8, phase) != (4, Column::Nothing) {
+            return Err(format!("seed {seed}: row 7"));
+        }
+    }
+    Ok(())
+}
+
+/// The cursor is no part of what is seen, but for the column in mode 10: up
+/// to the last code of the line it changes nothing.
+pub fn cursor_unseen(seed: u64) -> Result<(), String> {
+    let mut rng = Rng::new(seed ^ 0xC02);
+    let record = record_to_see(&mut rng, seed);
+    let mut other = record.clone();
+    other.shown = !other.shown;
+    if other.mode == LARGE {
+        other.column = 0;
+        let last = seen::codes_in_line(&other);
+        if usize::from(record.column) <= last {
+            other.column = rng.below(last + 1) as u8;
+        } else {
+            other.column = record.column;
+        }
+    } else {
+        other.row = rng.below(rows(other.mode).unwrap_or(1).into()) as u8;
+        other.column = rng.below(17) as u8;
+    }
+    for row in 0..7 {
+        if seen::row(&record, row, Phase::Lit) != seen::row(&other, row, Phase::Lit) {
+            return Err(format!("seed {seed}: row {row} shows the cursor"));
+        }
+    }
+    Ok(())
+}
+
+/// The large line as the note has it: eight big characters, and with each
+/// one more the first of them is shifted to the small ones, until 24 stand.
+pub fn shifting(seed: u64) -> Result<(), String> {
+    let mut rng = Rng::new(seed ^ 0x5F7);
+    let mut record = random_record(seed);
+    record.frame = NO_FRAME;
+    let feed = |record: &mut Record, bytes: &[u8]| {
+        stream::call(record, bytes, &mut [0; 4]);
+    };
+    feed(&mut record, b"\x1B&#\r\x1BIDE\r\x1BID10\r");
+    let seen_now = |record: &Record| {
+        [1, 2, 3].map(|row| match seen::row(record, row, Phase::Lit) {
+            (0, Owner::Small { codes }) => codes.to_vec(),
+            (0, Owner::Big { half, codes }) if (half == Half::Upper) == (row == 2) => {
+                codes.to_vec()
+            }
+            _ => vec![],
+        })
+    };
+    let (mut small, mut big): (Vec<u8>, Vec<u8>) = (vec![], vec![]);
+    let mut all = vec![];
+    for _ in 0..rng.below(31) {
+        let code = rng.pick(&[0x20, b'1', b'z', 0xFF, 0x80]);
+        feed(&mut record, &[code]);
+        if all.len() < 24 {
+            all.push(code);
+            big.push(code);
+            if big.len() > 8 {
+                small.push(big.remove(0));
+            }
+        }
+        let pad = |codes: &[u8], count: usize| {
+            let mut codes = codes.to_vec();
+            codes.resize(count, 0x20);
+            codes
+        };
+        let wanted = [pad(&small, 16), pad(&big, 8), pad(&big, 8)];
+        if seen_now(&record) != wanted {
+            return Err(format!("seed {seed}: after {all:?}"));
+        }
+    }
+    // Other modes keep the line; what is seen of it again ends with its last
+    // code that is no blank.
+    let line = record.line;
+    feed(&mut record, b"\x1BID0\r\x1BID17\rtext\x1BID10\r");
+    let end = all
+        .iter()
+        .rposition(|&code| code != 0x20)
+        .map_or(0, |last| last + 1);
+    let mut again = record.clone();
+    again.line.fill(0x20);
+    feed(&mut again, &all[..end]);
+    if record.line != line || seen_now(&record) != seen_now(&again) {
+        return Err(format!("seed {seed}: the line isn't kept"));
+    }
+    Ok(())
+}
+
 type Check = fn(u64) -> Result<(), String>;
 
 /// All checks that take a seed.
-pub const CHECKS: [(&str, Check); 9] = [
+pub const CHECKS: [(&str, Check); 12] = [
     ("cutting a stream elsewhere changes nothing", cutting),
     ("the parts are the stream", parts_join),
     ("a frame has one reading", one_reading),
@@ -398,4 +580,7 @@ pub const CHECKS: [(&str, Check); 9] = [
     ("a command has one spelling", one_spelling),
     ("Time2 changes no stream", time2_alone),
     ("the phase changes the flashing letter alone", phases),
+    ("row and column questions agree", rows_and_columns),
+    ("the cursor is not seen", cursor_unseen),
+    ("the large line shifts as the note says", shifting),
 ];

@@ -8,11 +8,13 @@ use crate::record::*;
 
 pub type Rule = (u16, fn(&Record) -> bool);
 
-pub const RULES: [Rule; 31] = [
+pub const RULES: [Rule; 32] = [
     (1, |r| rows(r.mode).is_some()),
-    (2, |r| [0, 11, 12, 13].contains(&r.overlay)),
+    (2, |r| matches!(r.overlay, 0 | 11..=18)),
     (4, |r| rows(r.mode).is_none_or(|rows| r.row < rows)),
-    (5, |r| r.column <= 16),
+    (5, |r| {
+        rows(r.mode).is_none() || usize::from(r.column) <= capacity(r.mode)
+    }),
     (6, |r| r.text.iter().all(|&code| code >= 0x20)),
     (7, |r| r.left.length <= 7),
     (8, |r| label_codes(&r.left)),
@@ -55,6 +57,7 @@ pub const RULES: [Rule; 31] = [
     }),
     (35, |r| frame_bytes_used(r)),
     (35, |r| frame_bytes_unused(r)),
+    (36, |r| r.line.iter().all(|&code| code >= 0x20)),
 ];
 
 pub fn time1(n: u16) -> bool {

@@ -13,6 +13,11 @@ pub const FRAME: usize = 250;
 pub const COLUMNS: usize = 96;
 pub const CODES: usize = 16;
 pub const LABEL: usize = 7;
+/// Codes of the large line: 16 of normal size and 8 big ones (note 3.5.29).
+pub const BIG: usize = 8;
+pub const LINE: usize = CODES + BIG;
+/// The text mode that shows the large line.
+pub const LARGE: u8 = 10;
 
 #[derive(Clone, Copy, PartialEq, Eq, Debug)]
 pub struct Label {
@@ -71,6 +76,7 @@ pub struct Record {
     pub row: u8,
     pub column: u8,
     pub text: [u8; 5 * CODES],
+    pub line: [u8; LINE],
     pub left: Label,
     pub right: Label,
     pub picture: [u8; 7 * COLUMNS],
@@ -112,6 +118,7 @@ pub fn power_on() -> Record {
         row: 0,
         column: 0,
         text: [0x20; 5 * CODES],
+        line: [0x20; LINE],
         left: NO_LABEL,
         right: NO_LABEL,
         picture: [0; 7 * COLUMNS],
@@ -152,17 +159,36 @@ pub fn label_of(codes: &[u8]) -> Label {
     label
 }
 
-/// Text rows of a text mode; none where the number is no text mode.
+/// Rows of a text mode that the cursor may stand in; none where the number is
+/// no text mode.
 pub fn rows(mode: u8) -> Option<u8> {
     match mode {
         0 | 1 => Some(4),
         5 | 6 => Some(5),
+        LARGE => Some(1),
         _ => None,
     }
 }
 
+/// Rows that a cursor frame can name: those of the text mode, but none in the
+/// mode of the large line.
+pub fn rows_to_name(mode: u8) -> u8 {
+    match mode {
+        LARGE => 0,
+        _ => rows(mode).unwrap_or(0),
+    }
+}
+
+/// The codes of a row in a text mode: its last column is one past them.
+pub fn capacity(mode: u8) -> usize {
+    match mode {
+        LARGE => LINE,
+        _ => CODES,
+    }
+}
+
 /// The fields by number, as a script names them.
-pub const FIELD_NAMES: [&str; 36] = [
+pub const FIELD_NAMES: [&str; 37] = [
     "display",
     "text mode",
     "overlay",
@@ -199,6 +225,7 @@ pub const FIELD_NAMES: [&str; 36] = [
     "frame state",
     "frame length",
     "frame bytes",
+    "large line",
 ];
 
 /// How many places a field has.
@@ -208,6 +235,7 @@ pub fn places(field: u16) -> usize {
         8 | 10 => LABEL,
         11 => 7 * COLUMNS,
         35 => FRAME,
+        36 => LINE,
         _ => 1,
     }
 }
@@ -255,6 +283,7 @@ fn spot(record: &mut Record, field: u16, place: usize) -> Option<Spot<'_>> {
         33 => Byte(&mut record.frame.state),
         34 => Byte(&mut record.frame.length),
         35 => Byte(&mut record.frame.bytes[place]),
+        36 => Byte(&mut record.line[place]),
         _ => return None,
     })
 }

@@ -3,7 +3,7 @@
 use crate::grammar::{Command, SHAPES};
 use crate::keys;
 use crate::record::*;
-use crate::seen::{self, Owner, Phase, PHASES};
+use crate::seen::{self, Bar, Column, Half, Owner, Phase, PHASES};
 use crate::{effect, ranges, stream, writers};
 
 /// Limits of a line.
@@ -14,7 +14,7 @@ pub const LENT: usize = 300;
 /// Commands that the command writer knows.
 pub const COMMANDS: u16 = 27;
 /// Fields that can be set.
-const FIELDS: u16 = 36;
+pub const FIELDS: u16 = FIELD_NAMES.len() as u16;
 
 #[derive(Clone, PartialEq, Eq, Debug)]
 pub enum Call {
@@ -39,6 +39,11 @@ pub enum Call {
     Thin,
     Row {
         row: u8,
+        phase: Phase,
+    },
+    Column {
+        row: u8,
+        column: u8,
         phase: Phase,
     },
     Sms {
@@ -79,6 +84,7 @@ pub enum Answer {
     Number(u8),
     Thin(u8, Backlight),
     Row(u8, Owner),
+    Column(u8, Column),
     Sms(u8, u8),
     Volume(u8, u8, u8),
     Written {
@@ -146,6 +152,9 @@ fn with_bytes(letter: u8, bytes: &[u8]) -> Option<Call> {
             })
         }
         (b'Q', &[row, last]) => phase(last).map(|phase| Call::Row { row, phase }),
+        (b'U', &[row, column, last]) => {
+            phase(last).map(|phase| Call::Column { row, column, phase })
+        }
         (_, &[high, low, ref rest @ ..]) => {
             let room = u16::from_be_bytes([high, low]);
             (room <= ROOM).then(|| with_room(letter, room, rest))?
@@ -231,6 +240,7 @@ pub fn line(call: &Call) -> Vec<u8> {
             [&room.to_be_bytes()[..], &count.to_be_bytes(), &ticks, edges].concat()
         }
         Call::Row { row, phase } => vec![*row, *phase as u8],
+        Call::Column { row, column, phase } => vec![*row, *column, *phase as u8],
         Call::Sms { phase } => vec![*phase as u8],
         Call::Command {
             room,
@@ -336,6 +346,10 @@ pub fn perform(record: &mut Record, call: &Call) -> Answer {
             let (number, owner) = seen::row(record, *row, *phase);
             Answer::Row(number, owner)
         }
+        Call::Column { row, column, phase } => {
+            let (number, column) = seen::column(record, *row, *column, *phase);
+            Answer::Column(number, column)
+        }
         Call::Sms { phase } => {
             let (number, panel) = seen::sms(record, *phase);
             Answer::Sms(number, panel)
@@ -373,7 +387,7 @@ fn put(out: &mut Vec<u8>, word: &str, bytes: &[u8]) {
     out.push(LF);
 }
 
-/// The record in its eleven lines.
+/// The record in its twelve lines.
 pub fn print_record(out: &mut Vec<u8>, record: &Record) {
     let bit = u8::from;
     let screen = [
@@ -411,6 +425,7 @@ pub fn print_record(out: &mut Vec<u8>, record: &Record) {
     put(out, "frame", &[record.frame.state, record.frame.length]);
     put(out, "bytes", &record.frame.bytes);
     put(out, "text", &record.text);
+    put(out, "line", &record.line);
     put(out, "picture", &record.picture);
 }
 
@@ -426,16 +441,27 @@ fn put_light(out: &mut Vec<u8>, light: &Backlight) {
     put(out, "backlight", &numbers);
 }
 
+fn put_bar(out: &mut Vec<u8>, bar: &Bar) {
+    let (volume, level) = bar.volume;
+    put(
+        out,
+        "icon bar",
+        &[bar.f, bar.p, bar.r, bar.sms, volume, level],
+    );
+}
+
+/// 0 the upper half, 1 the lower one.
+fn half_number(half: Half) -> u8 {
+    match half {
+        Half::Upper => 0,
+        Half::Lower => 1,
+    }
+}
+
 fn put_owner(out: &mut Vec<u8>, owner: &Owner) {
     match owner {
         Owner::Nothing => (),
-        Owner::IconBar {
-            f,
-            p,
-            r,
-            sms,
-            volume: (volume, level),
-        } => put(out, "icon bar", &[*f, *p, *r, *sms, *volume, *level]),
+        Owner::IconBar(bar) => put_bar(out, bar),
         Owner::Text { row, codes } => {
             put(out, "row", &[2, *row]);
             put(out, "cells", codes);
@@ -444,10 +470,46 @@ fn put_owner(out: &mut Vec<u8>, owner: &Owner) {
             put(out, "row", &[3, *row]);
             put(out, "cells", columns);
         }
+        Owner::Small { codes } => {
+            put(out, "row", &[4, 0]);
+            put(out, "cells", codes);
+        }
+        Owner::Big { half, codes } => {
+            put(out, "row", &[5, half_number(*half)]);
+            put(out, "cells", codes);
+        }
+        Owner::PictureWithRocker { row, columns, w } => {
+            put(out, "row", &[6, *row]);
+            put(out, "cells", columns);
+            put(out, "rocker", &[*w]);
+        }
         Owner::SoftKeys { left, right, w } => {
             put(out, "soft keys", &[*w]);
             put_labels(out, left, right);
         }
+    }
+}
+
+/// A column as an owner, where in it, and the value there.
+pub fn cell(column: &Column) -> Option<[u8; 3]> {
+    Some(match *column {
+        Column::Nothing | Column::IconBar(_) => return None,
+        Column::Text { row, code } => [2, row, code],
+        Column::Picture { row, dots } => [3, row, dots],
+        Column::Small { code } => [4, 0, code],
+        Column::Big { half, code } => [5, half_number(half), code],
+        Column::Left { cell, code } => [6, cell, code],
+        Column::Rocker { w } => [7, 0, w],
+        Column::Right { cell, code } => [8, cell, code],
+    })
+}
+
+fn put_column(out: &mut Vec<u8>, column: &Column) {
+    if let Column::IconBar(bar) = column {
+        put_bar(out, bar);
+    }
+    if let Some(cell) = cell(column) {
+        put(out, "cell", &cell);
     }
 }
 
@@ -477,6 +539,7 @@ pub fn letter(call: &Call) -> char {
         Call::Second => 'C',
         Call::Thin => 'B',
         Call::Row { .. } => 'Q',
+        Call::Column { .. } => 'U',
         Call::Sms { .. } => 'M',
         Call::Volume => 'V',
         Call::Command { .. } => 'W',
@@ -506,6 +569,10 @@ pub fn print(out: &mut Vec<u8>, call: &Call, answer: &Answer, record: &Record) {
         Answer::Row(number, owner) => {
             put(out, &letter, &[*number]);
             put_owner(out, owner);
+        }
+        Answer::Column(number, column) => {
+            put(out, &letter, &[*number]);
+            put_column(out, column);
         }
         Answer::Sms(number, panel) => put(out, &letter, &[*number, *panel]),
         Answer::Volume(number, panel, level) => put(out, &letter, &[*number, *panel, *level]),

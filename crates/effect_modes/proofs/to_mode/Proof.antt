@@ -1,4 +1,4 @@
--- 11 to 13 are overlays, the other numbers text modes. Assumes nothing.
+-- 11 to 18 are overlays, the other numbers text modes. Assumes nothing.
 use native.Mathlib.Omega.{arith}
 use mathlib.Core.Logic.{⊎-elim}
 use mathlib.Core.Path.{sym}

@@ -13,7 +13,7 @@ use Rattle.measure.proofs.measure_range_checks.Statement.{statement}
 use Rattle.measure.proofs.measure_range_checks.Tie as tie
 
 abbrev Inv-loop : tie.InvT-loop
-Inv-loop s r₀ good₀ i₀ r good i = (i ≤ length s) × (good ≤ i) × (length (r .text) ≡ 80) × (good + goodOnes r (drop i s) ≡ goodOnes powerOn s)
+Inv-loop s r₀ good₀ i₀ r good i = (i ≤ length s) × (good ≤ i) × (length (r .text) ≡ 104) × (good + goodOnes r (drop i s) ≡ goodOnes powerOn s)
 
 abbrev μ-loop : tie.MeasureT-loop
 μ-loop s r₀ good₀ i₀ r good i = length s - i

@@ -15,7 +15,7 @@ returns c = search needs
 
 returns-2 : tie.Need-returns-2
 returns-2 c =
-    let full : length (c .before .args .text) ≡ 80 = search needs in
+    let full : length (c .before .args .text) ≡ 104 = search needs in
     sym (set-out _ _ _ (omega arith))
 
 pub text-with-spec : {M : Type 1} → statement M

@@ -15,8 +15,8 @@ returns : tie.Need-returns
 unfolding textInRange
 returns c =
     let text = c .before .before .args .text .now in
-    let full : length text ≡ 80 = search needs in
-    rw (eq-eqb _ _ full) (c .scan .ensures ∙ used-whole isCode 80 text full)
+    let full : length text ≡ 104 = search needs in
+    rw (eq-eqb _ _ full) (c .scan .ensures ∙ used-whole isCode 104 text full)
 
 pub text-in-range-spec : {M : Type 1} → statement M
 text-in-range-spec = tie.close (tie.spec scan-requires returns)

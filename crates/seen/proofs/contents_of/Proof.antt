@@ -1,6 +1,7 @@
 -- `seen::contents_of` keeps its promise. Assumes nothing.
 use borrow.Author.Tests.{ltb-true}
 use borrow.Author.Needs.{needs}
+use Rattle.seen.specs.LineLaws.{column-fits}
 use Rattle.seen.specs.Rows.{contents}
 use Rattle.seen.proofs.contents_of.Statement.{statement}
 use Rattle.seen.proofs.contents_of.Tie as tie
@@ -21,19 +22,37 @@ enum-known-owner : tie.Need-enum-known-owner
 enum-known-owner c = search needs
 
 text-row-requires : tie.Need-text-row-requires
-text-row-requires c κs = ltb-true _ _ (rw (c .before .before .before .owner .given .1) at (c .before .before .before .before .before .before .pre))
+text-row-requires c κs = ltb-true _ _ (rw (c .before .before .before .owner .given .1) at (c .before .before .before .before .before .before .pre .0))
 
 enum-known-owner-2 : tie.Need-enum-known-owner-2
 enum-known-owner-2 c = search needs
 
 picture-row-requires : tie.Need-picture-row-requires
-picture-row-requires c κs = ltb-true _ _ (rw (c .before .before .before .owner2 .given .1) at (c .before .before .before .before .before .before .pre))
+picture-row-requires c κs = ltb-true _ _ (rw (c .before .before .before .owner2 .given .1) at (c .before .before .before .before .before .before .pre .0))
 
 enum-told-3 : tie.Need-enum-told-3
 enum-told-3 c = search needs
 
 labels-of-requires : tie.Need-labels-of-requires
 labels-of-requires c κs = search needs
+
+enum-told-4 : tie.Need-enum-told-4
+enum-told-4 c = search needs
+
+small-line-requires : tie.Need-small-line-requires
+small-line-requires c κs = column-fits (c .before .before .before .before .before .args .t1) (c .before .before .before .before .before .pre .1)
+
+enum-known-owner-3 : tie.Need-enum-known-owner-3
+enum-known-owner-3 c = search needs
+
+big-line-requires : tie.Need-big-line-requires
+big-line-requires c κs = column-fits (c .before .before .before .before .before .before .args .t1) (c .before .before .before .before .before .before .pre .1)
+
+enum-known-owner-4 : tie.Need-enum-known-owner-4
+enum-known-owner-4 c = search needs
+
+picture-around-rocker-requires : tie.Need-picture-around-rocker-requires
+picture-around-rocker-requires c κs = ltb-true _ _ (rw (c .before .before .before .owner4 .given .1) at (c .before .before .before .before .before .before .pre .0))
 
 returns : tie.Need-returns
 unfolding contents
@@ -55,6 +74,18 @@ returns-5 : tie.Need-returns-5
 unfolding contents
 returns-5 c = rw (c .before .before .before .before .before .enum-told3 .given .1, c .before .before .before .before .before .before .before .nothing-seen .ensures, c .before .before .before .labels-of .ensures)
 
+returns-6 : tie.Need-returns-6
+unfolding contents
+returns-6 c = rw (c .before .before .before .before .before .before .enum-told4 .given .1, c .before .before .before .before .before .before .before .before .nothing-seen .ensures, c .before .before .before .small-line .ensures)
+
+returns-7 : tie.Need-returns-7
+unfolding contents
+returns-7 c = rw (c .before .before .before .before .before .before .before .owner3 .given .1, c .before .before .before .before .before .before .before .before .before .nothing-seen .ensures, c .before .before .before .big-line .ensures)
+
+returns-8 : tie.Need-returns-8
+unfolding contents
+returns-8 c = rw (c .before .before .before .before .before .before .before .before .owner4 .given .1, c .before .before .before .before .before .before .before .before .before .before .nothing-seen .ensures, c .before .before .before .before .picture-around-rocker .ensures)
+
 pub contents-of-spec : {M : Type 1} → statement M
 contents-of-spec =
     tie.close
@@ -69,8 +100,17 @@ contents-of-spec =
     picture-row-requires
     enum-told-3
     labels-of-requires
+    enum-told-4
+    small-line-requires
+    enum-known-owner-3
+    big-line-requires
+    enum-known-owner-4
+    picture-around-rocker-requires
     returns
     returns-2
     returns-3
     returns-4
-    returns-5)
+    returns-5
+    returns-6
+    returns-7
+    returns-8)

@@ -5,8 +5,9 @@ use native.Mathlib.Numerals.{add-one}
 use mathlib.Core.Path.{_≡_, refl, ap, sym, _∙_}
 use mathlib.Core.List.{List}
 use lib.ListN.{length, take, drop, set, getD, length-drop, length-set}
-use lib.Seq.{slice, take-all, take-add, take-suc, take-suc-set, drop-at, getD-drop, length-take-le}
+use lib.Seq.{slice, take-all, take-suc, take-suc-set, getD-drop}
 use borrow.Author.Needs.{needs}
+use Rattle.seen.specs.LineLaws.{from-place}
 use Rattle.seen.proofs.fill.Statement.{statement}
 use Rattle.seen.proofs.fill.Tie as tie
 
@@ -23,7 +24,7 @@ full : (to cells : List ℕ) (at i n : ℕ) → at ≤ length cells → length t
 full to cells at i n k m h l e =
     let there : i ≡ n = omega arith in
     sym (take-all i to h) ∙ e ∙ ap (λ (j : ℕ). take j (drop at cells)) there
-    ∙ sym (rw take-add (drop-at (take at cells) (take n (drop at cells)) at (length-take-le at cells k)))
+    ∙ sym (from-place at n cells k)
 
 abbrev Inv-loop : tie.InvT-loop
 Inv-loop to₀ cells at i₀ to i = (i ≤ length to₀) × (length to ≡ length to₀) × (take i to ≡ take i (drop at cells))

@@ -1,8 +1,9 @@
 -- `seen::row_seen` keeps its promise. Assumes nothing.
 use native.Mathlib.Omega.{arith}
-use borrow.Author.Tests.{lt-ltb, le-ltb}
+use mathlib.Core.Path.{sym, _∙_}
+use borrow.Author.Tests.{lt-ltb, le-ltb, not-false}
 use borrow.Author.Needs.{needs}
-use Rattle.seen.specs.Laws.{owner-placed}
+use Rattle.seen.specs.Placed.{row-owner-placed}
 use Rattle.seen.specs.Rows.{rowSeen}
 use Rattle.seen.proofs.row_seen.Statement.{statement}
 use Rattle.seen.proofs.row_seen.Tie as tie
@@ -26,19 +27,19 @@ returns-2 c =
     let row = c .before .before .before .before .args .row in
     rw (← c .before .before .before .in-range .ensures, c .before .before .if1 .left, lt-ltb 6 row (omega (arith, c .before .if2 .taken)), c .nothing-seen2 .ensures)
 
-owner-of-requires : tie.Need-owner-of-requires
-owner-of-requires c κs = search needs
+owner-of-row-requires : tie.Need-owner-of-row-requires
+owner-of-row-requires c κs = search needs
 
 contents-of-requires : tie.Need-contents-of-requires
 contents-of-requires c κs =
     let told = c .before .before .before .before .args in
-    rw (c .owner-of .ensures) (owner-placed (told .r .settings .screen) (told .row) 0 (omega (arith, c .before .if2 .left)))
+    (rw (c .owner-of-row .ensures) (row-owner-placed (told .r .settings .screen) (told .row) (omega (arith, c .before .if2 .left))), sym (c .before .before .before .in-range .ensures) ∙ not-false (c .before .before .before .in-range .result) (c .before .before .if1 .left))
 
 returns-3 : tie.Need-returns-3
 unfolding rowSeen
 returns-3 c =
     let row = c .before .before .before .before .before .args .row in
-    rw (← c .before .before .before .before .in-range .ensures, c .before .before .before .if1 .left, le-ltb 6 row (omega (arith, c .before .before .if2 .left)), c .contents-of .ensures, c .before .owner-of .ensures)
+    rw (← c .before .before .before .before .in-range .ensures, c .before .before .before .if1 .left, le-ltb 6 row (omega (arith, c .before .before .if2 .left)), c .contents-of .ensures, c .before .owner-of-row .ensures)
 
 pub row-seen-spec : {M : Type 1} → statement M
 row-seen-spec =
@@ -49,6 +50,6 @@ row-seen-spec =
     returns
     nothing-seen-requires-2
     returns-2
-    owner-of-requires
+    owner-of-row-requires
     contents-of-requires
     returns-3)

@@ -1,17 +1,14 @@
--- A line of a picture row reads its 96 columns in pairs. Assumes nothing.
+-- A part of a line of a picture row reads its columns in pairs. Assumes nothing.
 use Prim.Native.Nat.{_-_, _≤_}
 use borrow.Author.Needs.{needs}
-use Rattle.show_screen.proofs.dots_line.Statement.{statement}
-use Rattle.show_screen.proofs.dots_line.Tie as tie
+use Rattle.show_screen.proofs.dots.Statement.{statement}
+use Rattle.show_screen.proofs.dots.Tie as tie
 
 abbrev Inv-loop : tie.InvT-loop
-Inv-loop columns lower i₀ i = i ≤ 48
+Inv-loop columns from to lower i₀ i = i ≤ to
 
 abbrev μ-loop : tie.MeasureT-loop
-μ-loop columns lower i₀ i = 48 - i
-
-side-requires : tie.Need-side-requires Inv-loop μ-loop
-side-requires c κs = search needs
+μ-loop columns from to lower i₀ i = to - i
 
 loop-holds : tie.Need-loop-holds Inv-loop μ-loop
 loop-holds c = search needs
@@ -49,19 +46,15 @@ loop-less c = search needs
 loop-again : tie.Need-loop-again Inv-loop μ-loop
 loop-again c = search needs
 
-end-of-line-requires : tie.Need-end-of-line-requires Inv-loop μ-loop
-end-of-line-requires c κs = search needs
-
 returns : tie.Need-returns Inv-loop μ-loop
 returns c = search needs
 
-pub dots-line-spec : {M : Type 1} → statement M
-dots-line-spec =
+pub dots-spec : {M : Type 1} → statement M
+dots-spec =
     tie.close
     (tie.spec
     Inv-loop
     μ-loop
-    side-requires
     loop-holds
     mul-half
     element-copy-out-half
@@ -74,5 +67,4 @@ dots-line-spec =
     add-i
     loop-less
     loop-again
-    end-of-line-requires
     returns)
