@@ -76,6 +76,19 @@ struct Display {
     times: [u8; 2],
     buzzer: u8,
     backlight: Backlight,
+    contrast: u8,
+    on_hook: bool,
+    inverse: [bool; 5],
+}
+
+// What a frame is answered.
+#[derive(Clone, Copy, PartialEq)]
+enum Reply {
+    Silence,
+    Bad,
+    Contrast,
+    Hook,
+    Version,
 }
 
 pub struct Handset {
@@ -240,6 +253,12 @@ impl Display {
                 }
             }
             b'E' => self.set_light(n),
+            b'A' => {
+                if (1..=20).contains(&n) {
+                    self.contrast = n as u8;
+                }
+            }
+            b'Z' => self.mark(n),
             _ => return false,
         }
         true
@@ -264,8 +283,62 @@ impl Display {
         true
     }
 
+    // A question changes nothing.
+    fn obey(&mut self, frame: &[u8]) -> Reply {
+        match frame {
+            b"IA" => Reply::Contrast,
+            b"IH" => Reply::Hook,
+            b"&V" => Reply::Version,
+            _ if self.command(frame) => Reply::Silence,
+            _ => Reply::Bad,
+        }
+    }
+
+    // The whole answer behind what is written; false where it has no room.
+    fn say(&self, reply: Reply, answers: &mut [u8], written: &mut usize) -> bool {
+        let mut contrast = *b"\x1BIA000";
+        let answer: &[u8] = match reply {
+            Reply::Silence => b"",
+            Reply::Bad => b"?",
+            Reply::Contrast if self.contrast < 10 => {
+                contrast[3] = b'0' + self.contrast;
+                contrast[4] = b'\r';
+                &contrast[..5]
+            }
+            Reply::Contrast => {
+                contrast[3] = b'0' + self.contrast / 10;
+                contrast[4] = b'0' + self.contrast % 10;
+                contrast[5] = b'\r';
+                &contrast
+            }
+            Reply::Hook if self.on_hook => b"\x1BIHH\r",
+            Reply::Hook => b"\x1BIHh\r",
+            Reply::Version => b"\x1B&VHA209 V.01.01 11.07.2006\r\n",
+        };
+        let Some(places) = answers.get_mut(*written..*written + answer.len()) else { return false };
+        places.copy_from_slice(answer);
+        *written += answer.len();
+        true
+    }
+
+    fn clear_line(&mut self) {
+        let start = self.row_start();
+        let end = start + self.row_end();
+        self.text[start + self.column..end].fill(0x20);
+    }
+
+    fn mark(&mut self, n: u16) {
+        let rows = if self.mode == LARGE { 0 } else { self.rows() };
+        if n as usize <= rows {
+            self.inverse = [false; 5];
+            if n > 0 {
+                self.inverse[n as usize - 1] = true;
+            }
+        }
+    }
+
     // Whether the frame is good; a number out of range is passed over.
-    fn obey(&mut self, frame: &[u8]) -> bool {
+    fn command(&mut self, frame: &[u8]) -> bool {
         match frame {
             [b'[', numbers @ .., b'H'] => match pair(numbers) {
                 None => false,
@@ -277,6 +350,10 @@ impl Display {
                     true
                 }
             },
+            b"[K" => {
+                self.clear_line();
+                true
+            }
             [b'&', b'#'] => {
                 self.text = [0x20; 104];
                 self.row = 0;
@@ -351,6 +428,8 @@ impl Display {
             && (4..=50).contains(&self.times[0])
             && (self.times[1] == 0 || (4..=50).contains(&self.times[1]))
             && (self.backlight.mode <= 2 && self.backlight.duration >= 1 && (self.backlight.left == 0 || self.backlight.mode == 2))
+            && (1..=20).contains(&self.contrast)
+            && self.inverse.iter().filter(|&&mark| mark).count() <= 1
     }
 }
 
@@ -373,6 +452,9 @@ impl Handset {
                 times: [12, 0],
                 buzzer: 0,
                 backlight: Backlight { mode: 0, duration: 30, left: 0, keypad: false },
+                contrast: 10,
+                on_hook: true,
+                inverse: [false; 5],
             },
             held: Held { down: false, key: 0, tick: 0, long: false },
             reading: Reading::Text,
@@ -422,11 +504,10 @@ impl Handset {
             return true;
         }
         if b == ESCAPE || b == CARRIAGE_RETURN {
-            let good = b == CARRIAGE_RETURN && self.reading == Reading::Frame && self.display.obey(&self.frame[..self.len]);
-            if !good {
-                let Some(place) = answers.get_mut(*written) else { return false };
-                *place = b'?';
-                *written += 1;
+            let whole = b == CARRIAGE_RETURN && self.reading == Reading::Frame;
+            let reply = if whole { self.display.obey(&self.frame[..self.len]) } else { Reply::Bad };
+            if reply != Reply::Silence && !self.display.say(reply, answers, written) {
+                return false;
             }
             self.reading = if b == ESCAPE { Reading::Frame } else { Reading::Text };
             self.len = 0;
@@ -455,7 +536,7 @@ impl Handset {
                 let rest = &bytes[used + 1..];
                 let end = rest.iter().take(LIMIT + 1).position(|&b| b == CARRIAGE_RETURN || b == ESCAPE);
                 if let Some(end) = end {
-                    if rest[end] == CARRIAGE_RETURN && self.display.obey(&rest[..end]) {
+                    if rest[end] == CARRIAGE_RETURN && self.display.command(&rest[..end]) {
                         used += end + 2;
                         continue;
                     }

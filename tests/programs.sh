@@ -227,6 +227,12 @@ for count in 1 63 64 65 4095 100000; do
     yes $'\eQ\r' | head -n $count | tr -d '\n' | program list_screen | head -n 1 |
         says "list_screen: $count bad frames" "REPLIES $count"
 done
+printf '\eIA\r\e&V\r\eQ\r\eIH\r' | program list_screen | head -n 1 |
+    says "list_screen: three questions and a bad frame are four answers, of any length" "REPLIES 4"
+for count in 1 2 3 1000; do
+    yes $'\e&V\r' | head -n $count | tr -d '\n' | program list_screen | head -n 1 |
+        says "list_screen: the version asked $count times" "REPLIES $count"
+done
 head -c 50001 /dev/zero | tr '\0' '\033' | program list_screen | head -n 1 |
     says "list_screen: 50000 frames abandoned one after the other, the last still open" "REPLIES 50000"
 { yes $'\eQ\r' | head -n 5000 | tr -d '\n'; cat $stream; } | program list_screen | tail -n +2 |
@@ -299,13 +305,14 @@ refused() { # LINE REASON: the second of three lines is named with its number, a
     same "write_frame writes nothing of '${1:0:24}'" "$work/others" <"$work/out"
 }
 refused 'lefty Keep' 'no such command; the line help lists them'
-for line in 'mode' 'mode five' 'mode 5 6' 'icon P 0001' 'icon P 05' 'private 1 2' 'light 1 2 3'; do
+refused 'ask' 'no such command; the line help lists them'
+for line in 'mode' 'mode five' 'mode 5 6' 'icon P 0001' 'icon P 05' 'private 1 2' 'light 1 2 3' 'contrast' 'inverse 1 2'; do
     refused "$line" 'one number of one to three digits is wanted, and no leading zero'
 done
 for line in 'at 1' 'at 1 2 3' 'at a 2' 'times'; do
     refused "$line" 'two numbers of one to three digits are wanted, and no leading zero'
 done
-for line in 'clear 5' 'display on off' 'light auto keep it'; do
+for line in 'clear 5' 'clear line 5' 'display on off' 'light auto keep it' 'ask hook now'; do
     refused "$line" 'nothing is wanted behind these words'
 done
 for line in 'icon p 3' 'icon Q 1' 'icon 3' 'icon'; do
@@ -331,6 +338,9 @@ refused 'times 3 4' 'out of range: times are 4-50 and 0 or 4-50'
 refused 'times 4 51' 'out of range: times are 4-50 and 0 or 4-50'
 refused 'buzzer 256' 'out of range: buzzer is 0-255'
 refused 'light 256' 'out of range: light is 0-255'
+refused 'contrast 0' 'out of range: contrast is 1-20'
+refused 'contrast 21' 'out of range: contrast is 1-20'
+refused 'inverse 6' 'out of range: inverse is 0-5'
 refused 'picture 7 00' 'out of range: picture rows are 0-6, and columns of row 6 are 00-1F'
 refused 'picture 6 20' 'out of range: picture rows are 0-6, and columns of row 6 are 00-1F'
 for line in 'picture' 'picture 0' 'picture 0 000' "picture 0 $(printf '00%.0s' {1..97})"; do
@@ -383,6 +393,8 @@ screen() { # the lines inside the frame after these words, two for each display 
 { cat examples/menu.words; echo display off; } | screen | sort -u | says "show_screen: with the display off the frame is empty" "$(printf '%48s' '')"
 printf 'mode 5\ntext First\nat 4 0\ntext Fifth\nicon F 6\n' | screen | sed -n -e 's/ *$//' -e '1p;9p' |
     says "show_screen: five text rows and no icon bar in mode 5" $' F  i  r  s  t\n F  i  f  t  h'
+printf 'mode 0\ntext Hello\ninverse 1\n' | screen | sed -n -e '3p;5p' |
+    says "show_screen: an inverse row has its codes in square brackets" "[H][e][l][l][o]$(printf '[ ]%.0s' {1..11})"$'\n'"$(printf '%48s' '')"
 printf 'mode 0\ntext no\nicon F 6\npicture 1 FF\nmode 11\nleft yes\n' | screen | sed -n -e 's/ *$//' -e '1p;3p;4p;11p' |
     says "show_screen: icon bar, picture and labels under overlay 11" $' Y▁▂▄▆█\n⡇\n⡇\n y  e  s'
 printf 'mode 13\nleft no\npicture 5 00 81\npicture 6 1F\n' | screen | sed -n -e 's/ *$//' -e '11,14p' |

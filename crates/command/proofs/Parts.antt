@@ -18,7 +18,7 @@ use Rattle.command.specs.declared.NumberPair.the-variants.{None as Neith
 use Rattle.command.specs.declared.Reading.{Reading}
 use Rattle.command.specs.declared.Reading.the-variants.{Bad, Plain}
 use Rattle.command.specs.declared.Command.the-variants.{LabelsEmpty}
-use Rattle.command.specs.Reading.{soleOf, semicolonAt, paired, twoNumbers, onlyIf, labelRead, labelled, afterI, cursorSign, positionOf, readOf}
+use Rattle.command.specs.Reading.{soleOf, semicolonAt, paired, twoNumbers, onlyIf, labelRead, labelled, afterI, cursorSign, positionOf, afterBracket, readOf}
 
 pub sole-one : (s : List ℕ) → length s ≡ 1 → getD s 0 0 ≡ soleOf s
 sole-one [] e = absurd (omega arith)
@@ -79,7 +79,7 @@ abbrev pub opened : ℕ → List ℕ → Reading
 opened a s =
     cond (eqb a (code "I")) (afterI (getD s 1 0) (drop 2 s))
     (cond (eqb a (code "&")) (cursorSign (soleOf (drop 1 s)))
-    (cond (eqb a (code "[")) (positionOf (drop 1 s)) Bad))
+    (cond (eqb a (code "[")) (afterBracket (drop 1 s)) Bad))
 
 pub read-opens : (s : List ℕ) → 2 ≤ length s → readOf s ≡ opened (getD s 0 0) s
 unfolding readOf

@@ -12,8 +12,8 @@ use Rattle.lists.specs.Padded.{padded}
 use Rattle.picture.specs.Reading.{hexOf, timesOf, items, columnsOf}
 use Rattle.command.specs.Order.{Order, plain, label, draw}
 use Rattle.command.specs.InRange.{rowsNamed, orderInRange}
-use Rattle.command.specs.Reading.{twoNumbers, withNumber, numberFrame, displayOf, lightOf, isText, labelRead, afterI, cursorSign, positionOf, readOf, opensPicture, rowAndData, drawnRow, pictureOf, orderOf}
-use Rattle.command.specs.declared.Command.the-variants.{DisplayOff, DisplayOn, Mode, CursorShown, CursorHidden, Clear, Position, LabelsEmpty, IconS, IconU, IconF, IconR, IconP, IconW, Private, Handsfree, HandsfreeOfNote, Mute, KeyTimes, Buzzer, Light, LightOn, LightAutoStart, LightAuto, DefaultDuration, KeypadSet, KeypadCleared}
+use Rattle.command.specs.Reading.{twoNumbers, withNumber, numberFrame, displayOf, lightOf, isText, labelRead, contrastOf, hookOf, afterI, cursorSign, positionOf, afterBracket, readOf, opensPicture, rowAndData, drawnRow, pictureOf, orderOf}
+use Rattle.command.specs.declared.Command.the-variants.{DisplayOff, DisplayOn, Mode, CursorShown, CursorHidden, Clear, Position, LabelsEmpty, IconS, IconU, IconF, IconR, IconP, IconW, Private, Handsfree, HandsfreeOfNote, Mute, KeyTimes, Buzzer, Light, LightOn, LightAutoStart, LightAuto, DefaultDuration, KeypadSet, KeypadCleared, Contrast, ContrastAsked, HookAsked, VersionAsked, ClearLine, Inverse}
 use Rattle.command.specs.declared.Side.the-variants.{Left, Right}
 
 -- what becomes of a frame: a '?', silence, or obeyed
@@ -62,14 +62,16 @@ table =
     ∷ (judged 4 (ascii "ID999"), passedOver (plain (Mode 999)))
     ∷ (judged 4 (ascii "ID0000"), bad)
     ∷ (judged 4 (ascii "ID1a"), bad)
-    -- &C, &D, &#; letters are not alike in both cases
+    -- &C, &D, &#, &V; letters are not alike in both cases
     ∷ (judged 4 (ascii "&C"), obeyed (plain CursorShown))
     ∷ (judged 4 (ascii "&D"), obeyed (plain CursorHidden))
     ∷ (judged 4 (ascii "&#"), obeyed (plain Clear))
     ∷ (judged 4 (ascii "&"), bad)
     ∷ (judged 4 (ascii "&c"), bad)
     ∷ (judged 4 (ascii "&CC"), bad)
-    ∷ (judged 4 (ascii "&V"), bad)
+    ∷ (judged 4 (ascii "&V"), obeyed (plain VersionAsked))
+    ∷ (judged 4 (ascii "&V0"), bad)
+    ∷ (judged 4 (ascii "&v"), bad)
     ∷ (judged 4 (ascii "&C0"), bad)
     -- [n;nH: a row of the text mode, column 0-15; none in mode 10
     ∷ (judged 4 (ascii "[0;0H"), obeyed (plain (Position 0 0)))
@@ -92,7 +94,13 @@ table =
     ∷ (judged 4 (ascii "[1;2h"), bad)
     ∷ (judged 4 (ascii "[0001;2H"), bad)
     ∷ (judged 4 (ascii "[H"), bad)
-    ∷ (judged 4 (ascii "[K"), bad)
+    -- [K
+    ∷ (judged 4 (ascii "[K"), obeyed (plain ClearLine))
+    ∷ (judged (rowsNamed 10) (ascii "[K"), obeyed (plain ClearLine))
+    ∷ (judged 4 (ascii "[KK"), bad)
+    ∷ (judged 4 (ascii "[K1"), bad)
+    ∷ (judged 4 (ascii "[1K"), bad)
+    ∷ (judged 4 (ascii "[k"), bad)
     -- IK0 is letters, no number
     ∷ (judged 4 (ascii "IK0"), obeyed (plain LabelsEmpty))
     ∷ (judged 4 (ascii "IK"), bad)
@@ -218,6 +226,34 @@ table =
     ∷ (judged 4 (ascii "IEa"), bad)
     ∷ (judged 4 (ascii "IEs"), bad)
     ∷ (judged 4 (ascii "IE0r"), bad)
+    -- IA asks; IAn: 1-20
+    ∷ (judged 4 (ascii "IA"), obeyed (plain ContrastAsked))
+    ∷ (judged 4 (ascii "IA0"), passedOver (plain (Contrast 0)))
+    ∷ (judged 4 (ascii "IA1"), obeyed (plain (Contrast 1)))
+    ∷ (judged 4 (ascii "IA10"), obeyed (plain (Contrast 10)))
+    ∷ (judged 4 (ascii "IA20"), obeyed (plain (Contrast 20)))
+    ∷ (judged 4 (ascii "IA21"), passedOver (plain (Contrast 21)))
+    ∷ (judged 4 (ascii "IA05"), bad)
+    ∷ (judged 4 (ascii "IA?"), bad)
+    ∷ (judged 4 (ascii "IAA"), bad)
+    -- IH
+    ∷ (judged 4 (ascii "IH"), obeyed (plain HookAsked))
+    ∷ (judged 4 (ascii "IHH"), bad)
+    ∷ (judged 4 (ascii "IHh"), bad)
+    ∷ (judged 4 (ascii "IH0"), bad)
+    -- IZn: 0, or a row of the text mode counted from 1; in mode 10 0 alone
+    ∷ (judged 4 (ascii "IZ0"), obeyed (plain (Inverse 0)))
+    ∷ (judged 4 (ascii "IZ1"), obeyed (plain (Inverse 1)))
+    ∷ (judged 4 (ascii "IZ4"), obeyed (plain (Inverse 4)))
+    ∷ (judged 4 (ascii "IZ5"), passedOver (plain (Inverse 5)))
+    ∷ (judged 5 (ascii "IZ4"), obeyed (plain (Inverse 4)))
+    ∷ (judged 5 (ascii "IZ5"), obeyed (plain (Inverse 5)))
+    ∷ (judged 5 (ascii "IZ6"), passedOver (plain (Inverse 6)))
+    ∷ (judged (rowsNamed 10) (ascii "IZ0"), obeyed (plain (Inverse 0)))
+    ∷ (judged (rowsNamed 10) (ascii "IZ1"), passedOver (plain (Inverse 1)))
+    ∷ (judged 4 (ascii "IZ"), bad)
+    ∷ (judged 4 (ascii "IZ01"), bad)
+    ∷ (judged 4 (ascii "IZZ"), bad)
     -- the picture frame in the note's spelling: row 0-6, one digit
     ∷ (judged 4 (ascii "Gr0,00z"), obeyed (draw 0 (0 ∷ [])))
     ∷ (judged 4 (ascii "Gr6,FFz"), obeyed (draw 6 (0xFF ∷ [])))
@@ -260,5 +296,5 @@ table =
     ∷ []
 
 pub cases : map (λ (c : Verdict × Verdict). c .0) table ≡ map (λ (c : Verdict × Verdict). c .1) table
-unfolding digitOf padded hexOf timesOf items columnsOf twoNumbers withNumber numberFrame displayOf lightOf isText labelRead afterI cursorSign positionOf readOf opensPicture rowAndData drawnRow pictureOf orderOf
+unfolding digitOf padded hexOf timesOf items columnsOf twoNumbers withNumber numberFrame displayOf lightOf isText labelRead contrastOf hookOf afterI cursorSign positionOf afterBracket readOf opensPicture rowAndData drawnRow pictureOf orderOf
 cases = refl

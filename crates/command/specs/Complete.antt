@@ -23,9 +23,9 @@ use Rattle.picture.specs.Reading.{columnsIn}
 use Rattle.picture.specs.ReadLaws as drawing
 use Rattle.command.specs.Order.{Order, plain, label, draw}
 use Rattle.command.specs.Grammar.{end, signs, digits, one-digit, codes, data-of, Spells}
-use Rattle.command.specs.Reading.{soleOf, butLast, semicolonAt, twoNumbers, withNumber, oneNumber, keyTimes, numberFrame, displayOf, lightOf, isText, labelRead, afterI, cursorSign, positionAt, positionOf, readOf, opensPicture, rowWith, rowAndData, drawnRow, pictureOf, orderDrawn, orderOf}
+use Rattle.command.specs.Reading.{soleOf, butLast, semicolonAt, twoNumbers, withNumber, oneNumber, keyTimes, numberFrame, displayOf, lightOf, isText, labelRead, contrastOf, hookOf, afterI, cursorSign, positionAt, positionOf, afterBracket, readOf, opensPicture, rowWith, rowAndData, drawnRow, pictureOf, orderDrawn, orderOf}
 use Rattle.command.specs.declared.Command.{Command}
-use Rattle.command.specs.declared.Command.the-variants.{DisplayOff, DisplayOn, Mode, CursorShown, CursorHidden, Clear, Position, LabelsEmpty, IconS, IconU, IconF, IconR, IconP, IconW, Private, Handsfree, HandsfreeOfNote, Mute, KeyTimes, Buzzer, Light, LightOn, LightAutoStart, LightAuto, DefaultDuration, KeypadSet, KeypadCleared}
+use Rattle.command.specs.declared.Command.the-variants.{DisplayOff, DisplayOn, Mode, CursorShown, CursorHidden, Clear, Position, LabelsEmpty, IconS, IconU, IconF, IconR, IconP, IconW, Private, Handsfree, HandsfreeOfNote, Mute, KeyTimes, Buzzer, Light, LightOn, LightAutoStart, LightAuto, DefaultDuration, KeypadSet, KeypadCleared, Contrast, ContrastAsked, HookAsked, VersionAsked, ClearLine, Inverse}
 use Rattle.command.specs.declared.Side.{Side}
 use Rattle.command.specs.declared.Side.the-variants.{Left, Right}
 use Rattle.command.specs.declared.NumberPair.the-variants.{Both}
@@ -62,6 +62,10 @@ light-read s =
     rw (no-letter (code "E") s (omega arith), no-letter (code "A") s (omega arith), no-letter (code "S") s (omega arith), no-letter (code "R") s (omega arith), no-letter (code "e") s (omega arith), no-letter (code "r") s (omega arith))
     (ap (oneNumber (code "E")) (read s))
 
+contrast-read : {n : ℕ} {d : List ℕ} → Spelt n d → contrastOf (d ++ []) ≡ Plain (Contrast n)
+unfolding contrastOf numberFrame withNumber
+contrast-read {d = d} s = rw (append-nil d, ne-eqb (length d) 0 (λ e. omega (arith, number.one-to-three s .0))) (ap (oneNumber (code "A")) (number.complete s))
+
 -- the first semicolon stands behind the digits
 semicolon-read : (d g : List ℕ) → every isDigit d ≡ true → semicolonAt (d ++ code ";" ∷ g) ≡ length d
 semicolon-read [] g h = refl
@@ -93,11 +97,22 @@ position-read : (x : List ℕ) → positionOf (x ++ code "H" ∷ []) ≡ positio
 unfolding positionOf
 position-read x = rw (end-read x (code "H"), before-read x (code "H"))
 
+-- what has a ';' in it is no lone K
+no-lone-k : (d g : List ℕ) → eqb (soleOf (d ++ code ";" ∷ g)) (code "K") ≡ false
+no-lone-k [] [] = refl
+no-lone-k [] (a ∷ g) = refl
+no-lone-k (a ∷ []) g = refl
+no-lone-k (a ∷ b ∷ d) g = refl
+
+after-bracket : (d g : List ℕ) → afterBracket (d ++ code ";" ∷ g) ≡ positionOf (d ++ code ";" ∷ g)
+unfolding afterBracket
+after-bracket d g = rw (no-lone-k d g)
+
 -- after the first byte of a position
-read-position : (d : List ℕ) (b : ℕ) (g : List ℕ) → readOf (code "[" ∷ (d ++ b ∷ g)) ≡ positionOf (d ++ b ∷ g)
+read-position : (d g : List ℕ) → readOf (code "[" ∷ (d ++ code ";" ∷ g)) ≡ positionOf (d ++ code ";" ∷ g)
 unfolding readOf
-read-position [] b g = refl
-read-position (a ∷ d) b g = refl
+read-position [] g = after-bracket [] g
+read-position (a ∷ d) g = after-bracket (a ∷ d) g
 
 opens-position : (d : List ℕ) (b : ℕ) (g : List ℕ) → opensPicture (code "[" ∷ (d ++ b ∷ g)) ≡ false
 unfolding opensPicture
@@ -121,7 +136,7 @@ draw-read {row} {d} {cs} h draws =
     rw (end-read d (code "z"), before-read d (code "z"), digit-read row h, same, drawing.complete draws) (row-drawn row cs (draws .least))
 
 pub complete : (o : Order) (f : List ℕ) → Spells o f → orderOf f ≡ some o
-unfolding orderOf opensPicture readOf afterI displayOf lightOf labelRead numberFrame withNumber cursorSign pictureOf
+unfolding orderOf opensPicture readOf afterI displayOf lightOf labelRead contrastOf hookOf numberFrame withNumber cursorSign afterBracket pictureOf
 complete (plain DisplayOff) f (signs s end) = refl
 complete (plain DisplayOn) f (signs s end) = refl
 complete (plain (Mode n)) f (signs s (digits t end)) = plain-order f refl (mode-read t)
@@ -130,7 +145,7 @@ complete (plain CursorHidden) f (signs s end) = refl
 complete (plain Clear) f (signs s end) = refl
 complete (plain (Position row column)) f (signs s (digits {d = d} t (signs s′ (digits {d = e} u (signs s″ end))))) =
     plain-order f (opens-position d (code ";") (e ++ code "H" ∷ []))
-    (read-position d (code ";") (e ++ code "H" ∷ []) ∙ rw (← append-assoc d (code ";" ∷ e) (code "H" ∷ [])) (position-read (d ++ code ";" ∷ e) ∙ ap positionAt (pair-read t u)))
+    (read-position d (e ++ code "H" ∷ []) ∙ rw (← append-assoc d (code ";" ∷ e) (code "H" ∷ [])) (position-read (d ++ code ";" ∷ e) ∙ ap positionAt (pair-read t u)))
 complete (plain LabelsEmpty) f (signs s end) = refl
 complete (label Left t) f (signs s (codes h k end)) = label-order f refl (rw (append-nil t, text-read t h k)) (append-nil t)
 complete (label Right t) f (signs s (codes h k end)) = label-order f refl (rw (append-nil t, text-read t h k)) (append-nil t)
@@ -154,4 +169,10 @@ complete (plain LightAuto) f (signs s end) = refl
 complete (plain DefaultDuration) f (signs s end) = refl
 complete (plain KeypadSet) f (signs s end) = refl
 complete (plain KeypadCleared) f (signs s end) = refl
+complete (plain (Contrast n)) f (signs s (digits t end)) = plain-order f refl (contrast-read t)
+complete (plain ContrastAsked) f (signs s end) = refl
+complete (plain HookAsked) f (signs s end) = refl
+complete (plain VersionAsked) f (signs s end) = refl
+complete (plain ClearLine) f (signs s end) = refl
+complete (plain (Inverse n)) f (signs s (digits t end)) = plain-order f refl (ap (oneNumber (code "Z")) (read t))
 complete (draw row cs) f (signs s (one-digit h (signs s′ (data-of d (signs s″ end))))) = draw-read h d

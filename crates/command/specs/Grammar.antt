@@ -10,7 +10,7 @@ use Rattle.record.specs.Range.{isCode}
 use Rattle.numeral.specs.Spelt.{Spelt, digitCode}
 use Rattle.picture.specs.Data.{Draws}
 use Rattle.command.specs.Order.{Order, plain, label, draw}
-use Rattle.command.specs.declared.Command.the-variants.{DisplayOff, DisplayOn, Mode, CursorShown, CursorHidden, Clear, Position, LabelsEmpty, IconS, IconU, IconF, IconR, IconP, IconW, Private, Handsfree, HandsfreeOfNote, Mute, KeyTimes, Buzzer, Light, LightOn, LightAutoStart, LightAuto, DefaultDuration, KeypadSet, KeypadCleared}
+use Rattle.command.specs.declared.Command.the-variants.{DisplayOff, DisplayOn, Mode, CursorShown, CursorHidden, Clear, Position, LabelsEmpty, IconS, IconU, IconF, IconR, IconP, IconW, Private, Handsfree, HandsfreeOfNote, Mute, KeyTimes, Buzzer, Light, LightOn, LightAutoStart, LightAuto, DefaultDuration, KeypadSet, KeypadCleared, Contrast, ContrastAsked, HookAsked, VersionAsked, ClearLine, Inverse}
 use Rattle.command.specs.declared.Side.the-variants.{Left, Right}
 
 -- a piece of a frame: these signs; a number in one to three digits; a number in one digit; a text of 0 to 7 codes, 0x20 to 0xFF;
@@ -31,7 +31,8 @@ pub data Matches : List Piece → List ℕ → Type 0 where
   codes : {t : List ℕ} {ps : List Piece} {f : List ℕ} → length t ≤ 7 → every isCode t ≡ true → Matches ps f → Matches (text t ∷ ps) (t ++ f)
   data-of : {d cs : List ℕ} {ps : List Piece} {f : List ℕ} → Draws d cs → Matches ps f → Matches (columns cs ∷ ps) (d ++ f)
 
--- THE TABLE. IIn is the note's own spelling of IJn (section 3.5.25), and the one frame that document 01's table does not name.
+-- THE TABLE. IIn is the note's own spelling of IJn (section 3.5.25); the last six commands are request T-04's. Document 01's table names
+-- none of the seven.
 -- The picture frame is spelt as the note's section 3.6.5 has it, as document 01 asks.
 abbrev pub form : Order → List Piece
 form (plain DisplayOff) = sign (ascii "IDD") ∷ []
@@ -63,6 +64,12 @@ form (plain LightAuto) = sign (ascii "IES") ∷ []
 form (plain DefaultDuration) = sign (ascii "IER") ∷ []
 form (plain KeypadSet) = sign (ascii "IEe") ∷ []
 form (plain KeypadCleared) = sign (ascii "IEr") ∷ []
+form (plain (Contrast n)) = sign (ascii "IA") ∷ number n ∷ []
+form (plain ContrastAsked) = sign (ascii "IA") ∷ []
+form (plain HookAsked) = sign (ascii "IH") ∷ []
+form (plain VersionAsked) = sign (ascii "&V") ∷ []
+form (plain ClearLine) = sign (ascii "[K") ∷ []
+form (plain (Inverse n)) = sign (ascii "IZ") ∷ number n ∷ []
 form (draw row cs) = sign (ascii "Gr") ∷ digit row ∷ sign (ascii ",") ∷ columns cs ∷ sign (ascii "z") ∷ []
 
 -- the frame spells the order

@@ -2,10 +2,10 @@
 use Prim.Native.Nat.{ℕ}
 use mathlib.Core.Bool.{Bool, true, not, cond, _&&_, _||_}
 use lib.Dec.{leb, ltb, eqb}
-use Rattle.record.specs.Range.{large, rowsOf, modeInRange, overlayInRange, iconSInRange, iconUInRange, iconFInRange, iconRInRange, iconPInRange, iconWInRange, time1InRange, time2InRange, buzzerInRange, durationInRange}
+use Rattle.record.specs.Range.{large, rowsOf, modeInRange, overlayInRange, iconSInRange, iconUInRange, iconFInRange, iconRInRange, iconPInRange, iconWInRange, time1InRange, time2InRange, buzzerInRange, durationInRange, contrastInRange}
 use Rattle.command.specs.Order.{Order, plain, label, draw}
 use Rattle.command.specs.declared.Command.{Command}
-use Rattle.command.specs.declared.Command.the-variants.{DisplayOff, DisplayOn, Mode, CursorShown, CursorHidden, Clear, Position, LabelsEmpty, IconS, IconU, IconF, IconR, IconP, IconW, Private, Handsfree, HandsfreeOfNote, Mute, KeyTimes, Buzzer, Light, LightOn, LightAutoStart, LightAuto, DefaultDuration, KeypadSet, KeypadCleared}
+use Rattle.command.specs.declared.Command.the-variants.{DisplayOff, DisplayOn, Mode, CursorShown, CursorHidden, Clear, Position, LabelsEmpty, IconS, IconU, IconF, IconR, IconP, IconW, Private, Handsfree, HandsfreeOfNote, Mute, KeyTimes, Buzzer, Light, LightOn, LightAutoStart, LightAuto, DefaultDuration, KeypadSet, KeypadCleared, Contrast, ContrastAsked, HookAsked, VersionAsked, ClearLine, Inverse}
 
 -- an overlay that a frame can name: 11 to 18 (none is no number)
 abbrev pub isOverlay : ℕ → Bool
@@ -27,7 +27,7 @@ isLight n = eqb n 0 || durationInRange n
 abbrev pub isPictureRow : ℕ → Bool
 isPictureRow n = leb n 6
 
--- in a text mode that has so many rows
+-- in a text mode that has so many rows; IZ names a row by its number from 1 on, and none by 0
 abbrev pub commandInRange : ℕ → Command → Bool
 commandInRange rows DisplayOff = true
 commandInRange rows DisplayOn = true
@@ -56,6 +56,12 @@ commandInRange rows LightAuto = true
 commandInRange rows DefaultDuration = true
 commandInRange rows KeypadSet = true
 commandInRange rows KeypadCleared = true
+commandInRange rows (Contrast n) = contrastInRange n
+commandInRange rows ContrastAsked = true
+commandInRange rows HookAsked = true
+commandInRange rows VersionAsked = true
+commandInRange rows ClearLine = true
+commandInRange rows (Inverse n) = leb n rows
 
 -- a label of the grammar is in range; a picture row is judged by its number
 abbrev pub orderInRange : ℕ → Order → Bool
@@ -63,7 +69,7 @@ orderInRange rows (plain c) = commandInRange rows c
 orderInRange rows (label side codes) = true
 orderInRange rows (draw row columns) = isPictureRow row
 
--- the rows that a cursor frame can name: the text mode's, but none in mode 10
+-- the rows that a cursor frame or a mark can name: the text mode's, but none in mode 10
 abbrev pub rowsNamed : ℕ → ℕ
 rowsNamed mode = cond (eqb mode large) 0 (rowsOf mode)
 
@@ -71,6 +77,6 @@ rowsNamed mode = cond (eqb mode large) 0 (rowsOf mode)
 abbrev pub inRangeInMode : ℕ → Order → Bool
 inRangeInMode mode order = orderInRange (rowsNamed mode) order
 
--- the most rows that a text mode has: a writer, which knows no mode, takes cursor rows 0-4
+-- the most rows that a text mode has: a writer, which knows no mode, takes cursor rows 0-4 and marks 0-5
 abbrev pub mostRows : ℕ
 mostRows = 5

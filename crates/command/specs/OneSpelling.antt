@@ -8,7 +8,7 @@ use Rattle.numeral.specs.Laws.{one-spelling}
 use Rattle.command.specs.Order.{Order, plain}
 use Rattle.command.specs.Grammar.{Piece, sign, number, digit, text, columns, Matches, end, signs, digits, one-digit, codes, form, Spells}
 use Rattle.command.specs.declared.Command.{Command}
-use Rattle.command.specs.declared.Command.the-variants.{DisplayOff, DisplayOn, Mode, CursorShown, CursorHidden, Clear, Position, LabelsEmpty, IconS, IconU, IconF, IconR, IconP, IconW, Private, Handsfree, HandsfreeOfNote, Mute, KeyTimes, Buzzer, Light, LightOn, LightAutoStart, LightAuto, DefaultDuration, KeypadSet, KeypadCleared}
+use Rattle.command.specs.declared.Command.the-variants.{DisplayOff, DisplayOn, Mode, CursorShown, CursorHidden, Clear, Position, LabelsEmpty, IconS, IconU, IconF, IconR, IconP, IconW, Private, Handsfree, HandsfreeOfNote, Mute, KeyTimes, Buzzer, Light, LightOn, LightAutoStart, LightAuto, DefaultDuration, KeypadSet, KeypadCleared, Contrast, ContrastAsked, HookAsked, VersionAsked, ClearLine, Inverse}
 
 -- no piece is the data of a picture, which may be cut into items in several ways
 abbrev pub NoData : List Piece → Type 0
@@ -59,3 +59,9 @@ no-data LightAuto = tt
 no-data DefaultDuration = tt
 no-data KeypadSet = tt
 no-data KeypadCleared = tt
+no-data (Contrast n) = tt
+no-data ContrastAsked = tt
+no-data HookAsked = tt
+no-data VersionAsked = tt
+no-data ClearLine = tt
+no-data (Inverse n) = tt

@@ -14,7 +14,7 @@ use Rattle.numeral.specs.Numeral.{isDigit, numberOf}
 use Rattle.picture.specs.declared.Columns.{Columns}
 use Rattle.picture.specs.Reading.{columnsIn, columnsRead}
 use Rattle.command.specs.Order.{Order, plain, label, draw}
-use Rattle.command.specs.declared.Command.the-variants.{DisplayOff, DisplayOn, Mode, CursorShown, CursorHidden, Clear, Position, LabelsEmpty, IconS, IconU, IconF, IconR, IconP, IconW, Private, Handsfree, HandsfreeOfNote, Mute, KeyTimes, Buzzer, Light, LightOn, LightAutoStart, LightAuto, DefaultDuration, KeypadSet, KeypadCleared}
+use Rattle.command.specs.declared.Command.the-variants.{DisplayOff, DisplayOn, Mode, CursorShown, CursorHidden, Clear, Position, LabelsEmpty, IconS, IconU, IconF, IconR, IconP, IconW, Private, Handsfree, HandsfreeOfNote, Mute, KeyTimes, Buzzer, Light, LightOn, LightAutoStart, LightAuto, DefaultDuration, KeypadSet, KeypadCleared, Contrast, ContrastAsked, HookAsked, VersionAsked, ClearLine, Inverse}
 use Rattle.command.specs.declared.Side.the-variants.{Left, Right}
 use Rattle.command.specs.declared.NumberPair.{NumberPair}
 use Rattle.command.specs.declared.NumberPair.the-variants.{None as Neither, Both}
@@ -68,7 +68,9 @@ withNumber letter n =
     (cond (eqb letter (code "I")) (Plain (HandsfreeOfNote n))
     (cond (eqb letter (code "M")) (Plain (Mute n))
     (cond (eqb letter (code "B")) (Plain (Buzzer n))
-    (cond (eqb letter (code "E")) (Plain (Light n)) Bad))))))))))))
+    (cond (eqb letter (code "E")) (Plain (Light n))
+    (cond (eqb letter (code "A")) (Plain (Contrast n))
+    (cond (eqb letter (code "Z")) (Plain (Inverse n)) Bad))))))))))))))
 
 abbrev pub oneNumber : ℕ → Numeral → Reading
 oneNumber letter None = Bad
@@ -117,11 +119,21 @@ unfoldable pub labelRead : List ℕ → Reading
 labelRead [] = Bad
 labelRead (sign ∷ t) = labelled sign t
 
+-- IA: nothing, which asks, or a number
+unfoldable pub contrastOf : List ℕ → Reading
+contrastOf rest = cond (eqb (length rest) 0) (Plain ContrastAsked) (numberFrame (code "A") rest)
+
+-- IH: nothing
+unfoldable pub hookOf : List ℕ → Reading
+hookOf rest = onlyIf (eqb (length rest) 0) (Plain HookAsked)
+
 unfoldable pub afterI : ℕ → List ℕ → Reading
 afterI letter rest =
     cond (eqb letter (code "D")) (displayOf rest)
     (cond (eqb letter (code "E")) (lightOf rest)
-    (cond (eqb letter (code "K")) (labelRead rest) (numberFrame letter rest)))
+    (cond (eqb letter (code "K")) (labelRead rest)
+    (cond (eqb letter (code "A")) (contrastOf rest)
+    (cond (eqb letter (code "H")) (hookOf rest) (numberFrame letter rest)))))
 
 -- Other frames ----------------------------------------------------------------------------------------------------
 
@@ -130,15 +142,20 @@ unfoldable pub cursorSign : ℕ → Reading
 cursorSign sign =
     cond (eqb sign (code "C")) (Plain CursorShown)
     (cond (eqb sign (code "D")) (Plain CursorHidden)
-    (cond (eqb sign (code "#")) (Plain Clear) Bad))
+    (cond (eqb sign (code "#")) (Plain Clear)
+    (cond (eqb sign (code "V")) (Plain VersionAsked) Bad)))
 
 abbrev pub positionAt : NumberPair → Reading
 positionAt Neither = Bad
 positionAt (Both row column) = Plain (Position row column)
 
--- after [
+-- two numbers and an H
 unfoldable pub positionOf : List ℕ → Reading
 positionOf s = onlyIf (endsWith (code "H") s) (positionAt (twoNumbers (butLast s)))
+
+-- after [: a K and no more, or a position
+unfoldable pub afterBracket : List ℕ → Reading
+afterBracket s = cond (eqb (soleOf s) (code "K")) (Plain ClearLine) (positionOf s)
 
 -- a frame that is no picture
 unfoldable pub readOf : List ℕ → Reading
@@ -147,7 +164,7 @@ readOf (a ∷ []) = Bad
 readOf (a ∷ b ∷ rest) =
     cond (eqb a (code "I")) (afterI b rest)
     (cond (eqb a (code "&")) (cursorSign (soleOf (b ∷ rest)))
-    (cond (eqb a (code "[")) (positionOf (b ∷ rest)) Bad))
+    (cond (eqb a (code "[")) (afterBracket (b ∷ rest)) Bad))
 
 -- Picture frames --------------------------------------------------------------------------------------------------
 

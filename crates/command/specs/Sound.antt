@@ -23,7 +23,7 @@ use Rattle.picture.specs.ReadLaws as drawing
 use Rattle.command.specs.Order.{Order, draw}
 use Rattle.command.specs.Grammar.{text, Matches, end, signs, digits, one-digit, codes, data-of, Spells}
 use Rattle.command.specs.Grammar as grammar
-use Rattle.command.specs.Reading.{soleOf, endsWith, butLast, semicolonAt, paired, twoNumbers, withNumber, oneNumber, keyTimes, numberFrame, displayOf, lightOf, isText, labelRead, afterI, cursorSign, positionAt, positionOf, readOf, opensPicture, rowWith, rowAndData, drawnRow, pictureOf, orderRead, orderDrawn, orderOf}
+use Rattle.command.specs.Reading.{soleOf, endsWith, butLast, semicolonAt, paired, twoNumbers, withNumber, oneNumber, keyTimes, numberFrame, displayOf, lightOf, isText, labelRead, contrastOf, hookOf, afterI, cursorSign, positionAt, positionOf, afterBracket, readOf, opensPicture, rowWith, rowAndData, drawnRow, pictureOf, orderRead, orderDrawn, orderOf}
 use Rattle.command.specs.declared.NumberPair.{NumberPair}
 use Rattle.command.specs.declared.NumberPair.the-variants.{None as Neither, Both}
 use Rattle.command.specs.declared.Reading.{Reading}
@@ -46,6 +46,14 @@ cond-if P false g h = h refl
 cond-at : (P : ℕ → Reading → Type 0) (k j : ℕ) {x y : Reading} → P j x → P k y → P k (cond (eqb k j) x y)
 cond-at P k j {x} g h = cond-if (P k) (eqb k j) (λ e. subst (λ (m : ℕ). P m x) (sym (eqb-true k j e)) g) (λ e. h)
 
+empty : (u : List ℕ) → length u ≡ 0 → u ≡ []
+empty [] e = refl
+empty (a ∷ u) e = absurd (omega arith)
+
+-- a choice by whether anything follows: in the first side nothing does
+cond-end : (P : List ℕ → Reading → Type 0) (t : List ℕ) {x y : Reading} → P [] x → P t y → P t (cond (eqb (length t) 0) x y)
+cond-end P t {x} g h = cond-if (P t) (eqb (length t) 0) (λ e. subst (λ (u : List ℕ). P u x) (sym (empty t (eqb-true (length t) 0 e))) g) (λ e. h)
+
 last-number : {n : ℕ} {d : List ℕ} → Spelt n d → Matches (grammar.number n ∷ []) d
 last-number {n} {d} s = subst (Matches (grammar.number n ∷ [])) (append-nil d) (digits s end)
 
@@ -66,7 +74,9 @@ with-number {n} {d} letter s =
     (cond-at P letter (code "I") (signs (ascii "II") m)
     (cond-at P letter (code "M") (signs (ascii "IM") m)
     (cond-at P letter (code "B") (signs (ascii "IB") m)
-    (cond-at P letter (code "E") (signs (ascii "IE") m) tt))))))))))))
+    (cond-at P letter (code "E") (signs (ascii "IE") m)
+    (cond-at P letter (code "A") (signs (ascii "IA") m)
+    (cond-at P letter (code "Z") (signs (ascii "IZ") m) tt))))))))))))))
 
 one-number : (letter : ℕ) (d : List ℕ) → Told (code "I" ∷ letter ∷ d) (oneNumber letter (numberOf d))
 one-number letter d = cases (numberOf d) refl
@@ -145,13 +155,22 @@ light (a ∷ []) =
     (cond-at P a (code "r") (signs (ascii "IEr") end) (number-frame (code "E") (a ∷ [])))))))
 light (a ∷ b ∷ more) = number-frame (code "E") (a ∷ b ∷ more)
 
+contrast : (t : List ℕ) → Told (code "I" ∷ code "A" ∷ t) (contrastOf t)
+unfolding contrastOf
+contrast t = cond-end (λ u r. Told (code "I" ∷ code "A" ∷ u) r) t (signs (ascii "IA") end) (number-frame (code "A") t)
+
+hook : (t : List ℕ) → Told (code "I" ∷ code "H" ∷ t) (hookOf t)
+unfolding hookOf
+hook t = cond-end (λ u r. Told (code "I" ∷ code "H" ∷ u) r) t (signs (ascii "IH") end) tt
+
 cursor-sign : (b : ℕ) (rest : List ℕ) → Told (code "&" ∷ b ∷ rest) (cursorSign (soleOf (b ∷ rest)))
 unfolding cursorSign
 cursor-sign b [] =
     let P : ℕ → Reading → Type 0 = λ j r. Told (code "&" ∷ j ∷ []) r in
     cond-at P b (code "C") (signs (ascii "&C") end)
     (cond-at P b (code "D") (signs (ascii "&D") end)
-    (cond-at P b (code "#") (signs (ascii "&#") end) tt))
+    (cond-at P b (code "#") (signs (ascii "&#") end)
+    (cond-at P b (code "V") (signs (ascii "&V") end) tt)))
 cursor-sign b (a ∷ more) = tt
 
 last-text : (t : List ℕ) → isText t ≡ true → Matches (text t ∷ []) t
@@ -160,16 +179,12 @@ last-text t e =
     let h = both {a = leb (length t) 7} e in
     subst (Matches (text t ∷ [])) (append-nil t) (codes (leb-true (length t) 7 (h .0)) (h .1) end)
 
-empty : (u : List ℕ) → length u ≡ 0 → u ≡ []
-empty [] e = refl
-empty (a ∷ u) e = absurd (omega arith)
-
 label-frame : (t : List ℕ) → Told (code "I" ∷ code "K" ∷ t) (labelRead t)
 unfolding labelRead
 label-frame [] = tt
 label-frame (k ∷ u) =
     let P : ℕ → Reading → Type 0 = λ j r. Told (code "I" ∷ code "K" ∷ j ∷ u) r in
-    cond-at P k (code "0") (cond-if (P (code "0")) (eqb (length u) 0) (λ e. rw (empty u (eqb-true (length u) 0 e)) (signs (ascii "IK0") end)) (λ e. tt))
+    cond-at P k (code "0") (cond-end (λ v r. Told (code "I" ∷ code "K" ∷ code "0" ∷ v) r) u (signs (ascii "IK0") end) tt)
     (cond-at P k (code "1") (cond-if (P (code "1")) (isText u) (λ e. signs (ascii "IK1") (last-text u e)) (λ e. tt))
     (cond-at P k (code "2") (cond-if (P (code "2")) (isText u) (λ e. signs (ascii "IK2") (last-text u e)) (λ e. tt)) tt))
 
@@ -195,11 +210,21 @@ position s =
         q ∙ ap (λ (x : List ℕ). x ++ code "H" ∷ []) (h .whole) ∙ append-assoc (h .d) (code ";" ∷ h .e) (code "H" ∷ []) in
         rw whole (signs (ascii "[") (digits (h .first) (signs (ascii ";") (digits (h .second) (signs (ascii "H") end)))))
 
+after-bracket : (s : List ℕ) → Told (code "[" ∷ s) (afterBracket s)
+unfolding afterBracket
+after-bracket [] = position []
+after-bracket (a ∷ []) = cond-at (λ j r. Told (code "[" ∷ j ∷ []) r) a (code "K") (signs (ascii "[K") end) (position (a ∷ []))
+after-bracket (a ∷ b ∷ more) = position (a ∷ b ∷ more)
+
 after-i : (letter : ℕ) (t : List ℕ) → Told (code "I" ∷ letter ∷ t) (afterI letter t)
 unfolding afterI
 after-i letter t =
     let P : ℕ → Reading → Type 0 = λ j r. Told (code "I" ∷ j ∷ t) r in
-    cond-at P letter (code "D") (display t) (cond-at P letter (code "E") (light t) (cond-at P letter (code "K") (label-frame t) (number-frame letter t)))
+    cond-at P letter (code "D") (display t)
+    (cond-at P letter (code "E") (light t)
+    (cond-at P letter (code "K") (label-frame t)
+    (cond-at P letter (code "A") (contrast t)
+    (cond-at P letter (code "H") (hook t) (number-frame letter t)))))
 
 told : (f : List ℕ) → Told f (readOf f)
 unfolding readOf
@@ -207,7 +232,7 @@ told [] = tt
 told (a ∷ []) = tt
 told (a ∷ b ∷ rest) =
     let P : ℕ → Reading → Type 0 = λ j r. Told (j ∷ b ∷ rest) r in
-    cond-at P a (code "I") (after-i b rest) (cond-at P a (code "&") (cursor-sign b rest) (cond-at P a (code "[") (position (b ∷ rest)) tt))
+    cond-at P a (code "I") (after-i b rest) (cond-at P a (code "&") (cursor-sign b rest) (cond-at P a (code "[") (after-bracket (b ∷ rest)) tt))
 
 -- a row is read only with columns
 row-with : (f : List ℕ) (row : ℕ) (cs : List ℕ) → (1 ≤ length cs → Spells (draw row cs) f) → Said f (orderDrawn (rowWith row (columnsIn cs)))

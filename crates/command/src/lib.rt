@@ -2,7 +2,7 @@
 // The grammar is in specs/Grammar.antt, which knows nothing of this reader. The ranges of specs/InRange.antt are asked in the
 // crate `command_ranges`, and frames that draw are read in the crate `picture_frame`: each is judged by the definitions here.
 ghost use mathlib.Core.Path.{_≡_};
-ghost use Rattle.command.specs.Reading.{soleOf, semicolonAt, paired, twoNumbers, withNumber, oneNumber, keyTimes, numberFrame, displayOf, lightOf, isText, onlyIf, labelRead, afterI, cursorSign, positionAt, positionOf, readOf};
+ghost use Rattle.command.specs.Reading.{soleOf, semicolonAt, paired, twoNumbers, withNumber, oneNumber, keyTimes, numberFrame, displayOf, lightOf, isText, onlyIf, labelRead, contrastOf, hookOf, afterI, cursorSign, positionAt, positionOf, afterBracket, readOf};
 use numeral::Numeral;
 use picture::Columns;
 
@@ -35,6 +35,12 @@ pub enum Command {
     DefaultDuration,
     KeypadSet,
     KeypadCleared,
+    Contrast(u16),
+    ContrastAsked,
+    HookAsked,
+    VersionAsked,
+    ClearLine,
+    Inverse(u16),
 }
 
 // Which soft-key label.
@@ -136,6 +142,8 @@ fn with_number(letter: u8, n: u16) -> Reading
         b'M' => Reading::Plain(Command::Mute(n)),
         b'B' => Reading::Plain(Command::Buzzer(n)),
         b'E' => Reading::Plain(Command::Light(n)),
+        b'A' => Reading::Plain(Command::Contrast(n)),
+        b'Z' => Reading::Plain(Command::Inverse(n)),
         _ => Reading::Bad,
     }
 }
@@ -236,6 +244,25 @@ fn label(rest: &[u8]) -> Reading
     }
 }
 
+// After IA: nothing, which asks, or a number.
+fn contrast(rest: &[u8]) -> Reading
+    ensures same { λ r. ⌜ r ≡ contrastOf (now (rest .entry)) ⌝ }
+{
+    let n = rest.len();
+    match n {
+        0 => Reading::Plain(Command::ContrastAsked),
+        _ => number_frame(b'A', rest),
+    }
+}
+
+// After IH: nothing.
+fn hook(rest: &[u8]) -> Reading
+    ensures same { λ r. ⌜ r ≡ hookOf (now (rest .entry)) ⌝ }
+{
+    let n = rest.len();
+    only_if(n == 0, Reading::Plain(Command::HookAsked))
+}
+
 // The byte after I picks the command.
 fn after_i(letter: u8, rest: &[u8]) -> Reading
     ensures same { λ r. ⌜ r ≡ afterI letter (now (rest .entry)) ⌝ }
@@ -244,6 +271,8 @@ fn after_i(letter: u8, rest: &[u8]) -> Reading
         b'D' => display(rest),
         b'E' => light(rest),
         b'K' => label(rest),
+        b'A' => contrast(rest),
+        b'H' => hook(rest),
         _ => number_frame(letter, rest),
     }
 }
@@ -256,6 +285,7 @@ fn cursor_sign(sign: u8) -> Reading
         b'C' => Reading::Plain(Command::CursorShown),
         b'D' => Reading::Plain(Command::CursorHidden),
         b'#' => Reading::Plain(Command::Clear),
+        b'V' => Reading::Plain(Command::VersionAsked),
         _ => Reading::Bad,
     }
 }
@@ -269,7 +299,7 @@ fn position_at(pair: NumberPair) -> Reading
     }
 }
 
-// After [: two numbers and an H.
+// Two numbers and an H.
 fn position(s: &[u8]) -> Reading
     ensures same { λ r. ⌜ r ≡ positionOf (now (s .entry)) ⌝ }
 {
@@ -285,6 +315,17 @@ fn position(s: &[u8]) -> Reading
     }
 }
 
+// After [: a K and no more, or a position.
+fn after_bracket(s: &[u8]) -> Reading
+    ensures same { λ r. ⌜ r ≡ afterBracket (now (s .entry)) ⌝ }
+{
+    let sign = sole(s);
+    match sign {
+        b'K' => Reading::Plain(Command::ClearLine),
+        _ => position(s),
+    }
+}
+
 // The command that a frame spells, or the label that it sets; Bad for a picture frame, which read_picture reads.
 pub fn read_command(f: &[u8]) -> Reading
     ensures same { λ r. ⌜ r ≡ readOf (now (f .entry)) ⌝ }
@@ -297,7 +338,7 @@ pub fn read_command(f: &[u8]) -> Reading
     match first {
         b'I' => after_i(letter, &f[2..]),
         b'&' => cursor_sign(sole(&f[1..])),
-        b'[' => position(&f[1..]),
+        b'[' => after_bracket(&f[1..]),
         _ => Reading::Bad,
     }
 }

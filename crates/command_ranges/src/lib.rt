@@ -1,7 +1,7 @@
 // Whether a command's numbers are in range: document 01's second column, which stands in command's specs/InRange.antt.
 ghost use mathlib.Core.Path.{_≡_};
 ghost use mathlib.Core.Bool.{_||_};
-ghost use Rattle.record.specs.Range.{modeInRange, iconUInRange, time1InRange, time2InRange};
+ghost use Rattle.record.specs.Range.{modeInRange, iconUInRange, time1InRange, time2InRange, contrastInRange};
 ghost use Rattle.command.specs.InRange.{isOverlay, isLight, rowsNamed, commandInRange};
 use command::Command;
 
@@ -75,7 +75,16 @@ fn is_light(n: u16) -> bool
     }
 }
 
-// The rows that a cursor frame can name in a text mode: none in the one of large digits.
+fn is_contrast(n: u16) -> bool
+    ensures same { λ r. ⌜ r ≡ contrastInRange n ⌝ }
+{
+    match n {
+        1..=20 => true,
+        _ => false,
+    }
+}
+
+// The rows that a cursor frame or a mark can name in a text mode: none in the one of large digits.
 pub fn rows_named(mode: u8) -> u8
     ensures same { λ r. ⌜ r ≡ rowsNamed mode ⌝ }
 {
@@ -85,7 +94,7 @@ pub fn rows_named(mode: u8) -> u8
     record::rows(mode)
 }
 
-// Whether a command's numbers are in range where a cursor frame can name so many rows.
+// Whether a command's numbers are in range where a cursor frame or a mark can name so many rows.
 pub fn in_range(c: Command, rows: u8) -> bool
     ensures same { λ r. ⌜ r ≡ commandInRange rows c ⌝ }
 {
@@ -117,5 +126,11 @@ pub fn in_range(c: Command, rows: u8) -> bool
         Command::DefaultDuration => true,
         Command::KeypadSet => true,
         Command::KeypadCleared => true,
+        Command::Contrast(n) => is_contrast(n),
+        Command::ContrastAsked => true,
+        Command::HookAsked => true,
+        Command::VersionAsked => true,
+        Command::ClearLine => true,
+        Command::Inverse(n) => n <= rows as u16,
     }
 }

@@ -4,7 +4,7 @@
 -- definitions. Assumes nothing.
 use Prim.Native.Nat.{ℕ, suc, _<_, _≤_}
 use mathlib.Core.Path.{_≡_, refl}
-use mathlib.Core.Bool.{true, false, cond, not, _||_}
+use mathlib.Core.Bool.{Bool, true, false, cond, not, _||_}
 use mathlib.Core.List.{List, [], _∷_}
 use lib.Dec.{ltb}
 use lib.ListN.{length, drop}
@@ -28,6 +28,8 @@ use Rattle.key_log.specs.Log.{outcome, handedBack, bufferAfter}
 use Rattle.key_log.specs.Laws.{ends-with-1, ends-with-5, ends-with-4, ends-with-0}
 use Rattle.seconds.specs.Seconds.{passed, lightPassed}
 use Rattle.seconds.specs.Laws.{second-done, second-refused, light-done, light-refused}
+use Rattle.hook.specs.Hook.{hooked}
+use Rattle.hook.specs.Laws.{hook-refused, hook-done}
 use Rattle.seen_panels.specs.declared.Phase.{Phase}
 use Rattle.seen_panels.specs.declared.SmsPanel.the-variants as Sms
 use Rattle.seen_panels.specs.declared.VolumePanel.the-variants as Sound
@@ -35,7 +37,7 @@ use Rattle.seen.specs.Rows.{nothingSeen, rowSeen, smsSeen, volumeSeen}
 use Rattle.seen.specs.Columns.{noPlace, columnSeen}
 use Rattle.seen.specs.Laws.{row-number, row-refused, column-number, column-refused, panel-numbers, panels-refused}
 use Rattle.writer.specs.Writing.{writtenOf, roomAfter}
-use Rattle.demands.specs.Frames.{asked, silent, wholeFrame, closed-asked, closed-passed-over, bad-whole, bad-without-room, passed-over-whole}
+use Rattle.demands.specs.Frames.{asked, silent, answerOn, wholeFrame, closed-asked, closed-passed-over, bad-whole, bad-without-room, question-waits, passed-over-whole}
 
 -- what a refusal hands back of a call that takes a record and lends a buffer: its number, the record as it came, no byte used or
 -- written, the buffer as it was
@@ -65,7 +67,10 @@ pub record Demand1 : Type 0 where
   pub second-passes : (r : Record) → inRange r ≡ true → paperNumber (passed r .number) ≡ 0
   pub light-refuses : (b : Backlight) → backlightInRange b ≡ false → (paperNumber (lightPassed b .number) ≡ 1) × (lightPassed b .backlight ≡ b)
   pub light-passes : (b : Backlight) → backlightInRange b ≡ true → paperNumber (lightPassed b .number) ≡ 0
-  -- The questions: 1, then 4 for a row above 6, else 0; and where one is refused it tells nothing.
+  -- The hook call: 1 and the same record, else 0.
+  pub hook-refuses : (r : Record) (on : Bool) → inRange r ≡ false → (paperNumber (hooked r on .number) ≡ 1) × (hooked r on .after ≡ r)
+  pub hook-sets : (r : Record) (on : Bool) → inRange r ≡ true → paperNumber (hooked r on .number) ≡ 0
+  -- The questions of what is seen: 1, then 4 for a row above 6, else 0; and where one is refused it tells nothing.
   pub row-number-is : (r : Record) (row : ℕ) (phase : Phase) → paperNumber (rowSeen r row phase .number) ≡ cond (not (inRange r)) 1 (cond (ltb 6 row) 4 0)
   pub row-refuses : (r : Record) (row : ℕ) (phase : Phase)
       → (inRange r ≡ false → rowSeen r row phase ≡ nothingSeen (numbered 1)) × (inRange r ≡ true → 6 < row → rowSeen r row phase ≡ nothingSeen (numbered 4))
@@ -94,6 +99,10 @@ pub record Demand1 : Type 0 where
       → fedBack r (wholeFrame frame) lent ≡ record { after = r; used = length (wholeFrame frame); written = 1; buffer = questionMark ∷ drop 1 lent }
   pub bad-frame-waits : (r : Record) → inRange r ≡ true → r .frame .state ≡ 0 → (frame : List ℕ) → Body frame → ((o : Order) → Spells o frame → ⊥)
       → fedBack r (wholeFrame frame) [] ≡ record { after = recordOf (r .held) (with (coreOf r) (keep frame)); used = suc (length frame); written = 0; buffer = [] }
+  -- Without room for the whole answer of a question the call stops before its CR too, and no byte of the answer is written (request T-04).
+  pub question-waits-whole : (r : Record) → inRange r ≡ true → r .frame .state ≡ 0 → (frame : List ℕ) (o : Order) → Spells o frame → (lent : List ℕ) → inRangeInMode (r .settings .screen .mode) o ≡ true
+      → length lent < length (answerOn (coreOf r) o)
+      → fedBack r (wholeFrame frame) lent ≡ record { after = recordOf (r .held) (with (coreOf r) (keep frame)); used = suc (length frame); written = 0; buffer = lent }
   -- A frame with a number out of range gets silence, and nothing changes: as a part, and of the call.
   pub out-of-range-silent : (c : Core) (frame : List ℕ) (o : Order) → Spells o frame → inRangeInMode (c .settings .screen .mode) o ≡ false
       → act handset c (closed frame) ≡ silent c
@@ -116,6 +125,8 @@ demand1 =
       second-passes = λ r h. second-done r h .0;
       light-refuses = light-refused;
       light-passes = λ b h. light-done b h .0;
+      hook-refuses = hook-refused;
+      hook-sets = λ r on h. hook-done r on h .0;
       row-number-is = row-number;
       row-refuses = row-refused;
       column-number-is = column-number;
@@ -130,6 +141,7 @@ demand1 =
       overlong-asked = λ c body l. rw (lt-leb (length body) limit l);
       bad-frame-called = bad-whole;
       bad-frame-waits = bad-without-room;
+      question-waits-whole = question-waits;
       out-of-range-silent = closed-passed-over;
       out-of-range-called = passed-over-whole;
     }

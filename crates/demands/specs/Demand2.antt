@@ -4,8 +4,8 @@
 use Prim.Native.Nat.{ℕ, _+_, _*_, _<_, _≤_}
 use mathlib.Core.Logic.{_⊎_, _≢_}
 use mathlib.Core.Path.{_≡_, refl}
-use mathlib.Core.Bool.{true, false, cond, not}
-use mathlib.Core.List.{List, _∷_}
+use mathlib.Core.Bool.{Bool, true, false, cond, not}
+use mathlib.Core.List.{List, [], _∷_, _++_}
 use lib.Dec.{eqb}
 use lib.ListN.{length, drop, getD}
 use Rattle.lists.specs.Every.{every}
@@ -52,7 +52,18 @@ use Rattle.writer_ranges.specs.Fitting.{isLabel, isRow}
 use Rattle.writer.specs.Writing.{bodyOf, labelBody, rowBody}
 use Rattle.writer.specs.ReadBack.{AfterZero, command-reads-back, label-reads-back, command-written, label-written, row-written}
 use Rattle.demands.specs.HeldKeys.{HeldKeys, held-keys}
-use Rattle.demands.specs.Frames.{silent, wholeFrame, withCore, closed-obeyed, good-whole}
+use Rattle.demands.specs.Frames.{said, answerOn, wholeFrame, withCore, closed-obeyed, good-whole}
+use Prim.Native.Char.{code}
+use mathlib.Core.Option.{some}
+use Rattle.lists.specs.Codes.{ascii, escape, carriageReturn, lineFeed}
+use Rattle.numeral.specs.Numeral.{decimal}
+use Rattle.answer.specs.Answers.{isSilence}
+use Rattle.command.specs.declared.Command.the-variants.{ContrastAsked, HookAsked, VersionAsked}
+use Rattle.effect.specs.Obey.{answerFor, answerTo}
+use Rattle.effect.specs.Questions.{question-same, three-questions}
+use Rattle.stream.specs.Stream.{writtenOver}
+use Rattle.hook.specs.Hook.{hung, hooked}
+use Rattle.hook.specs.Laws.{hook-done}
 
 pub record Demand2 : Type 0 where
   -- A frame is good when the grammar has an order that it spells, and it spells no second one.
@@ -62,11 +73,20 @@ pub record Demand2 : Type 0 where
   pub one-spelling : (o : Order) (frame other : List ℕ) → NoData (form o) → Spells o frame → Spells o other → frame ≡ other
   pub command-spelling : (c : Command) (frame : List ℕ) → commandInRange mostRows c ≡ true → Spells (plain c) frame → frame ≡ bodyOf c
   pub label-spelling : (side : Side) (codes frame : List ℕ) → isLabel codes ≡ true → Spells (label side codes) frame → frame ≡ labelBody side codes
-  -- A good frame in range has its order's effect, in silence: as a part of the stream,
-  pub obeyed : (c : Core) (frame : List ℕ) (o : Order) → Spells o frame → inRangeInMode (c .settings .screen .mode) o ≡ true → act handset c (closed frame) ≡ silent (effect o c)
-  -- and of the call on ESC, frame, CR, from a record in range with no frame open, whatever the room.
-  pub obeyed-called : (r : Record) → inRange r ≡ true → r .frame .state ≡ 0 → (frame : List ℕ) (o : Order) → Spells o frame → (lent : List ℕ) → inRangeInMode (r .settings .screen .mode) o ≡ true
-      → fedBack r (wholeFrame frame) lent ≡ record { after = withCore r (effect o (coreOf r)); used = length (wholeFrame frame); written = 0; buffer = lent }
+  -- A good frame in range has its order's effect, a question with its answer and any other in silence: as a part of the stream,
+  pub obeyed : (c : Core) (frame : List ℕ) (o : Order) → Spells o frame → inRangeInMode (c .settings .screen .mode) o ≡ true → act handset c (closed frame) ≡ said c o (effect o c)
+  -- and of the call on ESC, frame, CR, from a record in range with no frame open, with room for the answer, if there is one.
+  pub obeyed-called : (r : Record) → inRange r ≡ true → r .frame .state ≡ 0 → (frame : List ℕ) (o : Order) → Spells o frame → (lent : List ℕ) → inRangeInMode (r .settings .screen .mode) o ≡ true → length (answerOn (coreOf r) o) ≤ length lent
+      → fedBack r (wholeFrame frame) lent
+      ≡ record { after = withCore r (effect o (coreOf r)); used = length (wholeFrame frame); written = length (answerOn (coreOf r) o); buffer = writtenOver (answerOn (coreOf r) o) lent }
+  -- The questions are IA, IH and &V, and their answers those of the note (request T-04); a question changes nothing.
+  pub contrast-answer : (c : Core) → answerOn c (plain ContrastAsked) ≡ (escape ∷ ascii "IA") ++ decimal (c .settings .contrast) ++ carriageReturn ∷ []
+  pub hook-answer : (c : Core) → answerOn c (plain HookAsked) ≡ (escape ∷ ascii "IH") ++ cond (c .settings .hook) (code "H") (code "h") ∷ carriageReturn ∷ []
+  pub version-answer : (c : Core) → answerOn c (plain VersionAsked) ≡ (escape ∷ ascii "&VHA209 V.01.01 11.07.2006") ++ carriageReturn ∷ lineFeed ∷ []
+  pub no-other-answer : (o : Order) (c : Core) → isSilence (answerTo (some o)) ≡ false → (o ≡ plain ContrastAsked) ⊎ (o ≡ plain HookAsked) ⊎ (o ≡ plain VersionAsked)
+  pub question-changes-nothing : (command : Command) (c : Core) → isSilence (answerFor command) ≡ false → carryOut (plain command) c ≡ c
+  -- A hook call sets the hook and nothing else.
+  pub hook-set : (r : Record) (on : Bool) → inRange r ≡ true → hooked r on .after ≡ hung r on
   -- And no other effect. A field that document 01's table does not name for the order is as it was.
   pub no-other : (o : Order) (f : Field) (c : Core) → sets o f ≡ false → read f (carryOut o c) ≡ read f c
   -- Of the picture, a picture frame leaves every column of the other rows as it was, and in its own row every column past the data.
@@ -132,6 +152,12 @@ demand2 =
       label-spelling = label-once;
       obeyed = closed-obeyed;
       obeyed-called = good-whole;
+      contrast-answer = λ c. refl;
+      hook-answer = λ c. refl;
+      version-answer = λ c. refl;
+      no-other-answer = three-questions;
+      question-changes-nothing = question-same;
+      hook-set = λ r on h. hook-done r on h .1;
       no-other = stays;
       no-other-row = other-rows-stay;
       none-past-the-data = past-data-stays;

@@ -2,7 +2,8 @@
 -- bytes, skipped bytes, closed frames, abandoned frames and at most one unfinished tail. The rules of that parting, and of the good
 -- frames, are written without the reader. The record and the question marks at the end are those of taking the parts in order. With
 -- no key, clock or power-on call between, cutting the stream elsewhere changes nothing, if each call's unused bytes are offered again
--- first and the room for answers in the end takes them all." The rules are parting's Rules and command's Grammar. Assumes nothing.
+-- first and the room for answers in the end takes them all." Since request T-04 the answers of questions count with the question marks,
+-- and a hook call with the calls that may not fall between. The rules are parting's Rules and command's Grammar. Assumes nothing.
 use Prim.Native.Nat.{ℕ}
 use mathlib.Core.Path.{_≡_}
 use mathlib.Core.Bool.{true}

@@ -20,7 +20,10 @@ use Rattle.command.specs.InRange.{inRangeInMode}
 use Rattle.command.specs.Agree.{agree, bad-frame}
 use Rattle.effect.specs.Core.{Core, coreOf}
 use Rattle.effect.specs.Effect.{effect, carryOut}
-use Rattle.effect.specs.Obey.{obeyOrder, isGood}
+use Rattle.answer.specs.Answers.{answerBytes}
+use Rattle.effect.specs.Obey.{obeyOrder, answerTo}
+use Rattle.effect.specs.Questions.{passed-over-silent}
+use mathlib.Core.Option.{some}
 use Rattle.turns.specs.Taking.{Taken, silently}
 use Rattle.turns.specs.Room.{Ran, Stops, run-stops, only-one, room-for-all}
 use Rattle.parting.specs.Rules.{Body, closed, done, unfinished, then, Parting, ends, waits, goes-on, Frame, noFrame, keep, limit, inLimit, Stands, none-stands}
@@ -41,6 +44,13 @@ asked c = record { core = c; answers = questionMark ∷ [] }
 abbrev pub silent : Core → Answered Core
 silent c = record { core = c; answers = [] }
 
+-- what an order is answered: a question its answer, any other nothing
+abbrev pub answerOn : Core → Order → List ℕ
+answerOn c o = answerBytes (answerTo (some o)) (c .settings .contrast) (c .settings .hook)
+
+abbrev pub said : Core → Order → Core → Answered Core
+said c o after = record { core = after; answers = answerOn c o }
+
 carried : (c : Core) (o : Order) (inside : inRangeInMode (c .settings .screen .mode) o ≡ true) → carryOut o c ≡ effect o c
 unfolding carryOut
 carried c o inside = rw inside
@@ -51,20 +61,21 @@ passed-over c o outside = rw outside
 
 module _ (c : Core) (frame : List ℕ) where
   -- No good frame is cut by the limit of 250: it is obeyed.
-  whole : (o : Order) → Spells o frame → act handset c (closed frame) ≡ silent (carryOut o c)
+  whole : (o : Order) → Spells o frame → act handset c (closed frame) ≡ said c o (carryOut o c)
   unfolding act close
   whole o s =
       let found = agree o frame .1 s in
       rw (le-leb (length frame) limit (omega (arith, spells-within o s .most)))
-      (λ j. record { core = obeyOrder c (found j); answers = cond (isGood (found j)) [] (questionMark ∷ []) })
+      (λ j. record { core = obeyOrder c (found j); answers = answerBytes (answerTo (found j)) (c .settings .contrast) (c .settings .hook) })
 
-  -- A good frame in range has its order's effect, in silence.
-  pub closed-obeyed : (o : Order) → Spells o frame → inRangeInMode (c .settings .screen .mode) o ≡ true → act handset c (closed frame) ≡ silent (effect o c)
-  closed-obeyed o s inside = whole o s ∙ ap silent (carried c o inside)
+  -- A good frame in range has its order's effect; a question is answered, any other is obeyed in silence.
+  pub closed-obeyed : (o : Order) → Spells o frame → inRangeInMode (c .settings .screen .mode) o ≡ true → act handset c (closed frame) ≡ said c o (effect o c)
+  closed-obeyed o s inside = whole o s ∙ ap (said c o) (carried c o inside)
 
   -- One with a number out of range gets silence, and nothing changes.
   pub closed-passed-over : (o : Order) → Spells o frame → inRangeInMode (c .settings .screen .mode) o ≡ false → act handset c (closed frame) ≡ silent c
-  closed-passed-over o s outside = whole o s ∙ ap silent (passed-over c o outside)
+  closed-passed-over o s outside =
+      whole o s ∙ (λ j. record { core = passed-over c o outside j; answers = answerBytes (passed-over-silent o (c .settings .screen .mode) outside j) (c .settings .contrast) (c .settings .hook) })
 
   -- A bad one gets one question mark, and nothing changes.
   pub closed-asked : ((o : Order) → Spells o frame → ⊥) → act handset c (closed frame) ≡ asked c
@@ -135,32 +146,44 @@ module _ (r : Record) (good : inRange r ≡ true) (none : r .frame .state ≡ 0)
   unfolding taking
   waiting = stream handset (stateOf r) (escape ∷ frame) stands (waits body)
 
-  -- BAD, without room: the call stops before the CR, which is not used, and the frame is still open (overlong, if it is too long).
-  pub bad-without-room : ((o : Order) → Spells o frame → ⊥)
-      → fedBack r (wholeFrame frame) [] ≡ record { after = recordOf (r .held) (with (coreOf r) (keep frame)); used = suc (length frame); written = 0; buffer = [] }
-  bad-without-room bad =
+  -- WITHOUT ROOM for the whole answer the call stops before the CR, which is not used, nothing of the answer is written, and the frame
+  -- is still open (overlong, if it is too long).
+  pub without-room : (lent : List ℕ) → length lent < length (does .answers)
+      → fedBack r (wholeFrame frame) lent ≡ record { after = recordOf (r .held) (with (coreOf r) (keep frame)); used = suc (length frame); written = 0; buffer = lent }
+  without-room lent short =
       let now : take (suc (length frame)) (wholeFrame frame) ≡ escape ∷ frame = ap (λ (l : List ℕ). escape ∷ l) (take-append-seam frame (carriageReturn ∷ [])) in
       let long : length (wholeFrame frame) ≡ suc (suc (length frame)) = omega (arith, length-append frame (carriageReturn ∷ [])) in
       let next : take (suc (suc (length frame))) (wholeFrame frame) ≡ wholeFrame frame = ap (λ (n : ℕ). take n (wholeFrame frame)) (sym long) ∙ take-length (wholeFrame frame) in
-      let one : 0 < length (reading handset (stateOf r) (wholeFrame frame) .answers) =
-      omega (arith, ap (λ (t : Taken (State Core)). length (t .answers)) reads, ap (λ (a : Answered Core). length (a .answers)) (closed-asked (coreOf r) frame bad))
-      in
-      let stopped : Stops (step handset) (stateOf r) (wholeFrame frame) 0 (record { state = with (coreOf r) (keep frame); used = suc (length frame); answers = [] }) =
+      let more : length lent < length (reading handset (stateOf r) (wholeFrame frame) .answers) = omega (arith, short, ap (λ (t : Taken (State Core)). length (t .answers)) reads) in
+      let stopped : Stops (step handset) (stateOf r) (wholeFrame frame) (length lent) (record { state = with (coreOf r) (keep frame); used = suc (length frame); answers = [] }) =
       record {
         within = omega (arith, long);
         does = sym (ap (reading handset (stateOf r)) now ∙ waiting);
         fits = omega arith;
-        stops = inr (subst (λ (l : List ℕ). 0 < length (reading handset (stateOf r) l .answers)) (sym next) one);
+        stops = inr (subst (λ (l : List ℕ). length lent < length (reading handset (stateOf r) l .answers)) (sym next) more);
       }
       in
-      back-is-run r (wholeFrame frame) [] good
-      ∙ ap (λ (t : Ran (State Core)). ranBack (r .held) t []) (only-one (step handset) (run-stops (step handset) (stateOf r) (wholeFrame frame) 0) stopped)
+      back-is-run r (wholeFrame frame) lent good
+      ∙ ap (λ (t : Ran (State Core)). ranBack (r .held) t lent) (only-one (step handset) (run-stops (step handset) (stateOf r) (wholeFrame frame) (length lent)) stopped)
+
+  -- So a bad frame with no room at all.
+  pub bad-without-room : ((o : Order) → Spells o frame → ⊥)
+      → fedBack r (wholeFrame frame) [] ≡ record { after = recordOf (r .held) (with (coreOf r) (keep frame)); used = suc (length frame); written = 0; buffer = [] }
+  bad-without-room bad = without-room [] (omega (arith, ap (λ (a : Answered Core). length (a .answers)) (closed-asked (coreOf r) frame bad)))
 
 module _ (r : Record) (good : inRange r ≡ true) (none : r .frame .state ≡ 0) (frame : List ℕ) (o : Order) (s : Spells o frame) (lent : List ℕ) where
-  -- GOOD AND IN RANGE: the order's effect and nothing else; no answer.
-  pub good-whole : inRangeInMode (r .settings .screen .mode) o ≡ true
-      → fedBack r (wholeFrame frame) lent ≡ record { after = withCore r (effect o (coreOf r)); used = length (wholeFrame frame); written = 0; buffer = lent }
-  good-whole inside = same-whole r good none frame (body-of frame (spells-within o s .plain)) lent (closed-obeyed (coreOf r) frame o s inside) (omega arith)
+  -- GOOD AND IN RANGE, with room for its answer, if it has one: the order's effect and nothing else, and the whole answer.
+  pub good-whole : inRangeInMode (r .settings .screen .mode) o ≡ true → length (answerOn (coreOf r) o) ≤ length lent
+      → fedBack r (wholeFrame frame) lent
+      ≡ record { after = withCore r (effect o (coreOf r)); used = length (wholeFrame frame); written = length (answerOn (coreOf r) o); buffer = writtenOver (answerOn (coreOf r) o) lent }
+  good-whole inside room = same-whole r good none frame (body-of frame (spells-within o s .plain)) lent (closed-obeyed (coreOf r) frame o s inside) room
+
+  -- WITHOUT ROOM for it the call stops before the CR, and nothing has happened but that the frame is open.
+  pub question-waits : inRangeInMode (r .settings .screen .mode) o ≡ true → length lent < length (answerOn (coreOf r) o)
+      → fedBack r (wholeFrame frame) lent ≡ record { after = recordOf (r .held) (with (coreOf r) (keep frame)); used = suc (length frame); written = 0; buffer = lent }
+  question-waits inside short =
+      without-room r good none frame (body-of frame (spells-within o s .plain)) lent
+      (subst (λ (a : Answered Core). length lent < length (a .answers)) (sym (closed-obeyed (coreOf r) frame o s inside)) short)
 
   -- GOOD AND OUT OF RANGE: nothing changes; no answer.
   pub passed-over-whole : inRangeInMode (r .settings .screen .mode) o ≡ false

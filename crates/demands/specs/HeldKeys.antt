@@ -19,11 +19,12 @@ use Rattle.command.specs.Grammar.{Spells}
 use Rattle.command.specs.InRange.{inRangeInMode}
 use Rattle.command.specs.Reading.{orderOf}
 use Rattle.command.specs.Agree.{agree}
-use Rattle.command.specs.declared.Command.the-variants.{DisplayOff, DisplayOn, Mode, CursorShown, CursorHidden, Clear, Position, LabelsEmpty, IconS, IconU, IconF, IconR, IconP, IconW, Private, Handsfree, HandsfreeOfNote, Mute, KeyTimes, Buzzer, Light, LightOn, LightAutoStart, LightAuto, DefaultDuration, KeypadSet, KeypadCleared}
+use Rattle.command.specs.declared.Command.the-variants.{DisplayOff, DisplayOn, Mode, CursorShown, CursorHidden, Clear, Position, LabelsEmpty, IconS, IconU, IconF, IconR, IconP, IconW, Private, Handsfree, HandsfreeOfNote, Mute, KeyTimes, Buzzer, Light, LightOn, LightAutoStart, LightAuto, DefaultDuration, KeypadSet, KeypadCleared, Contrast, ContrastAsked, HookAsked, VersionAsked, ClearLine, Inverse}
 use Rattle.command.specs.declared.Side.the-variants.{Left, Right}
 use Rattle.effect.specs.Core.{Core, coreOf, onSettings}
 use Rattle.effect.specs.Effect.{effect, carryOut, storeText}
-use Rattle.effect.specs.Obey.{obeyOrder, isGood}
+use Rattle.answer.specs.Answers.{answerBytes}
+use Rattle.effect.specs.Obey.{obeyOrder, answerTo}
 use Rattle.turns.specs.Taking.{Taken}
 use Rattle.turns.specs.Room.{Ran, room-for-all}
 use Rattle.parting.specs.Rules.{Parted, Parting, Stands}
@@ -90,6 +91,12 @@ module _ (n : ℕ) where
   effect-alike (plain DefaultDuration) c h = refl
   effect-alike (plain KeypadSet) c h = refl
   effect-alike (plain KeypadCleared) c h = refl
+  effect-alike (plain (Contrast m)) c h = refl
+  effect-alike (plain ContrastAsked) c h = refl
+  effect-alike (plain HookAsked) c h = refl
+  effect-alike (plain VersionAsked) c h = refl
+  effect-alike (plain ClearLine) c h = refl
+  effect-alike (plain (Inverse m)) c h = refl
   effect-alike (draw row columns) c h = refl
 
   carried-alike : (o : Order) (c : Core) (frame : List ℕ) → SetsNoTimes frame → Spells o frame → carryOut o (coreOtherTime2 n c) ≡ coreOtherTime2 n (carryOut o c)
@@ -115,7 +122,7 @@ module _ (n : ℕ) where
       go : (found : Option Order) → orderOf frame ≡ found
           → obeyFrame (coreOtherTime2 n c) frame ≡ record { core = coreOtherTime2 n (obeyFrame c frame .core); answers = obeyFrame c frame .answers }
       go none e = rw e
-      go (some o) e = rw e (λ j. record { core = carried-alike o c frame sets (agree o frame .0 e) j; answers = [] })
+      go (some o) e = rw e (λ j. record { core = carried-alike o c frame sets (agree o frame .0 e) j; answers = answerBytes (answerTo (some o)) (c .settings .contrast) (c .settings .hook) })
 
   keeps : KeepsAgreeing handset Agree SetsNoTimes
   keeps =

@@ -1,20 +1,22 @@
 -- THE P LINES of document 01 ("Proved and run"), in its words and its order, as one table under one statement. Each line: what the
 -- definitions give, computed, and what the paper says. Streams go through the stream call from the power-on record, with room and
 -- the kept record, keys through the key log call, the volume panel through its question. Assumes nothing.
-use Prim.Native.Nat.{ℕ}
+use Prim.Native.Nat.{ℕ, suc}
 use mathlib.Core.Path.{_≡_, refl}
 use mathlib.Core.List.{List, [], _∷_, _++_, map, zipWith}
+use lib.Dec.{leb}
+use mathlib.Core.Bool.{Bool, cond}
 use lib.ListN.{length, take, replicate}
-use Rattle.lists.specs.Codes.{ascii, escape, carriageReturn, questionMark}
+use Rattle.lists.specs.Codes.{ascii, escape, carriageReturn, lineFeed, questionMark}
 use Rattle.lists.specs.Padded.{padded}
 use Rattle.record.specs.declared.Record.{Record}
 use Rattle.record.specs.PowerOn.{powerOn}
-use Rattle.record.specs.Range.{lineOf, inRange, textInRange, labelInRange, pictureInRange, frameInRange}
+use Rattle.record.specs.Range.{lineOf, inRange, textInRange, labelInRange, pictureInRange, inverseInRange, frameInRange}
 use Rattle.numeral.specs.Numeral.{digitOf}
 use Rattle.picture.specs.Reading.{hexOf, timesOf, items, columnsOf}
 use Rattle.picture.specs.Writing.{hexCode, itemText, encode}
-use Rattle.command.specs.Reading.{twoNumbers, withNumber, numberFrame, displayOf, lightOf, isText, labelRead, afterI, cursorSign, positionOf, readOf, opensPicture, rowAndData, drawnRow, pictureOf, orderOf}
-use Rattle.effect.specs.Effect.{blanks, drawn, carryOut, storeText}
+use Rattle.command.specs.Reading.{twoNumbers, withNumber, numberFrame, displayOf, lightOf, isText, labelRead, contrastOf, hookOf, afterI, cursorSign, positionOf, afterBracket, readOf, opensPicture, rowAndData, drawnRow, pictureOf, orderOf}
+use Rattle.effect.specs.Effect.{blanks, lineCleared, drawn, carryOut, storeText}
 use Rattle.turns.specs.Room
 use Rattle.parting.specs.Rules.{keep}
 use Rattle.parting.specs.Reading.{step}
@@ -33,7 +35,7 @@ frame body = escape ∷ (body ++ carriageReturn ∷ [])
 
 -- room for as many answers as these lines get, and more
 abbrev room : List ℕ
-room = replicate 4 0
+room = replicate 32 0
 
 -- what the stream call hands back, from the power-on record
 abbrev after : List ℕ → Record
@@ -48,6 +50,9 @@ position bytes = let s = after bytes .settings .screen in s .row ∷ s .column �
 
 abbrev largeLine : List ℕ → List ℕ
 largeLine bytes = lineOf (after bytes .text)
+
+abbrev marks : List ℕ → List ℕ
+marks bytes = map (λ (mark : Bool). cond mark 1 0) (after bytes .settings .inverse)
 
 abbrev iconP : List ℕ → List ℕ
 iconP bytes = after bytes .settings .icons .p ∷ []
@@ -128,9 +133,45 @@ table =
     ∷ (volume (frame (ascii "IL4") ++ frame (ascii "IM1") ++ frame (ascii "IL0")), nothing)
     -- then IL4 shows Mute
     ∷ (volume (frame (ascii "IL4") ++ frame (ascii "IM1") ++ frame (ascii "IL0") ++ frame (ascii "IL4")), mute)
+    -- IA, IH and &V are answered (request T-04); IA5 sets what IA tells
+    ∷ (said (frame (ascii "IA")), 0x1B ∷ 0x49 ∷ 0x41 ∷ 0x31 ∷ 0x30 ∷ 0x0D ∷ [])
+    ∷ (said (frame (ascii "IA5") ++ frame (ascii "IA")), (escape ∷ ascii "IA5") ++ carriageReturn ∷ [])
+    ∷ (said (frame (ascii "IH")), (escape ∷ ascii "IHH") ++ carriageReturn ∷ [])
+    ∷ (said (frame (ascii "&V")), (escape ∷ ascii "&VHA209 V.01.01 11.07.2006") ++ carriageReturn ∷ lineFeed ∷ [])
+    -- [K: the codes from the position on; at column 16 nothing. In mode 10 the large line
+    ∷ (take 6 (after (ascii "abcdef" ++ frame (ascii "[0;2H") ++ frame (ascii "[K")) .text), ascii "ab    ")
+    ∷ (take 16 (after (ascii "abcdefghijklmnop" ++ frame (ascii "[K")) .text), ascii "abcdefghijklmnop")
+    ∷ (take 3 (largeLine (frame (ascii "ID10") ++ ascii "123" ++ frame (ascii "ID10") ++ frame (ascii "[K"))), ascii "   ")
+    -- IZ4 in mode 0 marks row 3, IZ5 is silence; in mode 10 IZ1 is silence, IZ0 takes the mark away
+    ∷ (marks (frame (ascii "IZ4") ++ frame (ascii "IZ5")), 0 ∷ 0 ∷ 0 ∷ 1 ∷ 0 ∷ [])
+    ∷ (marks (frame (ascii "IZ2") ++ frame (ascii "ID10") ++ frame (ascii "IZ1")), 0 ∷ 1 ∷ 0 ∷ 0 ∷ 0 ∷ [])
+    ∷ (marks (frame (ascii "IZ2") ++ frame (ascii "ID10") ++ frame (ascii "IZ0")), 0 ∷ 0 ∷ 0 ∷ 0 ∷ 0 ∷ [])
     ∷ []
 
 -- EVERY P LINE HOLDS.
 pub p-lines : map (λ (l : List ℕ × List ℕ). l .0) table ≡ map (λ (l : List ℕ × List ℕ). l .1) table
-unfolding inRange textInRange labelInRange pictureInRange frameInRange digitOf padded hexOf timesOf items columnsOf hexCode itemText twoNumbers withNumber numberFrame displayOf lightOf isText labelRead afterI cursorSign positionOf readOf opensPicture rowAndData drawnRow pictureOf orderOf blanks drawn carryOut storeText keep step Room.run frameIn fedOf answersAfter outcome zipWith Keys.step keyed elapsed codeOf volumeSeen
+unfolding inRange textInRange labelInRange pictureInRange inverseInRange frameInRange digitOf padded hexOf timesOf items columnsOf hexCode itemText twoNumbers withNumber numberFrame displayOf lightOf isText labelRead contrastOf hookOf afterI cursorSign positionOf afterBracket readOf opensPicture rowAndData drawnRow pictureOf orderOf blanks lineCleared drawn carryOut storeText keep step Room.run frameIn fedOf answersAfter outcome zipWith Keys.step keyed elapsed codeOf volumeSeen
 p-lines = refl
+
+-- The rooms ---------------------------------------------------------------------------------------------------------
+
+-- rooms of 0 to 30 bytes
+abbrev rooms : List ℕ
+rooms = 0 ∷ 1 ∷ 2 ∷ 3 ∷ 4 ∷ 5 ∷ 6 ∷ 7 ∷ 8 ∷ 9 ∷ 10 ∷ 11 ∷ 12 ∷ 13 ∷ 14 ∷ 15 ∷ 16 ∷ 17 ∷ 18 ∷ 19 ∷ 20 ∷ 21 ∷ 22 ∷ 23 ∷ 24 ∷ 25 ∷ 26 ∷ 27 ∷ 28 ∷ 29 ∷ 30 ∷ []
+
+-- the bytes used and written of a frame, in a room
+abbrev counts : List ℕ → ℕ → List ℕ
+counts body space = let f = fedOf powerOn (frame body) space in f .used ∷ f .written ∷ []
+
+-- all of them and the whole answer, if it fits; else all but the CR, and none
+abbrev wholeOrNone : List ℕ → ℕ → ℕ → List ℕ
+wholeOrNone body answer space = cond (leb answer space) (length (frame body) ∷ answer ∷ []) (suc (length body) ∷ 0 ∷ [])
+
+-- IN A ROOM OF ANY SIZE an answer is written whole or not at all: IA, IH, &V and a bad frame.
+pub room-lines :
+    (map (counts (ascii "IA")) rooms ≡ map (wholeOrNone (ascii "IA") 6) rooms)
+    × (map (counts (ascii "IH")) rooms ≡ map (wholeOrNone (ascii "IH") 5) rooms)
+    × (map (counts (ascii "&V")) rooms ≡ map (wholeOrNone (ascii "&V") 29) rooms)
+    × (map (counts (ascii "Q")) rooms ≡ map (wholeOrNone (ascii "Q") 1) rooms)
+unfolding inRange textInRange labelInRange pictureInRange inverseInRange frameInRange digitOf padded hexOf timesOf items columnsOf hexCode itemText twoNumbers withNumber numberFrame displayOf lightOf isText labelRead contrastOf hookOf afterI cursorSign positionOf afterBracket readOf opensPicture rowAndData drawnRow pictureOf orderOf blanks lineCleared drawn carryOut storeText keep step Room.run frameIn fedOf answersAfter outcome zipWith Keys.step keyed elapsed codeOf volumeSeen
+room-lines = (refl, refl, refl, refl)

@@ -22,7 +22,9 @@ use Rattle.command.specs.Reading.{readOf, opensPicture, pictureOf}
 use Rattle.effect_modes.specs.Modes.{toMode, atLevel}
 use Rattle.effect.specs.Obey.{Obeys, core}
 use Rattle.record.specs.declared.Record.{Record}
-use Rattle.stream_places.specs.Places.{countAfter, asked, emptied}
+use Rattle.answer.specs.Answers.{answerBytes, isSilence, countAfter, bufferAfter as saidAfter, heads}
+use Rattle.hook.specs.Hook.{hooked}
+use Rattle.stream_places.specs.Places.{emptied}
 use Rattle.stream.specs.declared.Fed.{Fed}
 use Rattle.stream.specs.Stream.{together, lentOf, fedOf, answersAfter}
 use Rattle.lists.specs.Every.{every}
@@ -87,8 +89,14 @@ use Rattle.effect_modes.proofs.at_level as AtLevel
 use Rattle.effect_modes.proofs.at_level.Reads as AtLevelReads
 use Rattle.effect.proofs.obey as Obey
 use Rattle.effect.proofs.obey.Reads as ObeyReads
-use Rattle.stream_places.proofs.ask as Ask
-use Rattle.stream_places.proofs.ask.Reads as AskReads
+use Rattle.answer.proofs.is_silence as IsSilence
+use Rattle.answer.proofs.is_silence.Reads as IsSilenceReads
+use Rattle.answer.proofs.say as Say
+use Rattle.answer.proofs.say.Reads as SayReads
+use Rattle.answer.proofs.count as Count
+use Rattle.answer.proofs.count.Reads as CountReads
+use Rattle.hook.proofs.hook as HookCall
+use Rattle.hook.proofs.hook.Reads as HookCallReads
 use Rattle.stream_places.proofs.empty_from as EmptyFrom
 use Rattle.stream_places.proofs.empty_from.Reads as EmptyFromReads
 use Rattle.stream.proofs.feed_lent as FeedLent
@@ -268,9 +276,23 @@ at-level-says κs a q e w = refl
 pub obey-says : Says Obey.ended ObeyReads.ensures (λ κs a q e. Obeys (now (a .1 .1 .1 .0)) (core (a .0) (now (a .1 .0)) (now (a .1 .1 .0))) q (core (q .settings) (now (e .1 .0)) (now (e .1 .1 .0))))
 obey-says κs a q e w = refl
 
--- stream_places::ask
-pub ask-says : SaysBoth Ask.ended AskReads.ensures (λ κs a q e. q ≡ countAfter (length (now (a .0))) (a .1 .0)) (λ κs a q e. now (e .0) ≡ asked (now (a .0)) (a .1 .0))
-ask-says κs a q e w = refl
+-- answer::is_silence
+pub is-silence-says : Says IsSilence.ended IsSilenceReads.ensures (λ κs a q e. q ≡ isSilence (a .0))
+is-silence-says κs a q e w = refl
+
+-- answer::say
+pub say-says : SaysBoth Say.ended SayReads.ensures
+    (λ κs a q e. q ≡ countAfter (now (a .0)) (a .1 .0) (answerBytes (a .1 .1 .0) (a .1 .1 .1 .0) (a .1 .1 .1 .1 .0)))
+    (λ κs a q e. now (e .0) ≡ saidAfter (now (a .0)) (a .1 .0) (answerBytes (a .1 .1 .0) (a .1 .1 .1 .0) (a .1 .1 .1 .1 .0)))
+say-says κs a q e w = refl
+
+-- answer::count
+pub count-says : Says Count.ended CountReads.ensures (λ κs a q e. q ≡ heads (now (a .0)))
+count-says κs a q e w = refl
+
+-- hook::hook
+pub hook-says : Says HookCall.ended HookCallReads.ensures (λ κs a q e. q ≡ hooked (a .0) (a .1 .0))
+hook-says κs a q e w = refl
 
 -- stream_places::empty_from
 pub empty-from-says : Says EmptyFrom.ended EmptyFromReads.ensures (λ κs a q e. now (e .0) ≡ emptied (now (a .0)) (a .1 .0))

@@ -61,8 +61,14 @@ use Rattle.effect_modes.proofs.at_level as AtLevel
 use Rattle.effect_modes.proofs.at_level.Reads as AtLevelReads
 use Rattle.effect.proofs.obey as Obey
 use Rattle.effect.proofs.obey.Reads as ObeyReads
-use Rattle.stream_places.proofs.ask as Ask
-use Rattle.stream_places.proofs.ask.Reads as AskReads
+use Rattle.answer.proofs.is_silence as IsSilence
+use Rattle.answer.proofs.is_silence.Reads as IsSilenceReads
+use Rattle.answer.proofs.say as Say
+use Rattle.answer.proofs.say.Reads as SayReads
+use Rattle.answer.proofs.count as Count
+use Rattle.answer.proofs.count.Reads as CountReads
+use Rattle.hook.proofs.hook as HookCall
+use Rattle.hook.proofs.hook.Reads as HookCallReads
 use Rattle.stream_places.proofs.empty_from as EmptyFrom
 use Rattle.stream_places.proofs.empty_from.Reads as EmptyFromReads
 use Rattle.stream.proofs.feed_lent as FeedLent
@@ -221,9 +227,21 @@ opens-picture-one κs a q q′ e e′ p p′ = two-equal p p′
 pub read-picture-one : OneResult ReadPicture.ended ReadPictureReads.Learnt
 read-picture-one κs a q q′ e e′ p p′ = two-equal p p′
 
--- stream_places::ask
-pub ask-one : OneEnd Ask.ended (List ℕ) AskReads.Learnt (λ κs e. now (e .0))
-ask-one κs a q q′ e e′ p p′ = (two-equal (p .0) (p′ .0), two-equal (p .1) (p′ .1))
+-- answer::is_silence
+pub is-silence-one : OneResult IsSilence.ended IsSilenceReads.Learnt
+is-silence-one κs a q q′ e e′ p p′ = two-equal p p′
+
+-- answer::say
+pub say-one : OneEnd Say.ended (List ℕ) SayReads.Learnt (λ κs e. now (e .0))
+say-one κs a q q′ e e′ p p′ = (two-equal (p .0) (p′ .0), two-equal (p .1) (p′ .1))
+
+-- answer::count
+pub count-one : OneResult Count.ended CountReads.Learnt
+count-one κs a q q′ e e′ p p′ = two-equal p p′
+
+-- hook::hook
+pub hook-one : OneResult HookCall.ended HookCallReads.Learnt
+hook-one κs a q q′ e e′ p p′ = two-equal p p′
 
 -- stream_places::empty_from
 pub empty-from-one : OneEnd EmptyFrom.ended (List ℕ) EmptyFromReads.Learnt (λ κs e. now (e .0))
@@ -318,14 +336,14 @@ to-mode-one κs a q q′ e e′ p p′ = two-equal p p′
 pub at-level-one : OneResult AtLevel.ended AtLevelReads.Learnt
 at-level-one κs a q q′ e e′ p p′ = two-equal p p′
 
--- effect::obey: whether the frame is good, and the settings, text and picture as they are afterwards
+-- effect::obey: what the frame is answered, and the settings, text and picture as they are afterwards
 pub obey-one : (κs : Lfts (Obey.ended .signature .lifetimes)) (a : ArgsD (Obey.ended .signature) κs) (q q′ : ResD (Obey.ended .signature) κs) (e e′ : AtExit Obey.ended κs)
     → ObeyReads.Learnt κs a q e → ObeyReads.Learnt κs a q′ e′
     → (q ≡ q′) × (now (e .1 .0) ≡ now (e′ .1 .0)) × (now (e .1 .1 .0) ≡ now (e′ .1 .1 .0))
 obey-one κs a q q′ e e′ p p′ =
     let same = two-equal (p .same) (p′ .same) in
-    let good = two-equal (p .good) (p′ .good) in
-    (λ j. record { good = good j; settings = same j .settings }, λ j. same j .text, λ j. same j .picture)
+    let answer = two-equal (p .answer) (p′ .answer) in
+    (λ j. record { answer = answer j; settings = same j .settings }, λ j. same j .text, λ j. same j .picture)
 
 -- measure::measure_one_call
 pub one-call-one : OneEnd OneCall.ended (List ℕ) OneCallReads.Learnt (λ κs e. now (e .1 .0))

@@ -15,6 +15,7 @@
 //   K ROOM COUNT TICKS EDGES    the key log call; COUNT says how many ticks, a number each, and the rest are edges, a byte each.
 //                               There may be more of one than of the other
 //   C                           a second passes, on the record
+//   H ON                        the hook call; ON is one byte: 0 off-hook, any other on-hook
 //   B                           a second passes in place, on a copy of the record's backlight; the record stays
 //   Q ROW PHASE                 the row question; ROW is one byte, PHASE one too: 0 lit, 1 the pause
 //   U ROW COLUMN PHASE          the column question; each is one byte
@@ -33,7 +34,7 @@
 //
 //   P, O and S       the letter and 00
 //   R                R 01 in range, R 00 not
-//   C                C NUMBER
+//   C and H          the letter and NUMBER
 //   F, K, W, T, G    the letter NUMBER USED WRITTEN, USED 0 for the writers; then "buffer" and all that was lent, as it stands
 //                    after the call
 //   B                B NUMBER; then a line "backlight" as in the record
@@ -41,15 +42,16 @@
 //   V                V NUMBER VOLUME LEVEL: 0 nothing, 1 Mute, 2 private, 3 handsfree; LEVEL 0 for the first two
 //   Q                Q NUMBER; then what the owner of the row shows, no line if there is nothing:
 //                      icon bar F P R SMS VOLUME LEVEL
-//                      row OWNER ROW      OWNER 2 is a text row, 3 a picture row, 4 the small codes of the large line, ROW 0, 5 a
+//                      row OWNER ROW MARK OWNER 2 is a text row, 3 a picture row, 4 the small codes of the large line, ROW 0, 5 a
 //                                         half of its big ones, ROW 0 the upper, 1 the lower, 6 a picture row with the rocker; then
-//                                         "cells": 16 codes, 8 big ones or 96 columns, and for OWNER 6 "rocker W"
+//                                         "cells": 16 codes, 8 big ones or 96 columns, and for OWNER 6 "rocker W". MARK is 1 for a
+//                                         text row that is seen inverse, else 0
 //                      soft keys W        then the lines of the labels as in the record
 //   U                U NUMBER; then the line "icon bar" as above, or what stands at the place, no line if there is nothing:
-//                      cell OWNER WHERE VALUE    OWNER and WHERE 2 to 5 as OWNER and ROW above; 6 the left label, 8 the right one,
+//                      cell OWNER WHERE VALUE MARK    OWNER, WHERE and MARK 2 to 5 as OWNER, ROW and MARK above; 6 the left label, 8 the right one,
 //                                                WHERE a cell of it, VALUE 0 past its length; 7 the rocker, WHERE 0
 //
-// After the lines of P, O, S, F, K and C the whole record follows:
+// After the lines of P, O, S, F, K, C and H the whole record follows:
 //
 //   screen DISPLAY MODE OVERLAY SHOWN ROW COLUMN           OVERLAY 0 is none; SHOWN, ROW and COLUMN are the cursor's
 //   labels LEFT RIGHT                                      their lengths
@@ -57,6 +59,7 @@
 //   right CODES
 //   icons S U F R P W WHICH LEVEL MUTE HIDDEN BUZZER       WHICH volume: 0 none, 1 private, 2 handsfree
 //   backlight MODE DURATION LEFT KEYPAD                    MODE 0 off, 1 on, 2 auto
+//   switches CONTRAST HOOK MARKS                           HOOK 1 is on-hook; MARKS are five flags, of text rows 0 to 4
 //   keys DOWN KEY TICK STAGE TIME1 TIME2                   STAGE 0 short, 1 long
 //   frame STATE LENGTH                                     STATE 0 none, 1 open, 2 overlong
 //   bytes FRAME                                            all 250 places
@@ -73,12 +76,12 @@
 //   18 volume which     19 level            20 mute (flag)       21 hidden (flag)       22 Time1           23 Time2
 //   24 buzzer           25 backlight mode   26 duration          27 seconds left        28 keypad (flag)   29 key held (flag)
 //   30 held key         31 held tick        32 stage long (flag) 33 frame state         34 frame length    35 frame bytes [250]
-//   36 large line [24]
+//   36 large line [24]  37 contrast         38 on-hook (flag)    39 inverse mark [5] (flags)
 //
 // Commands of W, in decimal: 0 display off, 1 display on, 2 text mode or overlay A, 3 cursor shown, 4 cursor not shown, 5 clear,
 // 6 cursor to row A, column B, 7 both labels empty, 8 to 13 icon S, U, F, R, P, W to A, 14 private volume A, 15 handsfree volume
 // A, 16 the same as the note spells it, 17 mute A, 18 key times A and B, 19 buzzer A, 20 backlight IEn with A, then without
-// numbers 21 IEE, 22 IEA, 23 IES, 24 IER, 25 IEe, 26 IEr.
+// numbers 21 IEE, 22 IEA, 23 IES, 24 IER, 25 IEe, 26 IEr, 27 contrast A, 28 IA, 29 IH, 30 &V, 31 [K, 32 inverse A.
 ghost use mathlib.Core.Path.{_≡_};
 ghost use Prim.Native.Nat.{_<_, _≤_, _*_};
 ghost use lib.ListN.{length};
@@ -138,7 +141,7 @@ const MOST_ENTRIES: usize = 1024;
 // Room, side or row, and the most codes or columns.
 const MOST_CELLS: usize = 303;
 
-const LAST_COMMAND: u8 = 26;
+const LAST_COMMAND: u8 = 32;
 
 // Where the large line begins in the text.
 const LINE: usize = 80;
@@ -283,11 +286,28 @@ fn say_light(b: Backlight) {
     );
 }
 
+fn say_switches(contrast: u8, hook: bool, marks: [bool; 5]) {
+    say(
+        b"switches",
+        &[
+            contrast,
+            hook as u8,
+            marks[0] as u8,
+            marks[1] as u8,
+            marks[2] as u8,
+            marks[3] as u8,
+            marks[4] as u8,
+        ],
+    );
+}
+
 fn say_settings(p: Settings) {
+    let marks = p.inverse;
     say_screen(p.screen, p.shown);
     say_labels(p.left, p.right);
     say_icons(p.icons, p.volume, p.buzzer);
     say_light(p.backlight);
+    say_switches(p.contrast, p.hook, marks);
 }
 
 fn say_keys(h: Held, t: Times) {
@@ -392,8 +412,8 @@ fn say_bar(bar: Bar) {
     );
 }
 
-fn say_cells(owner: u8, row: u8, cells: &[u8]) {
-    say(b"row", &[owner, row]);
+fn say_cells(owner: u8, row: u8, inverse: bool, cells: &[u8]) {
+    say(b"row", &[owner, row, inverse as u8]);
     say(b"cells", cells);
 }
 
@@ -404,11 +424,11 @@ fn say_soft_keys(labels: Labels) {
 
 fn say_big_cells(half: u8, codes: [u8; 16]) {
     let cells = &codes[..];
-    say_cells(5, half, &cells[0..8]);
+    say_cells(5, half, false, &cells[0..8]);
 }
 
 fn say_with_rocker(n: u8, columns: [u8; 96], w: u8) {
-    say_cells(6, n, &columns);
+    say_cells(6, n, false, &columns);
     say(b"rocker", &[w]);
 }
 
@@ -417,17 +437,17 @@ fn say_row(row: Row) {
     match owner {
         Owner::Nothing => (),
         Owner::IconBar => say_bar(row.bar),
-        Owner::TextRow(n) => say_cells(2, n, &row.codes),
-        Owner::PictureRow(n) => say_cells(3, n, &row.columns),
+        Owner::TextRow(n) => say_cells(2, n, row.inverse, &row.codes),
+        Owner::PictureRow(n) => say_cells(3, n, false, &row.columns),
         Owner::SoftKeys => say_soft_keys(row.labels),
-        Owner::SmallLine => say_cells(4, 0, &row.codes),
+        Owner::SmallLine => say_cells(4, 0, false, &row.codes),
         Owner::BigLine(half) => say_big_cells(half, row.codes),
         Owner::PictureWithRocker(n) => say_with_rocker(n, row.columns, row.labels.w),
     }
 }
 
-fn say_cell(owner: u8, place: u8, value: u8) {
-    say(b"cell", &[owner, place, value]);
+fn say_cell(owner: u8, place: u8, value: u8, inverse: bool) {
+    say(b"cell", &[owner, place, value, inverse as u8]);
 }
 
 fn right_cell(column: u8) -> u8 {
@@ -439,9 +459,9 @@ fn right_cell(column: u8) -> u8 {
 
 fn say_soft_key(shown: Shown, column: u8) {
     match shown {
-        Shown::LeftLabel(code) => say_cell(6, column / 6, code),
-        Shown::Rocker(w) => say_cell(7, 0, w),
-        Shown::RightLabel(code) => say_cell(8, right_cell(column), code),
+        Shown::LeftLabel(code) => say_cell(6, column / 6, code, false),
+        Shown::Rocker(w) => say_cell(7, 0, w, false),
+        Shown::RightLabel(code) => say_cell(8, right_cell(column), code, false),
         _ => say_what(),
     }
 }
@@ -461,11 +481,11 @@ fn say_place(seen: ColumnSeen, column: u8) {
     match owner {
         Owner::Nothing => (),
         Owner::IconBar => say_bar(bar),
-        Owner::TextRow(n) => say_cell(2, n, shown_value(shown)),
-        Owner::PictureRow(n) => say_cell(3, n, shown_value(shown)),
+        Owner::TextRow(n) => say_cell(2, n, shown_value(shown), seen.inverse),
+        Owner::PictureRow(n) => say_cell(3, n, shown_value(shown), false),
         Owner::SoftKeys => say_soft_key(shown, column),
-        Owner::SmallLine => say_cell(4, 0, shown_value(shown)),
-        Owner::BigLine(half) => say_cell(5, half, shown_value(shown)),
+        Owner::SmallLine => say_cell(4, 0, shown_value(shown), false),
+        Owner::BigLine(half) => say_cell(5, half, shown_value(shown), false),
         Owner::PictureWithRocker(_) => say_what(),
     }
 }
@@ -553,7 +573,8 @@ fn places_of(field: u8) -> u16 {
         11 => 672,
         35 => 250,
         LARGE_LINE => 24,
-        0..=34 => 1,
+        39 => 5,
+        0..=38 => 1,
         _ => 0,
     }
 }
@@ -596,6 +617,9 @@ fn field_of(field: u8) -> Field {
         33 => Field::FrameState,
         34 => Field::FrameLength,
         35 => Field::FrameByte,
+        37 => Field::Contrast,
+        38 => Field::Hook,
+        39 => Field::Inverse,
         _ => Field::Text,
     }
 }
@@ -628,7 +652,13 @@ fn command_of(n: u8, a: u16, b: u16) -> Command {
         23 => Command::LightAuto,
         24 => Command::DefaultDuration,
         25 => Command::KeypadSet,
-        _ => Command::KeypadCleared,
+        26 => Command::KeypadCleared,
+        27 => Command::Contrast(a),
+        28 => Command::ContrastAsked,
+        29 => Command::HookAsked,
+        30 => Command::VersionAsked,
+        31 => Command::ClearLine,
+        _ => Command::Inverse(a),
     }
 }
 
@@ -670,6 +700,7 @@ fn is_call(letter: u8, args: &[u8]) -> bool {
         b'O' => args.len() == 0,
         b'R' => args.len() == 0,
         b'C' => args.len() == 0,
+        b'H' => args.len() == 1,
         b'B' => args.len() == 0,
         b'M' => (args.len() == 1) & (byte_at(args, 0) <= 1),
         b'V' => args.len() == 0,
@@ -746,6 +777,13 @@ fn second_call(r: Record) -> Record {
     let number = passed.number;
     say_number(b'C', number);
     shown(passed.after)
+}
+
+fn hook_call(r: Record, on: u8) -> Record {
+    let hooked = hook::hook(r, on != 0);
+    let number = hooked.number;
+    say_number(b'H', number);
+    shown(hooked.after)
 }
 
 // Calls that leave the record as it is.
@@ -849,6 +887,7 @@ fn made(r: Record, letter: u8, args: &[u8], buffer: &mut [u8]) -> Record {
         b'F' => return stream_call(r, after(args, 2), buffer),
         b'K' => return log_call(r, args, buffer),
         b'C' => return second_call(r),
+        b'H' => return hook_call(r, byte_at(args, 0)),
         _ => question(r, letter, args, buffer),
     }
     r

@@ -16,11 +16,11 @@ use Rattle.command.specs.declared.PictureFrame.{PictureFrame}
 use Rattle.effect.specs.declared.Obeyed.{Obeyed}
 use Rattle.effect.specs.Core.{Core, onPicture}
 use Rattle.effect.specs.Effect.{drawn, carryOut}
-use Rattle.effect.specs.Obey.{obeyOrder, isGood, Obeys}
+use Rattle.effect.specs.Obey.{obeyOrder, answerTo, Obeys}
 
 pub obeys : {f : List ℕ} {before after : Core} {obeyed : Obeyed} {found : Option Order}
-    → orderOf f ≡ found → obeyed .good ≡ isGood found → after ≡ obeyOrder before found → Obeys f before obeyed after
-obeys {before = before} e g s = record { good = g ∙ ap isGood (sym e); same = s ∙ ap (obeyOrder before) (sym e) }
+    → orderOf f ≡ found → obeyed .answer ≡ answerTo found → after ≡ obeyOrder before found → Obeys f before obeyed after
+obeys {before = before} e g s = record { answer = g ∙ ap answerTo (sym e); same = s ∙ ap (obeyOrder before) (sym e) }
 
 module _ (f : List ℕ) {opens : Bool} (o : opens ≡ opensPicture f) where
   pub no-drawing : (p : PictureFrame) → opens ≡ true → p ≡ pictureOf f → p .columns .len ≡ 0 → orderOf f ≡ none

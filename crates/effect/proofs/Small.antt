@@ -1,15 +1,15 @@
 -- The numbers of a command in range are bytes. Assumes nothing.
-use Prim.Native.Nat.{ℕ, _≤_, _<_}
+use Prim.Native.Nat.{ℕ, _*_, _≤_, _<_}
 use native.Mathlib.Omega.{arith}
 use mathlib.Core.Bool.{Bool, true, false, true≢false, cond, _&&_, _||_, and-false}
 use mathlib.Core.Path.{_≡_, refl, sym, subst, _∙_}
 use lib.Dec.{leb, ltb, eqb}
 use borrow.Author.Tests.{leb-true, leb-false, lt-leb, ltb-true, eqb-true, ne-eqb}
 use Rattle.lists.specs.Both.{both}
-use Rattle.record.specs.Range.{large, rowsOf, modeInRange, iconUInRange, time1InRange, time2InRange}
+use Rattle.record.specs.Range.{large, rowsOf, lineStart, rowStartOf, modeInRange, iconUInRange, time1InRange, time2InRange}
 use Rattle.command.specs.InRange.{isOverlay, isColumn, rowsNamed, commandInRange}
 use Rattle.command.specs.declared.Command.{Command}
-use Rattle.command.specs.declared.Command.the-variants.{Position, KeyTimes}
+use Rattle.command.specs.declared.Command.the-variants.{Position, KeyTimes, Contrast, Inverse}
 
 -- a test that no number above 255 passes
 small-by : (test : ℕ → Bool) → ((n : ℕ) → 255 < n → test n ≡ false) → (n : ℕ) → test n ≡ true → n < 256
@@ -45,6 +45,27 @@ small-position {k} {row} {column} mode e h =
     (cases (leb mode 1) (eqb mode large) (ltb-true row (rowsNamed mode) (b .0)), at-most 15 column (omega arith) (b .1))
   where
     cases : (few line : Bool) → row < cond line 0 (cond few 4 (cond line 1 5)) → row < 256
+    cases few true l = omega arith
+    cases true false l = omega arith
+    cases false false l = omega arith
+
+-- a contrast
+pub small-contrast : {k : Command} {n : ℕ} (rows : ℕ) → k ≡ Contrast n → commandInRange rows k ≡ true → n < 256
+small-contrast {k} {n} rows e h = at-most 20 n (omega arith) (both {a = leb 1 n} (subst (λ (x : Command). commandInRange rows x ≡ true) e h) .1)
+
+-- where a row begins
+pub small-start : (mode row : ℕ) → row < 256 → rowStartOf mode row < 65536
+small-start mode row h = cases (eqb mode large)
+  where
+    cases : (line : Bool) → cond line lineStart (row * 16) < 65536
+    cases true = omega arith
+    cases false = omega arith
+
+-- a row whose mark is set
+pub small-mark : {k : Command} {n : ℕ} (mode : ℕ) → k ≡ Inverse n → commandInRange (rowsNamed mode) k ≡ true → n ≤ 5
+small-mark {k} {n} mode e h = cases (leb mode 1) (eqb mode large) (leb-true n (rowsNamed mode) (subst (λ (x : Command). commandInRange (rowsNamed mode) x ≡ true) e h))
+  where
+    cases : (few line : Bool) → n ≤ cond line 0 (cond few 4 (cond line 1 5)) → n ≤ 5
     cases few true l = omega arith
     cases true false l = omega arith
     cases false false l = omega arith

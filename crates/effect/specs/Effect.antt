@@ -1,7 +1,7 @@
 -- What each order does: document 01's third column, line by line ("The good frames"), and what a text byte does. Each line is a
 -- setter of the fields that it names, so nothing else changes. Assumes nothing.
-use Prim.Native.Nat.{ℕ, _+_, _*_, _%_}
-use mathlib.Core.Bool.{true, false, cond}
+use Prim.Native.Nat.{ℕ, _+_, _-_, _*_, _%_}
+use mathlib.Core.Bool.{Bool, true, false, cond}
 use mathlib.Core.List.{List, [], map}
 use lib.Dec.{eqb, ltb}
 use lib.ListN.{length, set, replicate}
@@ -9,13 +9,14 @@ use lib.Seq.{sets}
 use Rattle.lists.specs.Codes.{blank}
 use Rattle.lists.specs.Padded.{padded}
 use Rattle.record.specs.declared.Label.{Label}
+use Rattle.record.specs.declared.Screen.{Screen}
 use Rattle.record.specs.declared.Volume.{Volume}
 use Rattle.record.specs.declared.Backlight.{Backlight}
 use Rattle.record.specs.Range.{rowEndOf, lineStart, rowStartOf, off, on, auto}
-use Rattle.record.specs.With.{withShown, withLeft, withRight, withTimes, withBuzzer, withDisplay, withColumn, withIconS, withIconU, withIconF, withIconR, withIconP, withIconW, withMute, withHidden, withLight, withDuration, withSecondsLeft, withKeypad}
+use Rattle.record.specs.With.{withShown, withLeft, withRight, withTimes, withBuzzer, withDisplay, withColumn, withIconS, withIconU, withIconF, withIconR, withIconP, withIconW, withMute, withHidden, withLight, withDuration, withSecondsLeft, withKeypad, withContrast, withInverse}
 use Rattle.command.specs.Order.{Order, plain, label, draw}
 use Rattle.command.specs.InRange.{inRangeInMode}
-use Rattle.command.specs.declared.Command.the-variants.{DisplayOff, DisplayOn, Mode, CursorShown, CursorHidden, Clear, Position, LabelsEmpty, IconS, IconU, IconF, IconR, IconP, IconW, Private, Handsfree, HandsfreeOfNote, Mute, KeyTimes, Buzzer, Light, LightOn, LightAutoStart, LightAuto, DefaultDuration, KeypadSet, KeypadCleared}
+use Rattle.command.specs.declared.Command.the-variants.{DisplayOff, DisplayOn, Mode, CursorShown, CursorHidden, Clear, Position, LabelsEmpty, IconS, IconU, IconF, IconR, IconP, IconW, Private, Handsfree, HandsfreeOfNote, Mute, KeyTimes, Buzzer, Light, LightOn, LightAutoStart, LightAuto, DefaultDuration, KeypadSet, KeypadCleared, Contrast, ContrastAsked, HookAsked, VersionAsked, ClearLine, Inverse}
 use Rattle.command.specs.declared.Side.the-variants.{Left, Right}
 use Rattle.effect_modes.specs.Modes.{at, toMode, atLevel}
 use Rattle.effect.specs.Core.{Core, onSettings, onText, onPicture, onScreen, onIcons, onVolume, onBacklight}
@@ -40,6 +41,14 @@ noSeconds b = withSecondsLeft b (record { 0 = 0 })
 -- IEn: 0 is off, left 0; 1-255 the duration
 abbrev pub lightAt : Backlight → ℕ → Backlight
 lightAt b n = cond (eqb n 0) (noSeconds (withLight b off)) (withDuration b (record { 0 = n }))
+
+-- the codes from the position to the end of its row become 0x20; at the row's end nothing
+unfoldable pub lineCleared : Screen → List ℕ → List ℕ
+lineCleared s text = sets text (rowStartOf (s .mode) (s .row) + s .column) (replicate (rowEndOf (s .mode) - s .column) blank)
+
+-- IZn: 0 no mark; k that of row k - 1 alone
+abbrev pub marksOf : ℕ → List Bool
+marksOf n = cond (eqb n 0) (replicate 5 false) (set (replicate 5 false) (n - 1) true)
 
 -- in row 6 only the five low bits of a column are kept
 abbrev pub keptIn : ℕ → ℕ → ℕ
@@ -81,6 +90,12 @@ effect (plain LightAuto) c = onBacklight c (withLight (c .settings .backlight) a
 effect (plain DefaultDuration) c = onBacklight c (withDuration (c .settings .backlight) (record { 0 = 30 }))
 effect (plain KeypadSet) c = onBacklight c (withKeypad (c .settings .backlight) true)
 effect (plain KeypadCleared) c = onBacklight c (withKeypad (c .settings .backlight) false)
+effect (plain (Contrast n)) c = onSettings c (withContrast (c .settings) n)
+effect (plain ContrastAsked) c = c
+effect (plain HookAsked) c = c
+effect (plain VersionAsked) c = c
+effect (plain ClearLine) c = onText c (lineCleared (c .settings .screen) (c .text))
+effect (plain (Inverse n)) c = onSettings c (withInverse (c .settings) (marksOf n))
 effect (draw row columns) c = onPicture c (drawn (c .picture) row columns)
 
 -- with a number out of range an order is passed over, else obeyed

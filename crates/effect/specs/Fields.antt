@@ -2,13 +2,13 @@
 -- column ("The good frames"), field by field. Assumes nothing.
 use Prim.Native.Nat.{ℕ}
 use mathlib.Core.Bool.{Bool, false, cond, _||_}
-use mathlib.Core.List.{List, [], _∷_}
+use mathlib.Core.List.{List, [], _∷_, map}
 use lib.Dec.{eqb}
 use Rattle.record.specs.Range.{textOf, lineOf}
 use Rattle.record.specs.declared.Label.{Label}
 use Rattle.command.specs.Order.{Order, plain, label, draw}
 use Rattle.command.specs.InRange.{isOverlay}
-use Rattle.command.specs.declared.Command.the-variants.{DisplayOff, DisplayOn, Mode, CursorShown, CursorHidden, Clear, Position, LabelsEmpty, IconS, IconU, IconF, IconR, IconP, IconW, Private, Handsfree, HandsfreeOfNote, Mute, KeyTimes, Buzzer, Light, LightOn, LightAutoStart, LightAuto, DefaultDuration, KeypadSet, KeypadCleared}
+use Rattle.command.specs.declared.Command.the-variants.{DisplayOff, DisplayOn, Mode, CursorShown, CursorHidden, Clear, Position, LabelsEmpty, IconS, IconU, IconF, IconR, IconP, IconW, Private, Handsfree, HandsfreeOfNote, Mute, KeyTimes, Buzzer, Light, LightOn, LightAutoStart, LightAuto, DefaultDuration, KeypadSet, KeypadCleared, Contrast, ContrastAsked, HookAsked, VersionAsked, ClearLine, Inverse}
 use Rattle.command.specs.declared.Side.the-variants.{Left, Right}
 use Rattle.effect.specs.Core.{Core}
 
@@ -26,11 +26,13 @@ pub data Field : Type 0 where
   -- backlight: off, on or auto; duration; seconds left; keypad flag
   light duration secondsLeft keypad : Field
   picture : Field
+  -- contrast, hook, inverse marks
+  contrast hook inverse : Field
 
 -- each field has a number of its own
 abbrev pub number : Field → ℕ
 number =
-    elim [ display ↦ 0 | mode ↦ 1 | overlay ↦ 2 | row ↦ 3 | column ↦ 4 | text ↦ 5 | largeLine ↦ 6 | shown ↦ 7 | leftLabel ↦ 8 | rightLabel ↦ 9 | iconS ↦ 10 | iconU ↦ 11 | iconF ↦ 12 | iconR ↦ 13 | iconP ↦ 14 | iconW ↦ 15 | which ↦ 16 | level ↦ 17 | mute ↦ 18 | hidden ↦ 19 | time1 ↦ 20 | time2 ↦ 21 | buzzer ↦ 22 | light ↦ 23 | duration ↦ 24 | secondsLeft ↦ 25 | keypad ↦ 26 | picture ↦ 27 ]
+    elim [ display ↦ 0 | mode ↦ 1 | overlay ↦ 2 | row ↦ 3 | column ↦ 4 | text ↦ 5 | largeLine ↦ 6 | shown ↦ 7 | leftLabel ↦ 8 | rightLabel ↦ 9 | iconS ↦ 10 | iconU ↦ 11 | iconF ↦ 12 | iconR ↦ 13 | iconP ↦ 14 | iconW ↦ 15 | which ↦ 16 | level ↦ 17 | mute ↦ 18 | hidden ↦ 19 | time1 ↦ 20 | time2 ↦ 21 | buzzer ↦ 22 | light ↦ 23 | duration ↦ 24 | secondsLeft ↦ 25 | keypad ↦ 26 | picture ↦ 27 | contrast ↦ 28 | hook ↦ 29 | inverse ↦ 30 ]
 
 -- What stands in a field ------------------------------------------------------------------------------------------
 
@@ -71,6 +73,9 @@ read duration c = c .settings .backlight .duration .0 ∷ []
 read secondsLeft c = c .settings .backlight .left .0 ∷ []
 read keypad c = bit (c .settings .backlight .keypad) ∷ []
 read picture c = c .picture
+read contrast c = c .settings .contrast ∷ []
+read hook c = bit (c .settings .hook) ∷ []
+read inverse c = map bit (c .settings .inverse)
 
 -- The table -------------------------------------------------------------------------------------------------------
 
@@ -119,6 +124,15 @@ setBy (plain LightAuto) = light ∷ []
 setBy (plain DefaultDuration) = duration ∷ []
 setBy (plain KeypadSet) = keypad ∷ []
 setBy (plain KeypadCleared) = keypad ∷ []
+-- IAn: contrast. IA, IH, &V: a question sets nothing
+setBy (plain (Contrast n)) = contrast ∷ []
+setBy (plain ContrastAsked) = []
+setBy (plain HookAsked) = []
+setBy (plain VersionAsked) = []
+-- [K: of text and large line, what stands from the position to the end of its row
+setBy (plain ClearLine) = text ∷ largeLine ∷ []
+-- IZn: the marks
+setBy (plain (Inverse n)) = inverse ∷ []
 -- a picture frame: picture row r from column 0 takes the columns
 setBy (draw r columns) = picture ∷ []
 

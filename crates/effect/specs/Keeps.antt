@@ -1,5 +1,5 @@
 -- Whatever a frame orders and whatever text byte comes, the core stays within its ranges. Assumes nothing.
-use Prim.Native.Nat.{ℕ, _+_, _*_, _-_, _%_, _<_, _≤_}
+use Prim.Native.Nat.{ℕ, zero, suc, _+_, _*_, _-_, _%_, _<_, _≤_}
 use native.Mathlib.Omega.{arith}
 use native.Mathlib.Nat.{mod-lt}
 use mathlib.Core.Bool.{Bool, true, false, true≢false, cond, not, _&&_, _||_, or-true}
@@ -11,6 +11,7 @@ use lib.ListN.{length, set, take, drop, replicate, length-set, length-map}
 use lib.Seq.{sets, length-sets, take-all, drop-append-seam}
 use borrow.Author.Tests.{leb-true, ltb-true, lt-ltb, le-leb, eq-eqb, eqb-false}
 use Rattle.lists.specs.Both.{both, and-both}
+use Rattle.lists.specs.Codes.{blank}
 use Rattle.lists.specs.Every.{every}
 use Rattle.lists.specs.Padded.{padded, held, length-padded}
 use Rattle.record.specs.declared.Record.{Record}
@@ -23,21 +24,21 @@ use Rattle.record.specs.declared.Label.{Label}
 use Rattle.record.specs.declared.Held.{Held}
 use Rattle.record.specs.declared.Frame.{Frame}
 use Rattle.record.specs.Laws.{Ranges}
-use Rattle.record.specs.Range.{large, rowsOf, rowEndOf, lineStart, rowStartOf, isCode, isLowColumn, isUnused, modeInRange, overlayInRange, cursorInRange, textInRange, labelInRange, pictureInRange, iconSInRange, iconUInRange, iconFInRange, iconRInRange, iconPInRange, iconWInRange, iconsInRange, whichInRange, levelInRange, volumeInRange, timesInRange, buzzerInRange, durationInRange, backlightInRange, heldInRange, frameInRange}
-use Rattle.record.specs.With.{withLeft, withRight, withShown, withIconS, withIconU, withIconF, withIconR, withIconP, withIconW}
+use Rattle.record.specs.Range.{large, rowsOf, rowEndOf, lineStart, rowStartOf, isCode, isLowColumn, isUnused, modeInRange, overlayInRange, cursorInRange, textInRange, labelInRange, pictureInRange, iconSInRange, iconUInRange, iconFInRange, iconRInRange, iconPInRange, iconWInRange, iconsInRange, whichInRange, levelInRange, volumeInRange, timesInRange, buzzerInRange, durationInRange, backlightInRange, contrastInRange, inverseInRange, heldInRange, frameInRange}
+use Rattle.record.specs.With.{withLeft, withRight, withShown, withIconS, withIconU, withIconF, withIconR, withIconP, withIconW, withContrast, withInverse}
 use Rattle.command.specs.Order.{Order, plain, label, draw}
 use Rattle.command.specs.InRange.{isOverlay, isColumn, rowsNamed, inRangeInMode}
 use Rattle.command.specs.Grammar.{Spells}
 use Rattle.command.specs.Reading.{orderOf}
 use Rattle.command.specs.Sound.{sound}
 use Rattle.command.specs.Facts.{LabelText, PictureRow, read-label, read-row}
-use Rattle.command.specs.declared.Command.the-variants.{DisplayOff, DisplayOn, Mode, CursorShown, CursorHidden, Clear, Position, LabelsEmpty, IconS, IconU, IconF, IconR, IconP, IconW, Private, Handsfree, HandsfreeOfNote, Mute, KeyTimes, Buzzer, Light, LightOn, LightAutoStart, LightAuto, DefaultDuration, KeypadSet, KeypadCleared}
+use Rattle.command.specs.declared.Command.the-variants.{DisplayOff, DisplayOn, Mode, CursorShown, CursorHidden, Clear, Position, LabelsEmpty, IconS, IconU, IconF, IconR, IconP, IconW, Private, Handsfree, HandsfreeOfNote, Mute, KeyTimes, Buzzer, Light, LightOn, LightAutoStart, LightAuto, DefaultDuration, KeypadSet, KeypadCleared, Contrast, ContrastAsked, HookAsked, VersionAsked, ClearLine, Inverse}
 use Rattle.command.specs.declared.Side.the-variants.{Left, Right}
 use Rattle.effect.specs.Core.{Core, coreOf, onSettings, onText, onPicture, onScreen, onIcons, onVolume, onBacklight}
 use Rattle.effect_modes.specs.Modes.{at, inMode, atLevel}
-use Rattle.effect.specs.Effect.{blanks, labelOf, muted, lightAt, keptIn, drawn, effect, carryOut, storeText}
+use Rattle.effect.specs.Effect.{blanks, labelOf, muted, lightAt, lineCleared, marksOf, keptIn, drawn, effect, carryOut, storeText}
 use Rattle.effect.specs.Obey.{obeyOrder}
-use Rattle.effect.specs.Sets.{every-set, every-replicate, sets-keep}
+use Rattle.effect.specs.Sets.{every-set, every-sets, every-replicate, sets-keep}
 
 -- The rows of document 01's table that a core has.
 pub record CoreInRange (c : Core) : Type 0 where
@@ -53,53 +54,63 @@ pub record CoreInRange (c : Core) : Type 0 where
   pub times : timesInRange (c .settings .times) ≡ true
   pub buzzer : buzzerInRange (c .settings .buzzer .0) ≡ true
   pub backlight : backlightInRange (c .settings .backlight) ≡ true
+  pub contrast : contrastInRange (c .settings .contrast) ≡ true
+  pub inverse : inverseInRange (c .settings .inverse) ≡ true
 
 -- A record in range has its core in range; a core, a held key and a frame in range make a record in range.
 pub core-of-record : (r : Record) → Ranges r → CoreInRange (coreOf r)
 core-of-record r k =
-    record { mode = k .mode; overlay = k .overlay; cursor = k .cursor; text = k .text; left = k .left; right = k .right; picture = k .picture; icons = k .icons; volume = k .volume; times = k .times; buzzer = k .buzzer; backlight = k .backlight }
+    record { mode = k .mode; overlay = k .overlay; cursor = k .cursor; text = k .text; left = k .left; right = k .right; picture = k .picture; icons = k .icons; volume = k .volume; times = k .times; buzzer = k .buzzer; backlight = k .backlight; contrast = k .contrast; inverse = k .inverse }
 
 abbrev pub recordOf : Core → Held → Frame → Record
 recordOf c held frame = record { settings = c .settings; text = c .text; picture = c .picture; held = held; frame = frame }
 
 pub record-of-core : (c : Core) (held : Held) (frame : Frame) → CoreInRange c → heldInRange held ≡ true → frameInRange frame ≡ true → Ranges (recordOf c held frame)
 record-of-core c held frame k h f =
-    record { mode = k .mode; overlay = k .overlay; cursor = k .cursor; text = k .text; left = k .left; right = k .right; picture = k .picture; icons = k .icons; volume = k .volume; times = k .times; buzzer = k .buzzer; backlight = k .backlight; held = h; frame = f }
+    record { mode = k .mode; overlay = k .overlay; cursor = k .cursor; text = k .text; left = k .left; right = k .right; picture = k .picture; icons = k .icons; volume = k .volume; times = k .times; buzzer = k .buzzer; backlight = k .backlight; contrast = k .contrast; inverse = k .inverse; held = h; frame = f }
 
 -- One part changed ------------------------------------------------------------------------------------------------
 
 module _ (c : Core) (k : CoreInRange c) where
   on-screen : (s : Screen) → modeInRange (s .mode) ≡ true → overlayInRange (s .overlay) ≡ true → cursorInRange s ≡ true → CoreInRange (onScreen c s)
   on-screen s m o p =
-      record { mode = m; overlay = o; cursor = p; text = k .text; left = k .left; right = k .right; picture = k .picture; icons = k .icons; volume = k .volume; times = k .times; buzzer = k .buzzer; backlight = k .backlight }
+      record { mode = m; overlay = o; cursor = p; text = k .text; left = k .left; right = k .right; picture = k .picture; icons = k .icons; volume = k .volume; times = k .times; buzzer = k .buzzer; backlight = k .backlight; contrast = k .contrast; inverse = k .inverse }
 
   on-shown : (b : Bool) → CoreInRange (onSettings c (withShown (c .settings) b))
   on-shown b =
-      record { mode = k .mode; overlay = k .overlay; cursor = k .cursor; text = k .text; left = k .left; right = k .right; picture = k .picture; icons = k .icons; volume = k .volume; times = k .times; buzzer = k .buzzer; backlight = k .backlight }
+      record { mode = k .mode; overlay = k .overlay; cursor = k .cursor; text = k .text; left = k .left; right = k .right; picture = k .picture; icons = k .icons; volume = k .volume; times = k .times; buzzer = k .buzzer; backlight = k .backlight; contrast = k .contrast; inverse = k .inverse }
 
   on-labels : (l r : Label) → labelInRange l ≡ true → labelInRange r ≡ true → CoreInRange (onSettings c (withRight (withLeft (c .settings) l) r))
   on-labels l r h g =
-      record { mode = k .mode; overlay = k .overlay; cursor = k .cursor; text = k .text; left = h; right = g; picture = k .picture; icons = k .icons; volume = k .volume; times = k .times; buzzer = k .buzzer; backlight = k .backlight }
+      record { mode = k .mode; overlay = k .overlay; cursor = k .cursor; text = k .text; left = h; right = g; picture = k .picture; icons = k .icons; volume = k .volume; times = k .times; buzzer = k .buzzer; backlight = k .backlight; contrast = k .contrast; inverse = k .inverse }
 
   on-icons : (i : Icons) → iconsInRange i ≡ true → CoreInRange (onIcons c i)
   on-icons i h =
-      record { mode = k .mode; overlay = k .overlay; cursor = k .cursor; text = k .text; left = k .left; right = k .right; picture = k .picture; icons = h; volume = k .volume; times = k .times; buzzer = k .buzzer; backlight = k .backlight }
+      record { mode = k .mode; overlay = k .overlay; cursor = k .cursor; text = k .text; left = k .left; right = k .right; picture = k .picture; icons = h; volume = k .volume; times = k .times; buzzer = k .buzzer; backlight = k .backlight; contrast = k .contrast; inverse = k .inverse }
 
   on-volume : (v : Volume) → volumeInRange v ≡ true → CoreInRange (onVolume c v)
   on-volume v h =
-      record { mode = k .mode; overlay = k .overlay; cursor = k .cursor; text = k .text; left = k .left; right = k .right; picture = k .picture; icons = k .icons; volume = h; times = k .times; buzzer = k .buzzer; backlight = k .backlight }
+      record { mode = k .mode; overlay = k .overlay; cursor = k .cursor; text = k .text; left = k .left; right = k .right; picture = k .picture; icons = k .icons; volume = h; times = k .times; buzzer = k .buzzer; backlight = k .backlight; contrast = k .contrast; inverse = k .inverse }
 
   on-backlight : (b : Backlight) → backlightInRange b ≡ true → CoreInRange (onBacklight c b)
   on-backlight b h =
-      record { mode = k .mode; overlay = k .overlay; cursor = k .cursor; text = k .text; left = k .left; right = k .right; picture = k .picture; icons = k .icons; volume = k .volume; times = k .times; buzzer = k .buzzer; backlight = h }
+      record { mode = k .mode; overlay = k .overlay; cursor = k .cursor; text = k .text; left = k .left; right = k .right; picture = k .picture; icons = k .icons; volume = k .volume; times = k .times; buzzer = k .buzzer; backlight = h; contrast = k .contrast; inverse = k .inverse }
+
+  on-contrast : (n : ℕ) → contrastInRange n ≡ true → CoreInRange (onSettings c (withContrast (c .settings) n))
+  on-contrast n h =
+      record { mode = k .mode; overlay = k .overlay; cursor = k .cursor; text = k .text; left = k .left; right = k .right; picture = k .picture; icons = k .icons; volume = k .volume; times = k .times; buzzer = k .buzzer; backlight = k .backlight; contrast = h; inverse = k .inverse }
+
+  on-inverse : (marks : List Bool) → inverseInRange marks ≡ true → CoreInRange (onSettings c (withInverse (c .settings) marks))
+  on-inverse marks h =
+      record { mode = k .mode; overlay = k .overlay; cursor = k .cursor; text = k .text; left = k .left; right = k .right; picture = k .picture; icons = k .icons; volume = k .volume; times = k .times; buzzer = k .buzzer; backlight = k .backlight; contrast = k .contrast; inverse = h }
 
   on-text : (t : List ℕ) → textInRange t ≡ true → CoreInRange (onText c t)
   on-text t h =
-      record { mode = k .mode; overlay = k .overlay; cursor = k .cursor; text = h; left = k .left; right = k .right; picture = k .picture; icons = k .icons; volume = k .volume; times = k .times; buzzer = k .buzzer; backlight = k .backlight }
+      record { mode = k .mode; overlay = k .overlay; cursor = k .cursor; text = h; left = k .left; right = k .right; picture = k .picture; icons = k .icons; volume = k .volume; times = k .times; buzzer = k .buzzer; backlight = k .backlight; contrast = k .contrast; inverse = k .inverse }
 
   on-picture : (g : List ℕ) → pictureInRange g ≡ true → CoreInRange (onPicture c g)
   on-picture g h =
-      record { mode = k .mode; overlay = k .overlay; cursor = k .cursor; text = k .text; left = k .left; right = k .right; picture = h; icons = k .icons; volume = k .volume; times = k .times; buzzer = k .buzzer; backlight = k .backlight }
+      record { mode = k .mode; overlay = k .overlay; cursor = k .cursor; text = k .text; left = k .left; right = k .right; picture = h; icons = k .icons; volume = k .volume; times = k .times; buzzer = k .buzzer; backlight = k .backlight; contrast = k .contrast; inverse = k .inverse }
 
 -- The parts -------------------------------------------------------------------------------------------------------
 
@@ -217,6 +228,35 @@ number-keeps c n k h = cases (eqb n 0) refl
     cases true e = light-keeps c _ k refl (duration-of (c .settings .backlight) (k .backlight)) refl
     cases false e = light-keeps c _ k (mode-of (c .settings .backlight) (k .backlight)) (or-right h e) (left-of (c .settings .backlight) (k .backlight))
 
+-- a mark that a frame can name
+marks-in-range : (mode n : ℕ) → leb n (rowsNamed mode) ≡ true → inverseInRange (marksOf n) ≡ true
+unfolding inverseInRange
+marks-in-range mode n h = six n (most (leb mode 1) (eqb mode large) (leb-true n (rowsNamed mode) h))
+  where
+    most : (few line : Bool) → n ≤ cond line 0 (cond few 4 (cond line 1 5)) → n ≤ 5
+    most few true l = omega arith
+    most true false l = omega arith
+    most false false l = omega arith
+
+    six : (n : ℕ) → n ≤ 5 → inverseInRange (marksOf n) ≡ true
+    six zero l = refl
+    six (suc zero) l = refl
+    six (suc (suc zero)) l = refl
+    six (suc (suc (suc zero))) l = refl
+    six (suc (suc (suc (suc zero)))) l = refl
+    six (suc (suc (suc (suc (suc zero))))) l = refl
+    six (suc (suc (suc (suc (suc (suc n)))))) l = absurd (omega arith)
+
+-- a line that is cleared has blanks in it
+cleared-in-range : (s : Screen) (t : List ℕ) → textInRange t ≡ true → textInRange (lineCleared s t) ≡ true
+unfolding textInRange lineCleared
+cleared-in-range s t h =
+    let b = both {a = eqb (length t) (lineStart + 24)} h in
+    let start = rowStartOf (s .mode) (s .row) + s .column in
+    let blanks = replicate (rowEndOf (s .mode) - s .column) blank in
+    and-both {a = eqb (length (sets t start blanks)) (lineStart + 24)} (rw (length-sets t start blanks) (b .0))
+    (every-sets isCode t start blanks (every-replicate isCode (rowEndOf (s .mode) - s .column) blank refl) (b .1))
+
 -- in picture row 6 only low columns are stored, and no other row reaches it
 low-columns : (columns : List ℕ) → every isLowColumn (map (keptIn 6) columns) ≡ true
 low-columns [] = refl
@@ -272,9 +312,9 @@ effect-keeps (plain (Handsfree n)) c v k h = level-keeps c 2 n k refl refl h
 effect-keeps (plain (HandsfreeOfNote n)) c v k h = level-keeps c 2 n k refl refl h
 effect-keeps (plain (Mute n)) c v k h = mute-keeps c n k
 effect-keeps (plain (KeyTimes time1 time2)) c v k h =
-    record { mode = k .mode; overlay = k .overlay; cursor = k .cursor; text = k .text; left = k .left; right = k .right; picture = k .picture; icons = k .icons; volume = k .volume; times = h; buzzer = k .buzzer; backlight = k .backlight }
+    record { mode = k .mode; overlay = k .overlay; cursor = k .cursor; text = k .text; left = k .left; right = k .right; picture = k .picture; icons = k .icons; volume = k .volume; times = h; buzzer = k .buzzer; backlight = k .backlight; contrast = k .contrast; inverse = k .inverse }
 effect-keeps (plain (Buzzer n)) c v k h =
-    record { mode = k .mode; overlay = k .overlay; cursor = k .cursor; text = k .text; left = k .left; right = k .right; picture = k .picture; icons = k .icons; volume = k .volume; times = k .times; buzzer = h; backlight = k .backlight }
+    record { mode = k .mode; overlay = k .overlay; cursor = k .cursor; text = k .text; left = k .left; right = k .right; picture = k .picture; icons = k .icons; volume = k .volume; times = k .times; buzzer = h; backlight = k .backlight; contrast = k .contrast; inverse = k .inverse }
 effect-keeps (plain (Light n)) c v k h = number-keeps c n k h
 effect-keeps (plain LightOn) c v k h = light-keeps c _ k refl (duration-of (c .settings .backlight) (k .backlight)) refl
 effect-keeps (plain LightAutoStart) c v k h = light-keeps c _ k refl (duration-of (c .settings .backlight) (k .backlight)) (or-true (eqb (c .settings .backlight .duration .0) 0))
@@ -282,6 +322,12 @@ effect-keeps (plain LightAuto) c v k h = light-keeps c _ k refl (duration-of (c 
 effect-keeps (plain DefaultDuration) c v k h = light-keeps c _ k (mode-of (c .settings .backlight) (k .backlight)) refl (left-of (c .settings .backlight) (k .backlight))
 effect-keeps (plain KeypadSet) c v k h = on-backlight c k _ (k .backlight)
 effect-keeps (plain KeypadCleared) c v k h = on-backlight c k _ (k .backlight)
+effect-keeps (plain (Contrast n)) c v k h = on-contrast c k n h
+effect-keeps (plain ContrastAsked) c v k h = k
+effect-keeps (plain HookAsked) c v k h = k
+effect-keeps (plain VersionAsked) c v k h = k
+effect-keeps (plain ClearLine) c v k h = on-text c k _ (cleared-in-range (c .settings .screen) (c .text) (k .text))
+effect-keeps (plain (Inverse n)) c v k h = on-inverse c k (marksOf n) (marks-in-range (c .settings .screen .mode) n h)
 effect-keeps (draw row columns) c v k h = on-picture c k _ (picture-keeps (c .picture) row columns (leb-true row 6 h) (v .most) (k .picture))
 
 carry-keeps : (o : Order) (c : Core) → Carries o → CoreInRange c → CoreInRange (carryOut o c)

@@ -1,6 +1,7 @@
 pub mod Core
 pub mod Effect
 pub mod Obey
+pub mod Questions
 pub mod Sets
 pub mod Keeps
 pub mod Cases

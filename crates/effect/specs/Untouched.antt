@@ -15,12 +15,12 @@ use Rattle.record.specs.Range.{large, rowsOf, rowEndOf, lineStart, cursorInRang
 use Rattle.record.specs.declared.Label.{Label}
 use Rattle.command.specs.Order.{Order, plain, label, draw}
 use Rattle.command.specs.InRange.{isOverlay, inRangeInMode}
-use Rattle.command.specs.declared.Command.the-variants.{DisplayOff, DisplayOn, Mode, CursorShown, CursorHidden, Clear, Position, LabelsEmpty, IconS, IconU, IconF, IconR, IconP, IconW, Private, Handsfree, HandsfreeOfNote, Mute, KeyTimes, Buzzer, Light, LightOn, LightAutoStart, LightAuto, DefaultDuration, KeypadSet, KeypadCleared}
+use Rattle.command.specs.declared.Command.the-variants.{DisplayOff, DisplayOn, Mode, CursorShown, CursorHidden, Clear, Position, LabelsEmpty, IconS, IconU, IconF, IconR, IconP, IconW, Private, Handsfree, HandsfreeOfNote, Mute, KeyTimes, Buzzer, Light, LightOn, LightAutoStart, LightAuto, DefaultDuration, KeypadSet, KeypadCleared, Contrast, ContrastAsked, HookAsked, VersionAsked, ClearLine, Inverse}
 use Rattle.command.specs.declared.Side.the-variants.{Left, Right}
 use Rattle.effect.specs.Core.{Core}
 use Rattle.effect.specs.Effect.{keptIn, drawn, effect, carryOut, storeText}
 use Rattle.effect.specs.Sets.{sets-outside}
-use Rattle.effect.specs.Fields.{Field, display, mode, overlay, row, column, text, largeLine, shown, leftLabel, rightLabel, iconS, iconU, iconF, iconR, iconP, iconW, which, level, mute, hidden, time1, time2, buzzer, light, duration, secondsLeft, keypad, picture, number, bit, read, sets}
+use Rattle.effect.specs.Fields.{Field, display, mode, overlay, row, column, text, largeLine, shown, leftLabel, rightLabel, iconS, iconU, iconF, iconR, iconP, iconW, which, level, mute, hidden, time1, time2, buzzer, light, duration, secondsLeft, keypad, picture, contrast, hook, inverse, number, bit, read, sets}
 
 allFields : List Field
 allFields =
@@ -30,13 +30,14 @@ allFields =
     which ∷ level ∷ mute ∷ hidden ∷
     time1 ∷ time2 ∷ buzzer ∷
     light ∷ duration ∷ secondsLeft ∷ keypad ∷
-    picture ∷ []
+    picture ∷
+    contrast ∷ hook ∷ inverse ∷ []
 
 -- What a list made from all fields has for a field stands at the place of its number.
 at-place : {A : Type 0} (g : Field → A) (d : A) (f : Field) → getD (map g allFields) (number f) d ≡ g f
 unfolding allFields
 at-place g d =
-    elim [ display ↦ refl | mode ↦ refl | overlay ↦ refl | row ↦ refl | column ↦ refl | text ↦ refl | largeLine ↦ refl | shown ↦ refl | leftLabel ↦ refl | rightLabel ↦ refl | iconS ↦ refl | iconU ↦ refl | iconF ↦ refl | iconR ↦ refl | iconP ↦ refl | iconW ↦ refl | which ↦ refl | level ↦ refl | mute ↦ refl | hidden ↦ refl | time1 ↦ refl | time2 ↦ refl | buzzer ↦ refl | light ↦ refl | duration ↦ refl | secondsLeft ↦ refl | keypad ↦ refl | picture ↦ refl ]
+    elim [ display ↦ refl | mode ↦ refl | overlay ↦ refl | row ↦ refl | column ↦ refl | text ↦ refl | largeLine ↦ refl | shown ↦ refl | leftLabel ↦ refl | rightLabel ↦ refl | iconS ↦ refl | iconU ↦ refl | iconF ↦ refl | iconR ↦ refl | iconP ↦ refl | iconW ↦ refl | which ↦ refl | level ↦ refl | mute ↦ refl | hidden ↦ refl | time1 ↦ refl | time2 ↦ refl | buzzer ↦ refl | light ↦ refl | duration ↦ refl | secondsLeft ↦ refl | keypad ↦ refl | picture ↦ refl | contrast ↦ refl | hook ↦ refl | inverse ↦ refl ]
 
 -- No two fields have one number.
 pub one-field : (f g : Field) → number f ≡ number g → f ≡ g
@@ -79,6 +80,12 @@ effect-stays (plain LightAuto) c = refl
 effect-stays (plain DefaultDuration) c = refl
 effect-stays (plain KeypadSet) c = refl
 effect-stays (plain KeypadCleared) c = refl
+effect-stays (plain (Contrast n)) c = refl
+effect-stays (plain ContrastAsked) c = refl
+effect-stays (plain HookAsked) c = refl
+effect-stays (plain VersionAsked) c = refl
+effect-stays (plain ClearLine) c = refl
+effect-stays (plain (Inverse n)) c = refl
 effect-stays (draw r columns) c = refl
 
 effect-at : (o : Order) (f : Field) (c : Core) → besides o (effect o c) f ≡ besides o c f
@@ -149,6 +156,9 @@ made found =
         times = record { time1 = record { 0 = one time1 }; time2 = record { 0 = one time2 } };
         buzzer = record { 0 = one buzzer };
         backlight = record { mode = one light; duration = record { 0 = one duration }; left = record { 0 = one secondsLeft }; keypad = flag keypad };
+        contrast = one contrast;
+        hook = flag hook;
+        inverse = map (λ (n : ℕ). eqb n 1) (found inverse);
       };
       text = found text ++ found largeLine;
       picture = found picture;
@@ -158,9 +168,13 @@ flag-read : (b : Bool) → eqb (bit b) 1 ≡ b
 flag-read true = refl
 flag-read false = refl
 
+flags-read : (marks : List Bool) → map (λ (n : ℕ). eqb n 1) (map bit marks) ≡ marks
+flags-read [] = refl
+flags-read (mark ∷ more) = λ j. flag-read mark j ∷ flags-read more j
+
 made-again : (c : Core) → made (λ f. read f c) ≡ c
 unfolding made
-made-again c = simp (flag-read, take-append-drop)
+made-again c = simp (flag-read, flags-read, take-append-drop)
 
 -- The fields are all that a core has: two cores with the same in every field are one.
 pub fields-are-all : (c d : Core) → ((f : Field) → read f c ≡ read f d) → c ≡ d

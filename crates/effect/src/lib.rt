@@ -3,13 +3,16 @@
 ghost use mathlib.Core.Path.{_≡_};
 ghost use mathlib.Core.Bool.{true, cond};
 ghost use mathlib.Core.List.{List, []};
-ghost use Prim.Native.Nat.{ℕ, _≤_};
-ghost use lib.ListN.{length, take, drop};
+ghost use Prim.Native.Nat.{ℕ, _+_, _-_, _≤_, _<_};
+ghost use lib.ListN.{length, set, take, drop, replicate};
+ghost use lib.Seq.{sets};
+ghost use Rattle.lists.specs.Codes.{blank};
 ghost use Rattle.lists.specs.Padded.{padded};
 ghost use Rattle.command.specs.Order.{plain, label};
 ghost use Rattle.command.specs.InRange.{isPictureRow, rowsNamed, commandInRange};
-ghost use Rattle.effect.specs.Effect.{blanks, labelOf, muted, lightAt, keptIn, drawn, effect, carryOut};
-ghost use Rattle.effect.specs.Obey.{core, Obeys};
+ghost use Rattle.effect.specs.Effect.{blanks, labelOf, muted, lightAt, marksOf, keptIn, drawn, effect, carryOut};
+ghost use Rattle.effect.specs.Obey.{answerFor, core, Obeys};
+use answer::Answer;
 use command::Command;
 use command::Reading;
 use command::Side;
@@ -34,13 +37,15 @@ const AUTO: u8 = 2;
 
 const DEFAULT_DURATION: u8 = 30;
 
+const BLANK: u8 = 0x20;
+
 // A picture row holds so many columns.
 const ROW_COLUMNS: usize = 96;
 
-// The settings after a frame, and whether the frame is of the grammar.
+// The settings after a frame, and what it is answered.
 pub struct Obeyed {
     pub settings: Settings,
-    pub good: bool,
+    pub answer: Answer,
 }
 
 // 1 mutes and shows, 0 takes mute away.
@@ -81,6 +86,39 @@ fn clear(text: &mut [u8; 104])
     ensures same { λ _. ⌜ now (text .exit) ≡ blanks ⌝ }
 {
     *text = [0x20u8; 104];
+}
+
+// A blank at a place, if it is one of the text.
+fn blank_at(text: &mut [u8], at: usize)
+    ensures same { λ _. ⌜ now (text .exit) ≡ set (now (text .entry)) at blank ⌝ }
+{
+    if at < text.len() {
+        text[at] = BLANK;
+    }
+}
+
+// Blanks from a row's column on to its end.
+fn clear_line(text: &mut [u8; 104], start: usize, column: u8, end: u8)
+    requires { ⌜ start < 65536 ⌝ }
+    ensures same { λ _. ⌜ now (text .exit) ≡ sets (now (text .entry)) (start + column) (replicate (end - column) blank) ⌝ }
+{
+    let mut i = column;
+    while i < end {
+        blank_at(text, start + wide(i));
+        i += 1;
+    }
+}
+
+// The mark of one row alone; 0 is none.
+fn marks_of(n: u8) -> [bool; 5]
+    requires { ⌜ n ≤ 5 ⌝ }
+    ensures same { λ r. ⌜ r ≡ marksOf n ⌝ }
+{
+    let mut marks = [false; 5];
+    if n != 0 {
+        marks[wide(n - 1)] = true;
+    }
+    marks
 }
 
 fn no_codes() -> [u8; 7]
@@ -233,8 +271,36 @@ fn changed(mut p: Settings, text: &mut [u8; 104], c: Command) -> Settings
         Command::DefaultDuration => p.backlight.duration.0 = DEFAULT_DURATION,
         Command::KeypadSet => p.backlight.keypad = true,
         Command::KeypadCleared => p.backlight.keypad = false,
+        Command::Contrast(n) => {
+            let value = n as u8;
+            p.contrast = value;
+        }
+        Command::ContrastAsked => (),
+        Command::HookAsked => (),
+        Command::VersionAsked => (),
+        Command::ClearLine => {
+            let start = record::row_start(p.screen.mode, p.screen.row);
+            let end = record::row_end(p.screen.mode);
+            clear_line(text, start, p.screen.column, end);
+        }
+        Command::Inverse(n) => {
+            let marks = marks_of(n as u8);
+            p.inverse = marks;
+        }
     }
     p
+}
+
+// A question has an answer.
+fn answer_for(c: Command) -> Answer
+    ensures same { λ r. ⌜ r ≡ answerFor c ⌝ }
+{
+    match c {
+        Command::ContrastAsked => Answer::Contrast,
+        Command::HookAsked => Answer::Hook,
+        Command::VersionAsked => Answer::Version,
+        _ => Answer::Silence,
+    }
 }
 
 // A command of the grammar: with a number out of range it is passed over.
@@ -275,28 +341,28 @@ pub fn obey(
         if columns.len == 0 {
             return Obeyed {
                 settings: settings,
-                good: false,
+                answer: Answer::QuestionMark,
             };
         }
         draw(picture, drawn.row, columns);
         return Obeyed {
             settings: settings,
-            good: true,
+            answer: Answer::Silence,
         };
     }
     let reading = command::read_command(frame);
     match reading {
         Reading::Bad => Obeyed {
             settings: settings,
-            good: false,
+            answer: Answer::QuestionMark,
         },
         Reading::Plain(c) => Obeyed {
             settings: obey_command(settings, text, c),
-            good: true,
+            answer: answer_for(c),
         },
         Reading::Label(side) => Obeyed {
             settings: obey_label(settings, side, frame),
-            good: true,
+            answer: Answer::Silence,
         },
     }
 }

@@ -9,7 +9,7 @@ use Rattle.record.specs.declared.Held.{Held}
 use Rattle.record.specs.declared.Times.{Times}
 use Rattle.record.specs.declared.Backlight.{Backlight}
 use Rattle.record.specs.Number.{paperNumber}
-use Rattle.record.specs.Range.{auto, textInRange, labelInRange, pictureInRange, frameInRange, inRange}
+use Rattle.record.specs.Range.{auto, textInRange, labelInRange, pictureInRange, inverseInRange, frameInRange, inRange}
 use Rattle.record.specs.PowerOn.{startingWith, powerOn, formerPowerOn}
 use Rattle.turns.specs.Room.{run}
 use Rattle.key_entry.specs.declared.Stage.the-variants.{Short, Long, Repeat}
@@ -216,5 +216,5 @@ cases =
 
 -- Every example is found as expected.
 pub cases-hold : map found cases ≡ map (λ (c : Case). c .expected) cases
-unfolding cases outcome inRange textInRange labelInRange pictureInRange frameInRange zipWith run step keyed elapsed codeOf
+unfolding cases outcome inRange textInRange labelInRange pictureInRange inverseInRange frameInRange zipWith run step keyed elapsed codeOf
 cases-hold = refl

@@ -71,6 +71,8 @@ step-in-range r e good =
       times = k .times;
       buzzer = k .buzzer;
       backlight = fine .1;
+      contrast = k .contrast;
+      inverse = k .inverse;
       held = fine .0;
       frame = k .frame;
     }

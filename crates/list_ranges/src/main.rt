@@ -252,6 +252,30 @@ fn list_settings(r: Record) {
     list_byte(b"backlight left when on", on, Field::SecondsLeft);
     list_byte(b"backlight left in auto", auto, Field::SecondsLeft);
     list_flag(b"keypad flag", r, Field::Keypad);
+    list_byte(b"contrast", r, Field::Contrast);
+    list_flag(b"hook", r, Field::Hook);
+}
+
+fn list_marks(r: Record) {
+    let first = record_fields::with_field(r, Field::Inverse, 0, 1);
+    let last = record_fields::with_field(r, Field::Inverse, 4, 1);
+    list(b"inverse mark of rows 0-4", r, Field::Inverse, 0, 5, 1);
+    list(
+        b"inverse mark of rows 1-4 with that of row 0",
+        first,
+        Field::Inverse,
+        1,
+        5,
+        1,
+    );
+    list(
+        b"inverse mark of rows 0-3 with that of row 4",
+        last,
+        Field::Inverse,
+        0,
+        4,
+        1,
+    );
 }
 
 fn list_held(r: Record) {
@@ -314,6 +338,7 @@ fn list_all() {
     list_icons(r);
     list_volume(r);
     list_settings(r);
+    list_marks(r);
     list_held(r);
     list_frame(r);
 }

@@ -1,6 +1,7 @@
 // Reads a stream from a file or from standard input, from the power-on record, and prints the fields of the screen. Of an input
 // that fails nothing is printed: what came before is not the stream.
-// Codes outside 0x20 to 0x7E are printed as '.'. A frame that is still open at the end is not seen.
+// REPLIES counts answers, not their bytes. Codes outside 0x20 to 0x7E are printed as '.'. A frame that is still open at the end is
+// not seen.
 use program::Input;
 use record::Label;
 use record::Record;

@@ -4,11 +4,11 @@ use mathlib.Core.Bool.{true}
 use Rattle.lists.specs.Both.{both, and-both}
 use Rattle.record.specs.declared.Record.{Record}
 use Rattle.record.specs.PowerOn.{powerOn, formerPowerOn}
-use Rattle.record.specs.Range.{modeInRange, overlayInRange, cursorInRange, textInRange, labelInRange, pictureInRange, iconsInRange, volumeInRange, timesInRange, buzzerInRange, backlightInRange, heldInRange, frameInRange, inRange}
+use Rattle.record.specs.Range.{modeInRange, overlayInRange, cursorInRange, textInRange, labelInRange, pictureInRange, iconsInRange, volumeInRange, timesInRange, buzzerInRange, backlightInRange, contrastInRange, inverseInRange, heldInRange, frameInRange, inRange}
 
 -- The power-on record is within its ranges, and so is the one of the former defaults.
 pub power-on-in-range : (inRange powerOn ≡ true) × (inRange formerPowerOn ≡ true)
-unfolding inRange textInRange labelInRange pictureInRange frameInRange
+unfolding inRange textInRange labelInRange pictureInRange inverseInRange frameInRange
 power-on-in-range = (refl, refl)
 
 -- The table as facts: a line for each row.
@@ -25,6 +25,8 @@ pub record Ranges (r : Record) : Type 0 where
   pub times : timesInRange (r .settings .times) ≡ true
   pub buzzer : buzzerInRange (r .settings .buzzer .0) ≡ true
   pub backlight : backlightInRange (r .settings .backlight) ≡ true
+  pub contrast : contrastInRange (r .settings .contrast) ≡ true
+  pub inverse : inverseInRange (r .settings .inverse) ≡ true
   pub held : heldInRange (r .held) ≡ true
   pub frame : frameInRange (r .frame) ≡ true
 
@@ -32,7 +34,9 @@ pub record Ranges (r : Record) : Type 0 where
 pub ranges : (r : Record) → inRange r ≡ true → Ranges r
 unfolding inRange
 ranges r h =
-    let e13 = both h in
+    let e15 = both h in
+    let e14 = both (e15 .0) in
+    let e13 = both (e14 .0) in
     let e12 = both (e13 .0) in
     let e11 = both (e12 .0) in
     let e10 = both (e11 .0) in
@@ -58,13 +62,14 @@ ranges r h =
       times = e9 .1;
       buzzer = e10 .1;
       backlight = e11 .1;
-      held = e12 .1;
-      frame = e13 .1;
+      contrast = e12 .1;
+      inverse = e13 .1;
+      held = e14 .1;
+      frame = e15 .1;
     }
 
 pub in-range : (r : Record) → Ranges r → inRange r ≡ true
 unfolding inRange
 in-range r k =
-    and-both (and-both (and-both (and-both (and-both (and-both (and-both (and-both (and-both (and-both (and-both (and-both (and-both
-    (k .mode) (k .overlay)) (k .cursor)) (k .text)) (k .left)) (k .right)) (k .picture)) (k .icons))
-    (k .volume)) (k .times)) (k .buzzer)) (k .backlight)) (k .held)) (k .frame)
+    and-both (and-both (and-both (and-both (and-both (and-both (and-both (and-both (and-both (and-both (and-both (and-both (and-both (and-both (and-both
+    (k .mode) (k .overlay)) (k .cursor)) (k .text)) (k .left)) (k .right)) (k .picture)) (k .icons)) (k .volume)) (k .times)) (k .buzzer)) (k .backlight)) (k .contrast)) (k .inverse)) (k .held)) (k .frame)

@@ -15,7 +15,8 @@ abbrev pub formerTimes : Times
 formerTimes = record { time1 = record { 0 = 12 }; time2 = record { 0 = 12 } }
 
 -- display on; mode 0; overlay none; cursor not shown, 0, 0; text and large line all 0x20; labels empty; picture 0; icons 0; volume none, 0, no,
--- no; the times given; buzzer 0; backlight off, 30, 0, clear; held key none; frame none
+-- no; the times given; buzzer 0; backlight off, 30, 0, clear; contrast 10; on-hook; no inverse mark; held key none;
+-- frame none
 abbrev pub startingWith : Times → Record
 startingWith times =
     record {
@@ -29,6 +30,9 @@ startingWith times =
         times = times;
         buzzer = record { 0 = 0 };
         backlight = record { mode = off; duration = record { 0 = 30 }; left = record { 0 = 0 }; keypad = false };
+        contrast = 10;
+        hook = true;
+        inverse = replicate 5 false;
       };
       text = replicate 104 blank;
       picture = replicate 672 0;

@@ -1,7 +1,7 @@
 -- The range of each field, in the order and the words of document 01's table. A byte is at most 255 and a tick at most 65,535 by
 -- its type, so no test says so, except where a command's number, which is no byte, is judged by the same line. Assumes nothing.
 use Prim.Native.Nat.{ℕ, _+_, _*_}
-use mathlib.Core.List.{List}
+use mathlib.Core.List.{List, [], _∷_}
 use mathlib.Core.Bool.{Bool, not, cond, _&&_, _||_}
 use lib.Dec.{ltb, leb, eqb}
 use lib.ListN.{length, take, drop}
@@ -67,7 +67,7 @@ isUnused b = eqb b 0
 
 -- The table -------------------------------------------------------------------------------------------------------
 
--- display: on, off. It is a flag, and so are cursor shown, mute, hidden and the keypad flag.
+-- display: on, off. It is a flag, and so are cursor shown, mute, hidden, the keypad flag and the hook.
 
 -- text mode: 0, 1, 5, 6, 10
 abbrev pub modeInRange : ℕ → Bool
@@ -160,6 +160,20 @@ durationInRange n = leb 1 n && leb n 255
 abbrev pub backlightInRange : Backlight → Bool
 backlightInRange b = leb (b .mode) auto && durationInRange (b .duration .0) && (eqb (b .left .0) 0 || eqb (b .mode) auto)
 
+-- contrast: 1 to 20
+abbrev pub contrastInRange : ℕ → Bool
+contrastInRange n = leb 1 n && leb n 20
+
+-- hook: on or off, a flag
+
+-- inverse marks: a flag for each of the five text rows, at most one set
+abbrev pub marked : List Bool → ℕ
+marked [] = 0
+marked (mark ∷ more) = cond mark 1 0 + marked more
+
+unfoldable pub inverseInRange : List Bool → Bool
+inverseInRange marks = eqb (length marks) 5 && leb (marked marks) 1
+
 -- held key: none (all places zero), or key 0-18, tick 0-65535, stage short or long
 abbrev pub keyInRange : ℕ → Bool
 keyInRange key = leb key 18
@@ -188,5 +202,7 @@ inRange r =
     && timesInRange (r .settings .times)
     && buzzerInRange (r .settings .buzzer .0)
     && backlightInRange (r .settings .backlight)
+    && contrastInRange (r .settings .contrast)
+    && inverseInRange (r .settings .inverse)
     && heldInRange (r .held)
     && frameInRange (r .frame)

@@ -35,31 +35,40 @@ withFrame r new = record { settings = r .settings; text = r .text; picture = r .
 -- Settings ---------------------------------------------------------------------------------------------------------
 
 abbrev pub withScreen : Settings → Screen → Settings
-withScreen p new = record { screen = new; shown = p .shown; left = p .left; right = p .right; icons = p .icons; volume = p .volume; times = p .times; buzzer = p .buzzer; backlight = p .backlight }
+withScreen p new = record { screen = new; shown = p .shown; left = p .left; right = p .right; icons = p .icons; volume = p .volume; times = p .times; buzzer = p .buzzer; backlight = p .backlight; contrast = p .contrast; hook = p .hook; inverse = p .inverse }
 
 abbrev pub withShown : Settings → Bool → Settings
-withShown p new = record { screen = p .screen; shown = new; left = p .left; right = p .right; icons = p .icons; volume = p .volume; times = p .times; buzzer = p .buzzer; backlight = p .backlight }
+withShown p new = record { screen = p .screen; shown = new; left = p .left; right = p .right; icons = p .icons; volume = p .volume; times = p .times; buzzer = p .buzzer; backlight = p .backlight; contrast = p .contrast; hook = p .hook; inverse = p .inverse }
 
 abbrev pub withLeft : Settings → Label → Settings
-withLeft p new = record { screen = p .screen; shown = p .shown; left = new; right = p .right; icons = p .icons; volume = p .volume; times = p .times; buzzer = p .buzzer; backlight = p .backlight }
+withLeft p new = record { screen = p .screen; shown = p .shown; left = new; right = p .right; icons = p .icons; volume = p .volume; times = p .times; buzzer = p .buzzer; backlight = p .backlight; contrast = p .contrast; hook = p .hook; inverse = p .inverse }
 
 abbrev pub withRight : Settings → Label → Settings
-withRight p new = record { screen = p .screen; shown = p .shown; left = p .left; right = new; icons = p .icons; volume = p .volume; times = p .times; buzzer = p .buzzer; backlight = p .backlight }
+withRight p new = record { screen = p .screen; shown = p .shown; left = p .left; right = new; icons = p .icons; volume = p .volume; times = p .times; buzzer = p .buzzer; backlight = p .backlight; contrast = p .contrast; hook = p .hook; inverse = p .inverse }
 
 abbrev pub withIcons : Settings → Icons → Settings
-withIcons p new = record { screen = p .screen; shown = p .shown; left = p .left; right = p .right; icons = new; volume = p .volume; times = p .times; buzzer = p .buzzer; backlight = p .backlight }
+withIcons p new = record { screen = p .screen; shown = p .shown; left = p .left; right = p .right; icons = new; volume = p .volume; times = p .times; buzzer = p .buzzer; backlight = p .backlight; contrast = p .contrast; hook = p .hook; inverse = p .inverse }
 
 abbrev pub withVolume : Settings → Volume → Settings
-withVolume p new = record { screen = p .screen; shown = p .shown; left = p .left; right = p .right; icons = p .icons; volume = new; times = p .times; buzzer = p .buzzer; backlight = p .backlight }
+withVolume p new = record { screen = p .screen; shown = p .shown; left = p .left; right = p .right; icons = p .icons; volume = new; times = p .times; buzzer = p .buzzer; backlight = p .backlight; contrast = p .contrast; hook = p .hook; inverse = p .inverse }
 
 abbrev pub withTimes : Settings → Times → Settings
-withTimes p new = record { screen = p .screen; shown = p .shown; left = p .left; right = p .right; icons = p .icons; volume = p .volume; times = new; buzzer = p .buzzer; backlight = p .backlight }
+withTimes p new = record { screen = p .screen; shown = p .shown; left = p .left; right = p .right; icons = p .icons; volume = p .volume; times = new; buzzer = p .buzzer; backlight = p .backlight; contrast = p .contrast; hook = p .hook; inverse = p .inverse }
 
 abbrev pub withBuzzer : Settings → Hundredths → Settings
-withBuzzer p new = record { screen = p .screen; shown = p .shown; left = p .left; right = p .right; icons = p .icons; volume = p .volume; times = p .times; buzzer = new; backlight = p .backlight }
+withBuzzer p new = record { screen = p .screen; shown = p .shown; left = p .left; right = p .right; icons = p .icons; volume = p .volume; times = p .times; buzzer = new; backlight = p .backlight; contrast = p .contrast; hook = p .hook; inverse = p .inverse }
 
 abbrev pub withBacklight : Settings → Backlight → Settings
-withBacklight p new = record { screen = p .screen; shown = p .shown; left = p .left; right = p .right; icons = p .icons; volume = p .volume; times = p .times; buzzer = p .buzzer; backlight = new }
+withBacklight p new = record { screen = p .screen; shown = p .shown; left = p .left; right = p .right; icons = p .icons; volume = p .volume; times = p .times; buzzer = p .buzzer; backlight = new; contrast = p .contrast; hook = p .hook; inverse = p .inverse }
+
+abbrev pub withContrast : Settings → ℕ → Settings
+withContrast p new = record { screen = p .screen; shown = p .shown; left = p .left; right = p .right; icons = p .icons; volume = p .volume; times = p .times; buzzer = p .buzzer; backlight = p .backlight; contrast = new; hook = p .hook; inverse = p .inverse }
+
+abbrev pub withHook : Settings → Bool → Settings
+withHook p new = record { screen = p .screen; shown = p .shown; left = p .left; right = p .right; icons = p .icons; volume = p .volume; times = p .times; buzzer = p .buzzer; backlight = p .backlight; contrast = p .contrast; hook = new; inverse = p .inverse }
+
+abbrev pub withInverse : Settings → List Bool → Settings
+withInverse p new = record { screen = p .screen; shown = p .shown; left = p .left; right = p .right; icons = p .icons; volume = p .volume; times = p .times; buzzer = p .buzzer; backlight = p .backlight; contrast = p .contrast; hook = p .hook; inverse = new }
 
 -- Screen --------------------------------------------------------------------------------------------------------
 

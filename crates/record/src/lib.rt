@@ -75,7 +75,8 @@ pub struct Backlight {
     pub keypad: bool,
 }
 
-// All that is small. The structs inside are the groups of fields that commands change together.
+// All that is small. The structs inside are the groups of fields that commands change together. hook is whether it is on-hook; inverse
+// has a mark for each text row.
 pub struct Settings {
     pub screen: Screen,
     pub shown: bool,
@@ -86,6 +87,9 @@ pub struct Settings {
     pub times: Times,
     pub buzzer: Hundredths,
     pub backlight: Backlight,
+    pub contrast: u8,
+    pub hook: bool,
+    pub inverse: [bool; 5],
 }
 
 // down: whether a key is held; long: whether its stage is long.
@@ -230,6 +234,9 @@ impl Record {
                     left: Seconds(0),
                     keypad: false,
                 },
+                contrast: 10,
+                hook: true,
+                inverse: [false; 5],
             },
             text: [0x20u8; 104],
             picture: [0u8; 672],

@@ -4,9 +4,9 @@ use mathlib.Core.Bool.{Bool, not}
 use lib.Dec.{eqb}
 use lib.ListN.{set}
 use Rattle.record.specs.declared.Record.{Record}
-use Rattle.record.specs.With.{withSettings, withText, withPicture, withHeld, withFrame, withScreen, withShown, withLeft, withRight, withIcons, withVolume, withTimes, withBuzzer, withBacklight, withDisplay, withMode, withOverlay, withRow, withColumn, withIconS, withIconU, withIconF, withIconR, withIconP, withIconW, withWhich, withLevel, withMute, withHidden, withLight, withDuration, withSecondsLeft, withKeypad}
+use Rattle.record.specs.With.{withSettings, withText, withPicture, withHeld, withFrame, withScreen, withShown, withLeft, withRight, withIcons, withVolume, withTimes, withBuzzer, withBacklight, withContrast, withHook, withInverse, withDisplay, withMode, withOverlay, withRow, withColumn, withIconS, withIconU, withIconF, withIconR, withIconP, withIconW, withWhich, withLevel, withMute, withHidden, withLight, withDuration, withSecondsLeft, withKeypad}
 use Rattle.record_fields.specs.declared.Field.{Field}
-use Rattle.record_fields.specs.declared.Field.the-variants.{Display, Mode, Overlay, Shown, Row, Column, Text, LeftLength, LeftCode, RightLength, RightCode, Picture, IconS, IconU, IconF, IconR, IconP, IconW, Which, Level, Mute, Hidden, Time1, Time2, Buzzer, Light, Duration, SecondsLeft, Keypad, Down, Key, HeldTick, Long, FrameState, FrameLength, FrameByte}
+use Rattle.record_fields.specs.declared.Field.the-variants.{Display, Mode, Overlay, Shown, Row, Column, Text, LeftLength, LeftCode, RightLength, RightCode, Picture, IconS, IconU, IconF, IconR, IconP, IconW, Which, Level, Mute, Hidden, Time1, Time2, Buzzer, Light, Duration, SecondsLeft, Keypad, Contrast, Hook, Inverse, Down, Key, HeldTick, Long, FrameState, FrameLength, FrameByte}
 
 -- a byte takes a value's low eight bits; a flag is set by any value but 0
 abbrev pub low : ℕ → ℕ
@@ -46,6 +46,9 @@ withField r Light place value = withSettings r (withBacklight (r .settings) (wit
 withField r Duration place value = withSettings r (withBacklight (r .settings) (withDuration (r .settings .backlight) (record { 0 = (low value) })))
 withField r SecondsLeft place value = withSettings r (withBacklight (r .settings) (withSecondsLeft (r .settings .backlight) (record { 0 = (low value) })))
 withField r Keypad place value = withSettings r (withBacklight (r .settings) (withKeypad (r .settings .backlight) (flag value)))
+withField r Contrast place value = withSettings r (withContrast (r .settings) (low value))
+withField r Hook place value = withSettings r (withHook (r .settings) (flag value))
+withField r Inverse place value = withSettings r (withInverse (r .settings) (set (r .settings .inverse) place (flag value)))
 withField r Down place value = withHeld r (record { down = (flag value); key = r .held .key; tick = r .held .tick; long = r .held .long })
 withField r Key place value = withHeld r (record { down = r .held .down; key = (low value); tick = r .held .tick; long = r .held .long })
 withField r HeldTick place value = withHeld r (record { down = r .held .down; key = r .held .key; tick = record { 0 = value }; long = r .held .long })

@@ -35,6 +35,9 @@ pub enum Field {
     Duration,
     SecondsLeft,
     Keypad,
+    Contrast,
+    Hook,
+    Inverse,
     Down,
     Key,
     HeldTick,
@@ -83,6 +86,17 @@ fn frame_with(bytes: [u8; 250], place: usize, b: u8) -> [u8; 250]
     let mut changed = bytes;
     if place < 250 {
         changed[place] = b;
+        return changed;
+    }
+    changed
+}
+
+fn marks_with(marks: [bool; 5], place: usize, mark: bool) -> [bool; 5]
+    ensures { λ r. ⌜ r ≡ set marks place mark ⌝ }
+{
+    let mut changed = marks;
+    if place < 5 {
+        changed[place] = mark;
         return changed;
     }
     changed
@@ -149,6 +163,15 @@ pub fn with_field(mut r: Record, field: Field, place: usize, value: u16) -> Reco
         Field::Duration => r.settings.backlight.duration.0 = low,
         Field::SecondsLeft => r.settings.backlight.left.0 = low,
         Field::Keypad => r.settings.backlight.keypad = flag,
+        Field::Contrast => r.settings.contrast = low,
+        Field::Hook => r.settings.hook = flag,
+        Field::Inverse => {
+            let mut p = r.settings;
+            let old = p.inverse;
+            let marks = marks_with(old, place, flag);
+            p.inverse = marks;
+            r.settings = p;
+        }
         Field::Down => r.held.down = flag,
         Field::Key => r.held.key = low,
         Field::HeldTick => r.held.tick.0 = value,

@@ -1,7 +1,7 @@
 // Whether the small fields of a record, all but its arrays, are within their ranges: the definitions of document 01's table are the
 // record's.
 ghost use mathlib.Core.Path.{_≡_};
-ghost use Rattle.record.specs.Range.{modeInRange, overlayInRange, cursorInRange, iconsInRange, volumeInRange, timesInRange, buzzerInRange, backlightInRange, heldInRange};
+ghost use Rattle.record.specs.Range.{modeInRange, overlayInRange, cursorInRange, iconsInRange, volumeInRange, timesInRange, buzzerInRange, backlightInRange, contrastInRange, inverseInRange, heldInRange};
 ghost use Rattle.record_small_ranges.specs.Small.{smallInRange};
 use record::Backlight;
 use record::Held;
@@ -70,6 +70,19 @@ pub fn backlight_in_range(b: Backlight) -> bool
         & ((b.left.0 == 0) | (b.mode == 2))
 }
 
+fn contrast_in_range(contrast: u8) -> bool
+    ensures { λ r. ⌜ r ≡ contrastInRange contrast ⌝ }
+{
+    (1 <= contrast) & (contrast <= 20)
+}
+
+// At most one text row is marked.
+fn inverse_in_range(marks: [bool; 5]) -> bool
+    ensures { λ r. ⌜ r ≡ inverseInRange marks ⌝ }
+{
+    marks[0] as u8 + marks[1] as u8 + marks[2] as u8 + marks[3] as u8 + marks[4] as u8 <= 1
+}
+
 fn held_in_range(h: Held) -> bool
     ensures { λ r. ⌜ r ≡ heldInRange h ⌝ }
 {
@@ -80,6 +93,7 @@ fn held_in_range(h: Held) -> bool
 pub fn small_in_range(p: Settings, held: Held) -> bool
     ensures same { λ r. ⌜ r ≡ smallInRange p held ⌝ }
 {
+    let marks = p.inverse;
     mode_in_range(p.screen.mode)
         & overlay_in_range(p.screen.overlay)
         & cursor_in_range(p.screen)
@@ -88,5 +102,7 @@ pub fn small_in_range(p: Settings, held: Held) -> bool
         & times_in_range(p.times)
         & buzzer_in_range(p.buzzer.0)
         & backlight_in_range(p.backlight)
+        & contrast_in_range(p.contrast)
+        & inverse_in_range(marks)
         & held_in_range(held)
 }

@@ -43,6 +43,8 @@ dimmed-in-range r h =
       times = k .times;
       buzzer = k .buzzer;
       backlight = lowered-in-range (r .settings .backlight) (k .backlight);
+      contrast = k .contrast;
+      inverse = k .inverse;
       held = k .held;
       frame = k .frame;
     })

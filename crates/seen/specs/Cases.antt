@@ -1,15 +1,16 @@
--- Worked cases: the paper's on Mute, and our own on the panels, the rows, the large line and the columns. Assumes nothing.
+-- Worked cases: the paper's on Mute, and our own on the panels, the rows, the large line, the columns and the inverse mark.
+-- Assumes nothing.
 use Prim.Native.Nat.{ℕ, _-_}
 use Prim.Native.Char.{code}
 use mathlib.Core.Path.{_≡_, refl}
 use mathlib.Core.Bool.{Bool, true, false}
 use mathlib.Core.List.{List, [], _∷_, _++_, map}
-use lib.ListN.{length, replicate}
+use lib.ListN.{length, replicate, set}
 use Rattle.lists.specs.Codes.{ascii, blank}
 use Rattle.lists.specs.Padded.{padded}
 use Rattle.record.specs.PowerOn.{powerOn}
-use Rattle.record.specs.Range.{large, inRange, textInRange, labelInRange, pictureInRange, frameInRange}
-use Rattle.record.specs.With.{withSettings, withText, withPicture, withScreen, withLeft, withRight, withIcons, withIconW, withDisplay, withMode, withOverlay, withColumn}
+use Rattle.record.specs.Range.{large, inRange, textInRange, labelInRange, pictureInRange, inverseInRange, frameInRange}
+use Rattle.record.specs.With.{withSettings, withText, withPicture, withScreen, withLeft, withRight, withIcons, withIconW, withDisplay, withMode, withOverlay, withColumn, withInverse}
 use Rattle.record.specs.declared.Number.{Number}
 use Rattle.record.specs.Number.{numbered}
 use Rattle.record.specs.declared.Icons.{Icons}
@@ -116,7 +117,7 @@ pub row-cases :
     ∷ [])
     × (rowSeen written 2 Lit .owner ≡ TextRow 1)
     × (rowSeen written 2 Lit .codes ≡ ascii "Meter           ")
-unfolding rowSeen contents ownerOn twoOwners covers leavesRocker covered underBar underLabels ofTextMode underText underSmall underBig inRange textInRange labelInRange pictureInRange frameInRange
+unfolding rowSeen contents ownerOn twoOwners covers leavesRocker covered underBar underLabels ofTextMode underText underSmall underBig inRange textInRange labelInRange pictureInRange inverseInRange frameInRange
 row-cases = (refl, refl, refl)
 
 -- a large line that begins with these codes, and the column where text goes on
@@ -155,7 +156,7 @@ pub line-cases :
     ∷ smallAndBig (ascii "1               ") (ascii "2345678 ")
     ∷ smallAndBig (ascii "                ") (ascii "12345678")
     ∷ []
-unfolding rowSeen contents afterLast smallCells bigCells padded ownerOn twoOwners covers leavesRocker covered underBar underLabels ofTextMode underText underSmall underBig inRange textInRange labelInRange pictureInRange frameInRange
+unfolding rowSeen contents afterLast smallCells bigCells padded ownerOn twoOwners covers leavesRocker covered underBar underLabels ofTextMode underText underSmall underBig inRange textInRange labelInRange pictureInRange inverseInRange frameInRange
 line-cases = refl
 
 -- labels of seven and of four codes, icon W 2, and a picture of 3, 4 and 5 in row 5 before, in and after the rocker panel, under an
@@ -217,7 +218,7 @@ pub column-cases :
     ∷ (numbered 4, (Nothing, Shows.Nothing))
     ∷ (numbered 1, (Nothing, Shows.Nothing))
     ∷ []
-unfolding columnSeen shownAt softKeyAt afterLast smallCells bigCells ownerOn covers leavesRocker covered underBar underLabels ofTextMode underText underSmall underBig inRange textInRange labelInRange pictureInRange frameInRange
+unfolding columnSeen shownAt softKeyAt afterLast smallCells bigCells ownerOn covers leavesRocker covered underBar underLabels ofTextMode underText underSmall underBig inRange textInRange labelInRange pictureInRange inverseInRange frameInRange
 column-cases = refl
 
 -- Row 5 under 18 is told as the picture with zero in columns 42 to 53, and icon W.
@@ -225,5 +226,30 @@ pub rocker-case :
     (rowSeen (keyed 18) 5 Lit .owner ≡ PictureWithRocker 5)
     × (rowSeen (keyed 18) 5 Lit .columns ≡ replicate 42 3 ++ replicate 12 0 ++ replicate 42 5)
     × (rowSeen (keyed 18) 5 Lit .labels ≡ record { left = noLabel; right = noLabel; w = 2 })
-unfolding rowSeen contents ownerOn twoOwners covers leavesRocker covered underBar underLabels inRange textInRange labelInRange pictureInRange frameInRange
+unfolding rowSeen contents ownerOn twoOwners covers leavesRocker covered underBar underLabels inRange textInRange labelInRange pictureInRange inverseInRange frameInRange
 rocker-case = (refl, refl, refl)
+
+-- a screen with the mark of one text row
+abbrev rowMarked : ℕ → ℕ → ℕ → Record
+rowMarked n mode overlay =
+    let r = screen mode overlay in
+    withSettings r (withInverse (r .settings) (set (replicate 5 false) n true))
+
+-- the mark as each display row tells it, and as its last column does
+abbrev marksSeen : Record → List (Bool × Bool)
+marksSeen r = map (λ (row : ℕ). (rowSeen r row Lit .inverse, columnSeen r row 95 Lit .inverse)) (0 ∷ 1 ∷ 2 ∷ 3 ∷ 4 ∷ 5 ∷ 6 ∷ [])
+
+-- no row, and one alone
+abbrev noneMarked : List (Bool × Bool)
+noneMarked = replicate 7 (false, false)
+
+abbrev onlyMarked : ℕ → List (Bool × Bool)
+onlyMarked row = set noneMarked row (true, true)
+
+-- The inverse mark: of row 1 in mode 0, in display row 2 alone, and under overlay 16, whose picture stands there; of row 4 in mode 0,
+-- which shows four text rows, and in mode 5; of row 1 in mode 10, where the large line is.
+pub mark-cases :
+    map marksSeen (rowMarked 1 0 0 ∷ rowMarked 1 0 16 ∷ rowMarked 4 0 0 ∷ rowMarked 4 5 0 ∷ rowMarked 1 large 0 ∷ [])
+    ≡ onlyMarked 2 ∷ noneMarked ∷ noneMarked ∷ onlyMarked 4 ∷ noneMarked ∷ []
+unfolding rowSeen contents columnSeen ownerOn twoOwners covers leavesRocker covered underBar underLabels ofTextMode underText underSmall underBig inRange textInRange labelInRange pictureInRange inverseInRange frameInRange
+mark-cases = refl

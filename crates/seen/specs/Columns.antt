@@ -1,6 +1,6 @@
 -- What the column question tells: who owns a place of the display and what stands there (request T-01). Assumes nothing.
 use Prim.Native.Nat.{ℕ, _-_, _/_}
-use mathlib.Core.Bool.{not, cond, _||_}
+use mathlib.Core.Bool.{Bool, false, not, cond, _||_}
 use lib.Dec.{ltb}
 use lib.ListN.{getD}
 use Rattle.record.specs.Range.{inRange}
@@ -10,7 +10,7 @@ use Rattle.record.specs.Number.{numbered}
 use Rattle.seen_panels.specs.declared.Phase.{Phase}
 use Rattle.seen.specs.Places.{isRocker, ownerAt}
 use Rattle.seen.specs.Line.{smallLine, bigLine}
-use Rattle.seen.specs.Rows.{textRow, pictureRow, barOf, labelsOf, noBar}
+use Rattle.seen.specs.Rows.{textRow, markOf, pictureRow, barOf, labelsOf, noBar}
 use Rattle.seen.specs.declared.Owner.{Owner}
 use Rattle.seen.specs.declared.Owner.the-variants.{Nothing, IconBar, TextRow, PictureRow, SoftKeys, SmallLine, BigLine, PictureWithRocker}
 use Rattle.seen.specs.declared.Shown.{Shown}
@@ -56,11 +56,22 @@ barAt r phase SmallLine = noBar
 barAt r phase (BigLine half) = noBar
 barAt r phase (PictureWithRocker n) = noBar
 
+-- a place of a text row has the row's mark
+abbrev pub inverseAt : Record → Owner → Bool
+inverseAt r Nothing = false
+inverseAt r IconBar = false
+inverseAt r (TextRow n) = markOf r n
+inverseAt r (PictureRow n) = false
+inverseAt r SoftKeys = false
+inverseAt r SmallLine = false
+inverseAt r (BigLine half) = false
+inverseAt r (PictureWithRocker n) = false
+
 abbrev pub noPlace : Number → ColumnSeen
-noPlace a = record { number = a; owner = Nothing; shown = Shows.Nothing; bar = noBar }
+noPlace a = record { number = a; owner = Nothing; shown = Shows.Nothing; bar = noBar; inverse = false }
 
 abbrev pub placeOf : Record → Phase → ℕ → Owner → ColumnSeen
-placeOf r phase column owner = record { number = numbered 0; owner = owner; shown = shownAt r column owner; bar = barAt r phase owner }
+placeOf r phase column owner = record { number = numbered 0; owner = owner; shown = shownAt r column owner; bar = barAt r phase owner; inverse = inverseAt r owner }
 
 -- number 1 for a field out of range, then 4 for a display row above 6 or a column above 95: then it tells nothing
 unfoldable pub columnSeen : Record → ℕ → ℕ → Phase → ColumnSeen
@@ -93,4 +104,4 @@ shownIn q (BigLine half) column = Shows.Code (getD (q .codes) (bigCell column) 0
 shownIn q (PictureWithRocker n) column = cond (isRocker column) (Shows.Rocker (q .labels .w)) (Shows.Column (getD (q .columns) column 0))
 
 abbrev pub columnOf : Row → ℕ → ColumnSeen
-columnOf q column = record { number = q .number; owner = ownerIn (q .owner) column; shown = shownIn q (q .owner) column; bar = q .bar }
+columnOf q column = record { number = q .number; owner = ownerIn (q .owner) column; shown = shownIn q (q .owner) column; bar = q .bar; inverse = q .inverse }

@@ -1,9 +1,9 @@
 -- What the row question and the questions of the two panels tell. Assumes nothing.
 use Prim.Native.Nat.{ℕ, _+_, _*_}
-use mathlib.Core.Bool.{not, cond}
+use mathlib.Core.Bool.{Bool, false, not, cond}
 use mathlib.Core.List.{List, _++_}
 use lib.Dec.{ltb}
-use lib.ListN.{take, drop, replicate}
+use lib.ListN.{getD, take, drop, replicate}
 use lib.Seq.{slice}
 use Rattle.lists.specs.Padded.{padded}
 use Rattle.record.specs.Range.{inRange}
@@ -35,6 +35,10 @@ rowOf width cells n = slice (width * n) (width * n + width) cells
 -- 16 codes
 abbrev pub textRow : Record → ℕ → List ℕ
 textRow r n = rowOf 16 (r .text) n
+
+-- whether text row n has the inverse mark
+abbrev pub markOf : Record → ℕ → Bool
+markOf r n = getD (r .settings .inverse) n false
 
 -- 96 columns
 abbrev pub pictureRow : Record → ℕ → List ℕ
@@ -70,18 +74,18 @@ noLabels = record { left = noLabel; right = noLabel; w = 0 }
 
 -- no owner and no contents
 abbrev pub nothingSeen : Number → Row
-nothingSeen a = record { number = a; owner = Nothing; codes = noCodes; columns = noColumns; bar = noBar; labels = noLabels }
+nothingSeen a = record { number = a; owner = Nothing; codes = noCodes; columns = noColumns; bar = noBar; labels = noLabels; inverse = false }
 
--- the contents of a row, by its owner
+-- the contents of a row, by its owner; the mark is a text row's alone
 unfoldable pub contents : Record → Phase → Owner → Row
 contents r phase Nothing = nothingSeen (numbered 0)
-contents r phase IconBar = record { number = numbered 0; owner = IconBar; codes = noCodes; columns = noColumns; bar = barOf (r .settings) phase; labels = noLabels }
-contents r phase (TextRow n) = record { number = numbered 0; owner = TextRow n; codes = textRow r n; columns = noColumns; bar = noBar; labels = noLabels }
-contents r phase (PictureRow n) = record { number = numbered 0; owner = PictureRow n; codes = noCodes; columns = pictureRow r n; bar = noBar; labels = noLabels }
-contents r phase SoftKeys = record { number = numbered 0; owner = SoftKeys; codes = noCodes; columns = noColumns; bar = noBar; labels = labelsOf (r .settings) }
-contents r phase SmallLine = record { number = numbered 0; owner = SmallLine; codes = smallLine r; columns = noColumns; bar = noBar; labels = noLabels }
-contents r phase (BigLine half) = record { number = numbered 0; owner = BigLine half; codes = padded 16 (bigLine r); columns = noColumns; bar = noBar; labels = noLabels }
-contents r phase (PictureWithRocker n) = record { number = numbered 0; owner = PictureWithRocker n; codes = noCodes; columns = aroundRocker (pictureRow r n); bar = noBar; labels = record { left = noLabel; right = noLabel; w = r .settings .icons .w } }
+contents r phase IconBar = record { number = numbered 0; owner = IconBar; codes = noCodes; columns = noColumns; bar = barOf (r .settings) phase; labels = noLabels; inverse = false }
+contents r phase (TextRow n) = record { number = numbered 0; owner = TextRow n; codes = textRow r n; columns = noColumns; bar = noBar; labels = noLabels; inverse = markOf r n }
+contents r phase (PictureRow n) = record { number = numbered 0; owner = PictureRow n; codes = noCodes; columns = pictureRow r n; bar = noBar; labels = noLabels; inverse = false }
+contents r phase SoftKeys = record { number = numbered 0; owner = SoftKeys; codes = noCodes; columns = noColumns; bar = noBar; labels = labelsOf (r .settings); inverse = false }
+contents r phase SmallLine = record { number = numbered 0; owner = SmallLine; codes = smallLine r; columns = noColumns; bar = noBar; labels = noLabels; inverse = false }
+contents r phase (BigLine half) = record { number = numbered 0; owner = BigLine half; codes = padded 16 (bigLine r); columns = noColumns; bar = noBar; labels = noLabels; inverse = false }
+contents r phase (PictureWithRocker n) = record { number = numbered 0; owner = PictureWithRocker n; codes = noCodes; columns = aroundRocker (pictureRow r n); bar = noBar; labels = record { left = noLabel; right = noLabel; w = r .settings .icons .w }; inverse = false }
 
 -- The questions ---------------------------------------------------------------------------------------------------
 

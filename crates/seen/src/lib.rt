@@ -2,7 +2,7 @@
 // The definitions are document 01's "What is seen", in specs/ and, for the panels, in the crate `seen_panels`. The cursor is no part of what is told,
 // but the column says how many codes the large line has.
 ghost use mathlib.Core.Path.{_≡_};
-ghost use mathlib.Core.Bool.{true};
+ghost use mathlib.Core.Bool.{true, false};
 ghost use Prim.Native.Nat.{_+_, _≤_, _<_};
 ghost use lib.ListN.{length, getD};
 ghost use Rattle.lists.specs.Padded.{padded};
@@ -10,7 +10,7 @@ ghost use lib.Seq.{slice};
 ghost use Rattle.record.specs.Range.{inRange, lineOf};
 ghost use Rattle.seen.specs.Places.{isRocker, covers, leavesRocker, covered, underBar, underLabels, ofTextMode, underText, underSmall, underBig, firstTextRow, ownerOn, twoOwners, ownerOfRow, placed};
 ghost use Rattle.seen.specs.Line.{codesIn, smallIn, smallCells, bigCells};
-ghost use Rattle.seen.specs.Columns.{softKeyAt, shownAt, barAt, noPlace, columnSeen};
+ghost use Rattle.seen.specs.Columns.{softKeyAt, shownAt, barAt, inverseAt, noPlace, columnSeen};
 ghost use Rattle.seen.specs.Rows.{rowOf, aroundRocker, barOf, labelsOf, noColumns, nothingSeen, contents, rowSeen, smsSeen, volumeSeen};
 use record::Label;
 use record::Number;
@@ -89,7 +89,7 @@ pub struct Labels {
 
 // What the row question tells: codes for a text row and for the large line, whose big codes are eight, columns for a picture row,
 // bar for the icon bar, labels for the soft keys. A picture with the rocker has zero in the rocker's columns, and icon W in labels.
-// What the owner does not use is zero.
+// What the owner does not use is zero. inverse is whether it is a text row that has the inverse mark.
 pub struct Row {
     pub number: Number,
     pub owner: Owner,
@@ -97,14 +97,16 @@ pub struct Row {
     pub columns: [u8; 96],
     pub bar: Bar,
     pub labels: Labels,
+    pub inverse: bool,
 }
 
-// What the column question tells: bar for the icon bar.
+// What the column question tells: bar for the icon bar, inverse as its row has it.
 pub struct ColumnSeen {
     pub number: Number,
     pub owner: Owner,
     pub shown: Shown,
     pub bar: Bar,
+    pub inverse: bool,
 }
 
 pub struct SmsSeen {
@@ -304,6 +306,15 @@ fn text_row(text: &[u8; 104], n: u8) -> [u8; 16]
     codes
 }
 
+// Whether text row n has the inverse mark.
+fn mark_of(p: Settings, n: u8) -> bool
+    requires { ⌜ n < 5 ⌝ }
+    ensures { λ b. ⌜ b ≡ getD (p .inverse) n false ⌝ }
+{
+    let marks = p.inverse;
+    marks[n as usize]
+}
+
 fn picture_row(picture: &[u8; 672], n: u8) -> [u8; 96]
     requires { ⌜ n < 7 ⌝ }
     ensures { λ columns. ⌜ columns ≡ rowOf 96 (now (picture .entry)) n ⌝ }
@@ -409,6 +420,7 @@ fn nothing_seen(number: Number) -> Row
             },
             w: 0,
         },
+        inverse: false,
     }
 }
 
@@ -455,9 +467,11 @@ fn contents_of(r: Record, phase: Phase, owner: Owner) -> Row
         }
         Owner::TextRow(n) => {
             let codes = text_row(&r.text, n);
+            let inverse = mark_of(r.settings, n);
             Row {
                 owner: Owner::TextRow(n),
                 codes: codes,
+                inverse: inverse,
                 ..empty
             }
         }
@@ -535,6 +549,7 @@ fn no_place(number: Number) -> ColumnSeen
             sms: SmsPanel::Nothing,
             volume: VolumePanel::Nothing,
         },
+        inverse: false,
     }
 }
 
@@ -614,6 +629,16 @@ fn bar_at_place(r: Record, phase: Phase, owner: Owner) -> Bar
     }
 }
 
+fn inverse_at(r: Record, owner: Owner) -> bool
+    requires { ⌜ placed owner ≡ true ⌝ }
+    ensures { λ b. ⌜ b ≡ inverseAt r owner ⌝ }
+{
+    match owner {
+        Owner::TextRow(n) => mark_of(r.settings, n),
+        _ => false,
+    }
+}
+
 // Row 0 is the top one, column 0 the left one. A row above 6 or a column above 95 is refused, a bad record before it.
 pub fn column_seen(r: Record, row: u8, column: u8, phase: Phase) -> ColumnSeen
     ensures same { λ q. ⌜ q ≡ columnSeen r row column phase ⌝ }
@@ -628,10 +653,12 @@ pub fn column_seen(r: Record, row: u8, column: u8, phase: Phase) -> ColumnSeen
     let owner = owner_of(r.settings.screen, row, column);
     let shown = shown_at(r, column, owner);
     let bar = bar_at_place(r, phase, owner);
+    let inverse = inverse_at(r, owner);
     ColumnSeen {
         number: Number::Done,
         owner: owner,
         shown: shown,
         bar: bar,
+        inverse: inverse,
     }
 }

@@ -7,10 +7,10 @@
 //
 // Each of the seven display rows is asked for by the proved row question and drawn as two lines of 48 places in a frame, 50
 // columns in all. A place is two dots wide and four high, so a picture row is drawn dot by dot in braille signs, and a code of
-// a text row, six dots wide, has three places. Codes outside 0x20 to 0x7E are drawn as '.'. The icon bar is drawn in words:
-// signal strength, missed calls, roaming, SMS, volume. The soft keys' row has a label at each side and the rocker between, and so
-// has a picture that leaves the rocker its columns. A big code is six places wide and two rows high: a digit in strokes, any other
-// as two by two of its sign.
+// a text row, six dots wide, has three places: of an inverse row the code stands between square brackets. Codes outside 0x20 to
+// 0x7E are drawn as '.'. The icon bar is drawn in words: signal strength, missed calls, roaming, SMS, volume. The soft keys' row
+// has a label at each side and the rocker between, and so has a picture that leaves the rocker its columns. A big code is six
+// places wide and two rows high: a digit in strokes, any other as two by two of its sign.
 // With the display off the frame is empty. The cursor is no part of what is seen. Of an input that fails nothing is drawn.
 ghost use Prim.Native.Nat.{_≤_};
 use program::Input;
@@ -86,19 +86,23 @@ fn printable(code: u8) -> u8 {
     code
 }
 
-// The first n codes, three places each.
-fn say_codes(codes: &[u8], n: usize) {
+// The first n codes, three places each: the code and what stands at its sides.
+fn say_codes(codes: &[u8], n: usize, left: u8, right: u8) {
     for i in 0..n {
         if i < codes.len() {
-            let places = [b' ', printable(codes[i]), b' '];
+            let places = [left, printable(codes[i]), right];
             say(&places);
         }
     }
 }
 
-fn draw_text(codes: [u8; 16]) {
+fn draw_text(codes: [u8; 16], inverse: bool) {
     side();
-    say_codes(&codes, 16);
+    if inverse {
+        say_codes(&codes, 16, b'[', b']');
+    } else {
+        say_codes(&codes, 16, b' ', b' ');
+    }
     end_of_line();
     empty_line();
 }
@@ -188,7 +192,7 @@ fn places_left(len: u8) -> usize {
 }
 
 fn say_label(label: Label) {
-    say_codes(&label.codes, label.len as usize);
+    say_codes(&label.codes, label.len as usize, b' ', b' ');
     blanks(places_left(label.len));
 }
 
@@ -368,13 +372,14 @@ fn draw_row(r: Record, row: u8, phase: Phase) {
     let columns = seen.columns;
     let bar = seen.bar;
     let labels = seen.labels;
+    let inverse = seen.inverse;
     match owner {
         Owner::Nothing => draw_nothing(),
         Owner::IconBar => draw_bar(bar),
-        Owner::TextRow(_) => draw_text(codes),
+        Owner::TextRow(_) => draw_text(codes, inverse),
         Owner::PictureRow(_) => draw_picture(columns),
         Owner::SoftKeys => draw_labels(labels),
-        Owner::SmallLine => draw_text(codes),
+        Owner::SmallLine => draw_text(codes, inverse),
         Owner::BigLine(half) => draw_big(codes, half),
         Owner::PictureWithRocker(_) => draw_picture_with_rocker(columns, labels.w),
     }

@@ -77,7 +77,7 @@ inCalls call r calls = session (ranOf call) r [] calls
 pub record FeedDemand3 (call : Calling) (r : Record) (before : List ℕ) : Type 0 where
   -- Any byte stream, the open frame standing first, parts in exactly one way.
   pub one-parting : (bytes : List ℕ) → ExactlyOne (before ++ bytes)
-  -- The record and the question marks of a call are those of taking the parts of its used bytes in order; so is the written count,
+  -- The record and the answers of a call are those of taking the parts of its used bytes in order; so is the written count,
   -- and the buffer, whatever was lent.
   pub in-order : (bytes lent : List ℕ) {parted : Parted} → Parting (before ++ take (call r bytes lent .used) bytes) parted
       → call r bytes lent ≡ partsTaken r parted (call r bytes lent .used) lent

@@ -23,16 +23,19 @@ use Rattle.effect.specs.Core.{Core, coreOf}
 use Rattle.effect.specs.Effect.{storeText}
 use Rattle.command.specs.Reading.{orderOf}
 use Rattle.effect.specs.declared.Obeyed.{Obeyed}
-use Rattle.effect.specs.Obey.{obeyOrder, isGood, core}
+use Rattle.answer.specs.Answers.{answerBytes, isSilence}
+use Rattle.answer.specs.declared.Answer.{Answer}
+use Rattle.effect.specs.Obey.{obeyOrder, answerTo, core}
 use Rattle.effect.specs.Keeps.{CoreInRange}
 use Rattle.stream.specs.declared.Fed.{Fed}
 use Rattle.stream.specs.declared.Small.{Small}
 use Rattle.stream.specs.declared.FedLent.{FedLent}
 use Rattle.stream.specs.declared.AfterBytes.{AfterBytes}
 
--- THE HANDSET: a text byte is stored, a good frame is obeyed in silence, a bad frame changes nothing and gets one '?'
+-- THE HANDSET: a text byte is stored; a good frame is obeyed, a question answered and any other in silence; a bad frame changes
+-- nothing and gets one '?'
 abbrev pub obeyFrame : Core → List ℕ → Answered Core
-obeyFrame c frame = record { core = obeyOrder c (orderOf frame); answers = cond (isGood (orderOf frame)) [] (questionMark ∷ []) }
+obeyFrame c frame = record { core = obeyOrder c (orderOf frame); answers = answerBytes (answerTo (orderOf frame)) (c .settings .contrast) (c .settings .hook) }
 
 abbrev pub handset : Meaning
 handset = record { Core = Core; store = storeText; obey = obeyFrame; badAnswer = λ c. questionMark ∷ [] }
@@ -116,23 +119,27 @@ pub record Ready (settings : Settings) (text picture : List ℕ) (state len : �
   pub range : CoreInRange (core settings text picture)
   pub fits : Fits state len bytes
 
--- a byte that is answered with nothing, and one that is answered with '?'
+-- a byte that is answered with nothing, and one that is answered
 abbrev pub quietly : State Core → Taken Core
 quietly state = record { state = state; answers = [] }
 
-abbrev pub asking : State Core → Taken Core
-asking state = record { state = state; answers = questionMark ∷ [] }
+abbrev pub saying : List ℕ → State Core → Taken Core
+saying answer state = record { state = state; answers = answer }
 
--- CR in a frame of which so much is collected: it is obeyed in silence, or asked about and nothing changed
+-- what a frame is answered, from these settings
+abbrev pub answerFrom : Settings → Answer → List ℕ
+answerFrom settings answer = answerBytes answer (settings .contrast) (settings .hook)
+
+-- CR in a frame of which so much is collected: it is obeyed in silence, or answered and nothing changed
 abbrev pub collecting : ℕ → List ℕ → Frame
 collecting state body = cond (eqb state 1) (openFrame body) overlong
 
 pub record Closes (settings : Settings) (text picture : List ℕ) (state : ℕ) (body : List ℕ) (obeyed : Obeyed) (text′ picture′ : List ℕ) : Type 0 where
-  pub good : obeyed .good ≡ true
+  pub quiet : isSilence (obeyed .answer) ≡ true
       → step handset (record { core = core settings text picture; frame = collecting state body }) carriageReturn ≡ quietly (record { core = core (obeyed .settings) text′ picture′; frame = noFrame })
-  pub bad : obeyed .good ≡ false
-      → step handset (record { core = core settings text picture; frame = collecting state body }) carriageReturn ≡ asking (record { core = core settings text′ picture′; frame = noFrame })
-  pub keeps : obeyed .good ≡ false → core settings text picture ≡ core settings text′ picture′
+  pub loud : isSilence (obeyed .answer) ≡ false
+      → step handset (record { core = core settings text picture; frame = collecting state body }) carriageReturn ≡ saying (answerFrom settings (obeyed .answer)) (record { core = core settings text′ picture′; frame = noFrame })
+  pub keeps : isSilence (obeyed .answer) ≡ false → core settings text picture ≡ core settings text′ picture′
   pub range : CoreInRange (core settings text picture) → CoreInRange (core (obeyed .settings) text′ picture′)
 
 -- what the loop leaves

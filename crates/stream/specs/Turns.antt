@@ -4,13 +4,13 @@ use native.Mathlib.Omega.{arith}
 use native.Mathlib.Numerals.{add-one}
 use mathlib.Core.Path.{_≡_, refl, sym, ap, _∙_, subst}
 use mathlib.Core.Bool.{Bool, true, false, cond, true≢false}
-use mathlib.Core.Option.{Option, none, some}
 use mathlib.Core.List.{List, [], _∷_, _++_}
 use lib.Dec.{eqb, ltb, leb}
 use lib.ListN.{length, take, set, getD, replicate, length-set}
 use lib.Seq.{take-suc-set, length-take-le}
-use borrow.Author.Tests.{eqb-true, eqb-false, ne-eqb, ltb-true, leb-true}
-use Rattle.lists.specs.Codes.{escape, carriageReturn, blank, questionMark}
+use borrow.Author.Tests.{eqb-true, eqb-false, ne-eqb, ltb-true, leb-true, leb-false}
+use Rattle.lists.specs.Tests.{by-test}
+use Rattle.lists.specs.Codes.{escape, carriageReturn, blank}
 use Rattle.lists.specs.Padded.{padded}
 use Rattle.record.specs.declared.Settings.{Settings}
 use Rattle.record.specs.declared.Held.{Held}
@@ -25,16 +25,20 @@ use Rattle.parting.specs.Room.{Ran, run}
 use Rattle.turns.specs.Loop
 use Rattle.turns.specs.Loop.{Account, still}
 use Rattle.turns.specs.Begins.{begins-with}
-use Rattle.command.specs.Order.{Order}
 use Rattle.effect.specs.declared.Obeyed.{Obeyed}
 use Rattle.effect.specs.Core.{Core}
 use Rattle.effect.specs.Effect.{storeText}
 use Rattle.command.specs.Reading.{orderOf}
-use Rattle.effect.specs.Obey.{obeyOrder, isGood, core, Obeys}
+use Rattle.answer.specs.Answers.{answerBytes, isSilence, fits, countAfter, bufferAfter}
+use Rattle.answer.specs.Laws.{answer-not-empty}
+use Rattle.answer.specs.declared.Answer.{Answer}
+use Rattle.answer.specs.declared.Answer.the-variants.{Silence, QuestionMark, Contrast, Hook, Version}
+use Rattle.effect.specs.Obey.{obeyOrder, answerTo, core, Obeys}
+use Rattle.effect.specs.Questions.{answered-same}
 use Rattle.effect.specs.Keeps.{CoreInRange, obey-keeps, store-keeps}
 use Rattle.stream_places.specs.Places.{emptied, emptied-of}
 use Rattle.stream.specs.declared.AfterBytes.{AfterBytes}
-use Rattle.stream.specs.Stream.{handset, keptFrame, frameIn, InRow, columnAfter, textAfter, collecting, together, standing, recordOf, quietly, asking, Fits, Closes, Reads}
+use Rattle.stream.specs.Stream.{handset, keptFrame, frameIn, InRow, columnAfter, textAfter, collecting, together, standing, recordOf, quietly, saying, answerFrom, Fits, Closes, Reads}
 
 -- the frame that the locals show
 shows-noFrame : (state len : ℕ) (bs : List ℕ) → state ≡ 0 → frameIn state len bs ≡ noFrame
@@ -56,8 +60,8 @@ shows-new len bs e = shows-open 1 len bs refl ∙ ap (λ (k : ℕ). openFrame (t
 inSilence : (c : Core) {f g : Frame} → f ≡ g → quietly (record { core = c; frame = f }) ≡ quietly (record { core = c; frame = g })
 inSilence c e = ap (λ (x : Frame). quietly (record { core = c; frame = x })) e
 
-queried : (c : Core) {f g : Frame} → f ≡ g → asking (record { core = c; frame = f }) ≡ asking (record { core = c; frame = g })
-queried c e = ap (λ (x : Frame). asking (record { core = c; frame = x })) e
+answered : (answer : List ℕ) (c : Core) {f g : Frame} → f ≡ g → saying answer (record { core = c; frame = f }) ≡ saying answer (record { core = c; frame = g })
+answered answer c e = ap (λ (x : Frame). saying answer (record { core = c; frame = x })) e
 
 shows-some : (state len : ℕ) (bs : List ℕ) → (state ≡ 0 → ⊥) → frameIn state len bs ≡ noFrame → ⊥
 unfolding frameIn
@@ -78,10 +82,13 @@ stored p t g b = go (ltb (p .screen .column) (rowEndOf (p .screen .mode))) refl
     go true e = rw e
     go false e = rw e
 
--- a bad frame is obeyed by nothing
-bad-same : (c : Core) (o : Option Order) → isGood o ≡ false → obeyOrder c o ≡ c
-bad-same c none e = refl
-bad-same c (some o) e = absurd (true≢false e)
+-- silence says nothing
+silence-says : (answer : Answer) (p : Settings) → isSilence answer ≡ true → answerFrom p answer ≡ []
+silence-says Silence p h = refl
+silence-says QuestionMark p h = absurd (true≢false (sym h))
+silence-says Contrast p h = absurd (true≢false (sym h))
+silence-says Hook p h = absurd (true≢false (sym h))
+silence-says Version p h = absurd (true≢false (sym h))
 
 shows-collecting : (state len : ℕ) (bs : List ℕ) → (state ≡ 0 → ⊥) → frameIn state len bs ≡ collecting state (take len bs)
 unfolding frameIn
@@ -94,40 +101,37 @@ module _ (p : Settings) (t g : List ℕ) (state : ℕ) (body : List ℕ) where
   in-frame = record { core = core p t g; frame = collecting state body }
 
   -- of an overlong one
-  pub closes-long : (state ≡ 1 → ⊥) → Closes p t g state body (record { settings = p; good = false }) t g
+  pub closes-long : (state ≡ 1 → ⊥) → Closes p t g state body (record { settings = p; answer = QuestionMark }) t g
   closes-long n =
       record {
-        good = λ x. absurd (true≢false (sym x));
-        bad = λ x. step-ends-overlong handset in-frame carriageReturn (rw (ne-eqb state 1 n)) refl;
+        quiet = λ x. absurd (true≢false (sym x));
+        loud = λ x. step-ends-overlong handset in-frame carriageReturn (rw (ne-eqb state 1 n)) refl;
         keeps = λ x. refl;
         range = λ x. x;
       }
 
   -- of a whole one
   module _ (o : Obeyed) (t′ g′ : List ℕ) (e : state ≡ 1) (q : Obeys body (core p t g) o (core (o .settings) t′ g′)) where
-    closing : step handset in-frame carriageReturn ≡ record { state = record { core = obeyOrder (core p t g) (orderOf body); frame = noFrame }; answers = cond (isGood (orderOf body)) [] (questionMark ∷ []) }
-    closing = step-closes handset in-frame carriageReturn body (rw e) refl
+    closing : step handset in-frame carriageReturn ≡ record { state = record { core = obeyOrder (core p t g) (orderOf body); frame = noFrame }; answers = answerFrom p (o .answer) }
+    closing = step-closes handset in-frame carriageReturn body (rw e) refl ∙ (λ j. record { state = record { core = obeyOrder (core p t g) (orderOf body); frame = noFrame }; answers = answerFrom p (sym (q .answer) j) })
 
-    obeyed : o .good ≡ true → step handset in-frame carriageReturn ≡ quietly (record { core = core (o .settings) t′ g′; frame = noFrame })
+    obeyed : isSilence (o .answer) ≡ true → step handset in-frame carriageReturn ≡ quietly (record { core = core (o .settings) t′ g′; frame = noFrame })
     obeyed x =
-        let y : isGood (orderOf body) ≡ true = sym (q .good) ∙ x in
-        closing ∙ (λ j. record { state = record { core = sym (q .same) j; frame = noFrame }; answers = cond (y j) [] (questionMark ∷ []) })
+        closing ∙ (λ j. record { state = record { core = sym (q .same) j; frame = noFrame }; answers = silence-says (o .answer) p x j })
 
-    bad-core : o .good ≡ false → obeyOrder (core p t g) (orderOf body) ≡ core p t g
-    bad-core x = bad-same (core p t g) (orderOf body) (sym (q .good) ∙ x)
+    same-core′ : isSilence (o .answer) ≡ false → obeyOrder (core p t g) (orderOf body) ≡ core p t g
+    same-core′ x = answered-same (core p t g) (orderOf body) (ap isSilence (sym (q .answer)) ∙ x)
 
-    bad-keeps : o .good ≡ false → core p t g ≡ core p t′ g′
-    bad-keeps x =
-        let z : core (o .settings) t′ g′ ≡ core p t g = q .same ∙ bad-core x in
+    loud-keeps : isSilence (o .answer) ≡ false → core p t g ≡ core p t′ g′
+    loud-keeps x =
+        let z : core (o .settings) t′ g′ ≡ core p t g = q .same ∙ same-core′ x in
         λ j. record { settings = p; text = sym z j .text; picture = sym z j .picture }
 
-    asked : o .good ≡ false → step handset in-frame carriageReturn ≡ asking (record { core = core p t′ g′; frame = noFrame })
-    asked x =
-        let y : isGood (orderOf body) ≡ false = sym (q .good) ∙ x in
-        closing ∙ (λ j. record { state = record { core = (bad-core x ∙ bad-keeps x) j; frame = noFrame }; answers = cond (y j) [] (questionMark ∷ []) })
+    told : isSilence (o .answer) ≡ false → step handset in-frame carriageReturn ≡ saying (answerFrom p (o .answer)) (record { core = core p t′ g′; frame = noFrame })
+    told x = closing ∙ (λ j. record { state = record { core = (same-core′ x ∙ loud-keeps x) j; frame = noFrame }; answers = answerFrom p (o .answer) })
 
     pub closes-whole : Closes p t g state body o t′ g′
-    closes-whole = record { good = obeyed; bad = asked; keeps = bad-keeps; range = λ k. rw (q .same) (obey-keeps (core p t g) body k) }
+    closes-whole = record { quiet = obeyed; loud = told; keeps = loud-keeps; range = λ k. rw (q .same) (obey-keeps (core p t g) body k) }
 
 -- A turn -------------------------------------------------------------------------------------------------------------
 
@@ -149,22 +153,22 @@ module _ (p : Settings) (t g : List ℕ) (state len : ℕ) (fr : List ℕ) (b : 
   turn-skip e l n = step-skips handset here b (shows-noFrame state len fr e) l n
 
   -- ESC in a frame
-  pub loud-esc : (state ≡ 0 → ⊥) → b ≡ escape → step handset (standing p t g state len fr) b ≡ asking (standing p t g 1 0 fr)
-  loud-esc n h = step-abandons handset here b (shows-some state len fr n) h ∙ queried (core p t g) (sym (shows-new 0 fr refl))
+  pub loud-esc : (state ≡ 0 → ⊥) → b ≡ escape → step handset (standing p t g state len fr) b ≡ saying (answerFrom p QuestionMark) (standing p t g 1 0 fr)
+  loud-esc n h = step-abandons handset here b (shows-some state len fr n) h ∙ answered (answerFrom p QuestionMark) (core p t g) (sym (shows-new 0 fr refl))
 
   -- CR in a frame
   module _ {o : Obeyed} {t′ g′ : List ℕ} (n : state ≡ 0 → ⊥) (e : b ≡ carriageReturn) (k : Closes p t g state (take len fr) o t′ g′) where
     ended : step handset (standing p t g state len fr) b ≡ step handset (record { core = core p t g; frame = collecting state (take len fr) }) carriageReturn
     ended = λ j. step handset (record { core = core p t g; frame = shows-collecting state len fr n j }) (e j)
 
-    pub turn-good : o .good ≡ true → step handset (standing p t g state len fr) b ≡ quietly (standing (o .settings) t′ g′ 0 0 fr)
-    turn-good x = ended ∙ k .good x ∙ inSilence (core (o .settings) t′ g′) (sym (shows-noFrame 0 0 fr refl))
+    pub turn-quiet : isSilence (o .answer) ≡ true → step handset (standing p t g state len fr) b ≡ quietly (standing (o .settings) t′ g′ 0 0 fr)
+    turn-quiet x = ended ∙ k .quiet x ∙ inSilence (core (o .settings) t′ g′) (sym (shows-noFrame 0 0 fr refl))
 
-    pub loud-bad : o .good ≡ false → step handset (standing p t g state len fr) b ≡ asking (standing p t′ g′ 0 0 fr)
-    loud-bad x = ended ∙ k .bad x ∙ queried (core p t′ g′) (sym (shows-noFrame 0 0 fr refl))
+    pub loud-return : isSilence (o .answer) ≡ false → step handset (standing p t g state len fr) b ≡ saying (answerFrom p (o .answer)) (standing p t′ g′ 0 0 fr)
+    loud-return x = ended ∙ k .loud x ∙ answered (answerFrom p (o .answer)) (core p t′ g′) (sym (shows-noFrame 0 0 fr refl))
 
-    pub range-bad : o .good ≡ false → CoreInRange (core p t g) → CoreInRange (core p t′ g′)
-    range-bad x r = rw (← k .keeps x) r
+    pub range-loud : isSilence (o .answer) ≡ false → CoreInRange (core p t g) → CoreInRange (core p t′ g′)
+    range-loud x r = rw (← k .keeps x) r
 
   -- any other byte in a frame
   pub turn-collect : Fits state len fr → state ≡ 1 → (b ≡ escape → ⊥) → (b ≡ carriageReturn → ⊥) → len < limit → step handset (standing p t g state len fr) b ≡ quietly (standing p t g state (len + 1) (set fr len b))
@@ -228,13 +232,25 @@ module _ {bytes before : List ℕ} {s : State Core} {answers : List ℕ} {p : Se
       → Going bytes before s answers p′ t′ g′ state′ len′ fr′ (i + 1) w
   go-quiet x y e = record { account = Loop.go-quiet (step handset) (k .account) (begins-with bytes i 0 h) _ e; range = x; fits = y }
 
-  pub go-loud : {p′ : Settings} {t′ g′ : List ℕ} {state′ len′ : ℕ} {fr′ : List ℕ} {w′ : ℕ} {answers′ : List ℕ} → CoreInRange (core p′ t′ g′) → Fits state′ len′ fr′ → step handset (standing p t g state len fr) (getD bytes i 0) ≡ asking (standing p′ t′ g′ state′ len′ fr′) → w < length answers
-      → (w′ ≡ w + 1) × (answers′ ≡ set answers w questionMark) → Going bytes before s answers′ p′ t′ g′ state′ len′ fr′ (i + 1) w′
-  go-loud x y e l (m, n) = rw (m, n) (record { account = Loop.go-one (step handset) (k .account) (begins-with bytes i 0 h) _ questionMark e l; range = x; fits = y })
+  -- an answer is written whole, and the count says so,
+  pub go-loud : {p′ : Settings} {t′ g′ : List ℕ} {state′ len′ : ℕ} {fr′ : List ℕ} {w′ : ℕ} {answers′ answer : List ℕ} → CoreInRange (core p′ t′ g′) → Fits state′ len′ fr′ → step handset (standing p t g state len fr) (getD bytes i 0) ≡ saying answer (standing p′ t′ g′ state′ len′ fr′)
+      → w′ ≡ countAfter answers w answer → answers′ ≡ bufferAfter answers w answer → w < w′ → Going bytes before s answers′ p′ t′ g′ state′ len′ fr′ (i + 1) w′
+  go-loud {p′} {t′} {g′} {state′} {len′} {fr′} {w′} {answers′} {answer} x y e m n more =
+      by-test (fits answers w answer)
+      (λ room.
+      let there : w + length answer ≤ length answers = leb-true (w + length answer) (length answers) room in
+      rw (m, n, room) (record { account = Loop.go-on (step handset) (k .account) (begins-with bytes i 0 h) _ e (omega arith); range = x; fits = y }))
+      (λ full. let same : w′ ≡ w = m ∙ rw full in absurd (omega arith))
 
-  pub go-halt : {v : State Core} → step handset (standing p t g state len fr) (getD bytes i 0) ≡ asking v → length answers ≤ w
-      → Account (run handset s bytes (length before)) before (still (standing p t g state len fr) i w answers)
-  go-halt {v} e l = Loop.go-stop (step handset) (k .account) (begins-with bytes i 0 h) (asking v) e (omega arith)
+  -- or not at all, and the call stops
+  pub go-halt : {v : State Core} {w′ : ℕ} {answers′ answer : List ℕ} → step handset (standing p t g state len fr) (getD bytes i 0) ≡ saying answer v → 1 ≤ length answer
+      → w′ ≡ countAfter answers w answer → answers′ ≡ bufferAfter answers w answer → w′ ≤ w → Account (run handset s bytes (length before)) before (still (standing p t g state len fr) i w answers′)
+  go-halt {v} {w′} {answers′} {answer} e not-none m n less =
+      by-test (fits answers w answer)
+      (λ room. let more : w′ ≡ w + length answer = m ∙ rw room in absurd (omega arith))
+      (λ full.
+      let short : length answers < w + length answer = leb-false (w + length answer) (length answers) full in
+      rw (n, full) (Loop.go-stop (step handset) (k .account) (begins-with bytes i 0 h) (saying answer v) e (omega (arith, k .account .room))))
 
 -- the same account, of a core that other locals hold
 pub same-core : {ran : Ran Core} {before : List ℕ} {x y : Core} {f : Frame} {i w : ℕ} {after : List ℕ} → x ≡ y

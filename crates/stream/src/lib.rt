@@ -1,4 +1,4 @@
-// The stream call: bytes in, the record and question marks out. It is the parting's run at the handset's meaning.
+// The stream call: bytes in, the record and answers out. It is the parting's run at the handset's meaning.
 // It is done on lent arrays, in place, so that a short call copies nothing large; `stream_by_value` has the same call on a record by value.
 ghost use mathlib.Core.Path.{_≡_};
 ghost use Prim.Native.Nat.{_≤_, _<_, _+_};
@@ -6,6 +6,7 @@ ghost use lib.ListN.{length, getD};
 ghost use Rattle.lists.specs.Codes.{blank};
 ghost use Rattle.stream.specs.Turns.{Stores};
 ghost use Rattle.stream.specs.Stream.{InRow, columnAfter, textAfter, together, lentOf, standing, fedOf, answersAfter, Ready, Closes, Reads};
+use answer::Answer;
 use effect::Obeyed;
 use record::Held;
 use record::Number;
@@ -112,7 +113,7 @@ fn store_all(
     }
 }
 
-// CR in a frame: a whole one is obeyed, if it is good. One that is not, and an overlong one, is to be asked about.
+// CR in a frame: a whole one is obeyed, if it is good. One that is not, and an overlong one, gets a question mark.
 fn close(
     settings: Settings,
     text: &mut [u8; 104],
@@ -127,7 +128,7 @@ fn close(
     }
     Obeyed {
         settings: settings,
-        good: false,
+        answer: Answer::QuestionMark,
     }
 }
 
@@ -167,8 +168,15 @@ fn read(
             continue;
         }
         if b == ESCAPE {
-            if w < answers.len() {
-                w = stream_places::ask(answers, w);
+            let told = answer::say(
+                answers,
+                w,
+                Answer::QuestionMark,
+                settings.contrast,
+                settings.hook,
+            );
+            if w < told {
+                w = told;
                 state = OPEN;
                 len = 0;
                 i += 1;
@@ -184,7 +192,8 @@ fn read(
         }
         if b == CARRIAGE_RETURN {
             let o = close(settings, text, picture, &frame[..len], state);
-            if o.good {
+            let said = o.answer;
+            if answer::is_silence(said) {
                 let obeyed = o.settings;
                 settings = obeyed;
                 state = NO_FRAME;
@@ -192,8 +201,9 @@ fn read(
                 i += 1;
                 continue;
             }
-            if w < answers.len() {
-                w = stream_places::ask(answers, w);
+            let told = answer::say(answers, w, said, settings.contrast, settings.hook);
+            if w < told {
+                w = told;
                 state = NO_FRAME;
                 len = 0;
                 i += 1;

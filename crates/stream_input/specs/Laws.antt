@@ -1,15 +1,15 @@
--- LAWS OF WHAT IS HEARD: a call that is offered a byte uses one, what calls use is heard in order, and a record in range stays in
--- range. Assumes nothing.
+-- LAWS OF WHAT IS HEARD: a call with room for any answer that is offered a byte uses one, what calls use is heard in order, and a
+-- record in range stays in range. Assumes nothing.
 use Prim.Native.Nat.{ℕ, zero, suc, _+_, _-_, _≤_, _<_}
 use native.Mathlib.Omega.{arith}
 use mathlib.Core.Path.{_≡_, refl, sym, ap, _∙_, subst}
-use mathlib.Core.Bool.{Bool, true, false, cond}
+use mathlib.Core.Bool.{Bool, true, false}
 use mathlib.Core.List.{List, [], _∷_, _++_}
 use lib.Dec.{eqb, leb}
-use lib.ListN.{length, length-append, length-drop, take, drop}
-use lib.Seq.{take-add, take-all}
-use borrow.Author.Tests.{le-leb}
-use Rattle.lists.specs.Codes.{escape, carriageReturn, blank, questionMark}
+use lib.ListN.{length, length-drop, take, drop}
+use lib.Seq.{take-add, take-all, take-append-seam}
+use borrow.Author.Tests.{le-leb, lt-leb}
+use Rattle.lists.specs.Codes.{escape, carriageReturn, blank}
 use Rattle.lists.specs.Tests.{by-test, either-way}
 use Rattle.record.specs.declared.Record.{Record}
 use Rattle.record.specs.Range.{inRange}
@@ -20,47 +20,66 @@ use Rattle.turns.specs.Room
 use Rattle.turns.specs.Room.{Ran, Stops, run-stops, room-for-all}
 use Rattle.parting.specs.Rules.{Frame, noFrame, openFrame, overlong}
 use Rattle.parting.specs.Meaning.{State, Taken}
-use Rattle.parting.specs.Reading.{step, stepFrom, reading}
+use Rattle.parting.specs.Reading.{step, stepFrom, reading, step-closes}
 use Rattle.parting.specs.Room.{run}
 use Rattle.effect.specs.Core.{Core}
-use Rattle.effect.specs.Obey.{isGood}
+use Rattle.effect.specs.Obey.{answerTo}
+use Rattle.command.specs.declared.Command.the-variants.{VersionAsked}
+use Rattle.command.specs.Order.{plain}
+use Rattle.command.specs.Grammar.{Spells}
 use Rattle.command.specs.Reading.{orderOf}
-use Rattle.stream.specs.Stream.{handset, stateOf, recordOf, fedOf}
+use Rattle.command.specs.Agree.{agree}
+use Rattle.answer.specs.Answers.{heads}
+use Rattle.answer.specs.Laws.{answer-at-most, heads-append}
+use Rattle.stream.specs.Stream.{handset, stateOf, recordOf, fedOf, answersAfter}
 use Rattle.stream.specs.declared.Fed.{Fed}
 use Rattle.stream.specs.Demand.{record-same, state-same, fed-in-range}
+use Rattle.stream_input.specs.declared.Call.{Call}
 use Rattle.stream_input.specs.declared.Heard.{Heard}
-use Rattle.stream_input.specs.Heard.{greatest, capped, recordAfter, repliesTo, counted, heardAfter, Hears}
+use Rattle.stream_input.specs.Heard.{greatest, capped, recordAfter, repliesTo, answered, callOf, counted, heardAfter, Hears}
 
 -- Progress ----------------------------------------------------------------------------------------------------------
 
-abbrev AtMostOne : Taken Core → Type 0
-AtMostOne taken = length (taken .answers) ≤ 1
+-- the longest answer, the version's
+abbrev pub longest : ℕ
+longest = 29
 
-good-or-asked : (good : Bool) → length (cond good [] (questionMark ∷ [])) ≤ 1
-good-or-asked true = omega arith
-good-or-asked false = omega arith
+abbrev AtMostLongest : Taken Core → Type 0
+AtMostLongest taken = length (taken .answers) ≤ longest
 
--- A byte is answered with one '?' at most.
-pub one-answer : (state : State Core) (b : ℕ) → length (step handset state b .answers) ≤ 1
+-- A byte is answered with 29 bytes at most.
+pub one-answer : (state : State Core) (b : ℕ) → length (step handset state b .answers) ≤ longest
 unfolding step
 one-answer state b = go (state .frame)
   where
-    go : (frame : Frame) → AtMostOne (stepFrom handset (state .core) frame b)
-    go noFrame = either-way AtMostOne (eqb b escape) (λ e. omega arith) (λ e. either-way AtMostOne (leb blank b) (λ f. omega arith) (λ f. omega arith))
+    go : (frame : Frame) → AtMostLongest (stepFrom handset (state .core) frame b)
+    go noFrame = either-way AtMostLongest (eqb b escape) (λ e. omega arith) (λ e. either-way AtMostLongest (leb blank b) (λ f. omega arith) (λ f. omega arith))
     go (openFrame body) =
-        either-way AtMostOne (eqb b escape) (λ e. omega arith)
-        (λ e. either-way AtMostOne (eqb b carriageReturn) (λ f. good-or-asked (isGood (orderOf body))) (λ f. omega arith))
-    go overlong = either-way AtMostOne (eqb b escape) (λ e. omega arith) (λ e. either-way AtMostOne (eqb b carriageReturn) (λ f. omega arith) (λ f. omega arith))
+        either-way AtMostLongest (eqb b escape) (λ e. omega arith)
+        (λ e. either-way AtMostLongest (eqb b carriageReturn) (λ f. answer-at-most (state .core .settings .contrast) (state .core .settings .hook) (answerTo (orderOf body))) (λ f. omega arith))
+    go overlong = either-way AtMostLongest (eqb b escape) (λ e. omega arith) (λ e. either-way AtMostLongest (eqb b carriageReturn) (λ f. omega arith) (λ f. omega arith))
 
-run-goes-on : (state : State Core) (bytes : List ℕ) (room : ℕ) → 1 ≤ room → 0 < length bytes → 0 < run handset state bytes room .used
+run-goes-on : (state : State Core) (bytes : List ℕ) (room : ℕ) → longest ≤ room → 0 < length bytes → 0 < run handset state bytes room .used
 unfolding Room.run
 run-goes-on state [] room l m = omega arith
 run-goes-on state (b ∷ rest) room l m = rw (le-leb (length (step handset state b .answers)) room (omega (arith, one-answer state b))) (omega arith)
 
--- So a call that is offered a byte uses one, if its room takes a byte.
-pub goes-on : (r : Record) (bytes : List ℕ) (room : ℕ) → inRange r ≡ true → 1 ≤ room → 0 < length bytes → 0 < fedOf r bytes room .used
+-- So a call that is offered a byte uses one, if its room takes the longest answer.
+pub goes-on : (r : Record) (bytes : List ℕ) (room : ℕ) → inRange r ≡ true → longest ≤ room → 0 < length bytes → 0 < fedOf r bytes room .used
 unfolding fedOf
 goes-on r bytes room h l m = rw h (run-goes-on (stateOf r) bytes room l m)
+
+-- With less room it does not get past the question for the version: where that frame is open, its CR is not used, whatever follows.
+run-waits : (state : State Core) (frame rest : List ℕ) (room : ℕ) → Spells (plain VersionAsked) frame → state .frame ≡ openFrame frame → room < longest
+    → run handset state (carriageReturn ∷ rest) room .used ≡ 0
+unfolding Room.run
+run-waits state frame rest room s f l =
+    rw (step-closes handset state carriageReturn frame f refl, agree (plain VersionAsked) frame .1 s, lt-leb longest room l)
+
+pub waits-for-room : (r : Record) (frame rest : List ℕ) (room : ℕ) → inRange r ≡ true → Spells (plain VersionAsked) frame → stateOf r .frame ≡ openFrame frame → room < longest
+    → fedOf r (carriageReturn ∷ rest) room .used ≡ 0
+unfolding fedOf
+waits-for-room r frame rest room h s f l = rw h (run-waits (stateOf r) frame rest room s f l)
 
 -- One call ----------------------------------------------------------------------------------------------------------
 
@@ -76,7 +95,12 @@ module _ (r : Record) (bytes : List ℕ) (room : ℕ) where
   unfolding fedOf
   uses-within = by-test (inRange r) (λ h. rw h (stops .within)) (λ h. rw h (omega arith))
 
-  -- and nothing from a record out of range.
+  -- writes where there is room,
+  pub writes-within : fed .written ≤ room
+  unfolding fedOf
+  writes-within = by-test (inRange r) (λ h. rw h (stops .fits)) (λ h. rw h (omega arith))
+
+  -- and uses nothing from a record out of range.
   pub refused-uses : inRange r ≡ false → fed .used ≡ 0
   unfolding fedOf
   refused-uses h = rw h
@@ -86,13 +110,26 @@ module _ (r : Record) (bytes : List ℕ) (room : ℕ) where
   unfolding fedOf recordAfter
   call-after h = rw h (ap (λ (taken : Taken Core). recordOf (r .held) (taken .state)) (stops .does))
 
-  call-replies : inRange r ≡ true → fed .written ≡ repliesTo r (take (fed .used) bytes)
-  unfolding fedOf repliesTo
-  call-replies h = rw h (ap (λ (taken : Taken Core). length (taken .answers)) (stops .does))
+  call-replies : inRange r ≡ true → heads (answered r bytes room) ≡ repliesTo r (take (fed .used) bytes)
+  unfolding fedOf answered repliesTo
+  call-replies h = rw h (ap (λ (taken : Taken Core). heads (taken .answers)) (stops .does))
 
 pub call-heard : (before : Heard) (bytes : List ℕ) (room : ℕ) → inRange (before .record) ≡ true
-    → (let fed = fedOf (before .record) bytes room in counted before (fed .record) (fed .written) ≡ heardAfter before (take (fed .used) bytes))
+    → (let call = callOf (before .record) bytes room in counted before (call .fed .record) (call .replies) ≡ heardAfter before (take (call .fed .used) bytes))
 call-heard before bytes room h = λ j. counted before (call-after (before .record) bytes room h j) (call-replies (before .record) bytes room h j)
+
+-- Its answers stand in the part of the buffer that it wrote: so they are counted there.
+what-was-written : (r : Record) (bytes buffer : List ℕ) → take (fedOf r bytes (length buffer) .written) (answersAfter r bytes buffer) ≡ answered r bytes (length buffer)
+unfolding fedOf answersAfter answered
+what-was-written r bytes buffer =
+    let answers : List ℕ = run handset (stateOf r) bytes (length buffer) .answers in
+    by-test (inRange r) (λ h. rw h (take-append-seam answers (drop (length answers) buffer))) (λ h. rw h)
+
+pub counted-there : (r : Record) (bytes buffer : List ℕ) {fed : Fed} {after : List ℕ} {replies : ℕ} → fed ≡ fedOf r bytes (length buffer) → after ≡ answersAfter r bytes buffer
+    → replies ≡ heads (take (fed .written) after) → record { fed = fed; replies = replies } ≡ callOf r bytes (length buffer)
+counted-there r bytes buffer {fed} {after} {replies} e f n =
+    let all : replies ≡ heads (answered r bytes (length buffer)) = n ∙ (λ j. heads (take (e j .written) (f j))) ∙ ap heads (what-was-written r bytes buffer) in
+    λ j. record { fed = e j; replies = all j }
 
 -- Bytes heard -------------------------------------------------------------------------------------------------------
 
@@ -122,12 +159,12 @@ heard-then before first second =
     let after : Taken Core = reading handset (middle .state) second in
     let both = cut-anywhere (step handset) (stateOf r) first second in
     let same = state-same (r .held) (middle .state) in
-    let replies : capped (capped (before .replies + length (middle .answers)) + length (after .answers)) ≡ capped (before .replies + length (middle .answers ++ after .answers)) =
-    omega (arith, length-append (middle .answers) (after .answers))
+    let replies : capped (capped (before .replies + heads (middle .answers)) + heads (after .answers)) ≡ capped (before .replies + heads (middle .answers ++ after .answers)) =
+    omega (arith, heads-append (middle .answers) (after .answers))
     in
-    ap (λ (s : State Core). counted (heardAfter before first) (recordOf (r .held) (reading handset s second .state)) (length (reading handset s second .answers))) same
+    ap (λ (s : State Core). counted (heardAfter before first) (recordOf (r .held) (reading handset s second .state)) (heads (reading handset s second .answers))) same
     ∙ (λ j. record { «record» = recordOf (r .held) (after .state); replies = replies j; failed = before .failed })
-    ∙ ap (λ (taken : Taken Core). counted before (recordOf (r .held) (taken .state)) (length (taken .answers))) (sym both)
+    ∙ ap (λ (taken : Taken Core). counted before (recordOf (r .held) (taken .state)) (heads (taken .answers))) (sym both)
 
 -- Pieces ------------------------------------------------------------------------------------------------------------
 
@@ -159,17 +196,18 @@ module _ {start : Heard} {piece : List ℕ} {now : Heard} {at : ℕ} (so-far : S
   progress h l = goes-on (now .record) rest 64 (good h) (omega arith) (omega (arith, rest-length))
 
   -- and the piece is heard as far as the call used it.
-  pub further : (fed : Fed) → fed ≡ fedOf (now .record) rest 64 → (fed .used ≡ 0 → ⊥) → SoFar start piece (counted now (fed .record) (fed .written)) (at + fed .used)
-  further fed e used =
+  pub further : (call : Call) → call ≡ callOf (now .record) rest 64 → (call .fed .used ≡ 0 → ⊥)
+      → SoFar start piece (counted now (call .fed .record) (call .replies)) (at + call .fed .used)
+  further call e used =
       record {
-        within = omega (arith, ap (λ (f : Fed). f .used) e, uses-within (now .record) rest 64, rest-length, so-far .within);
+        within = omega (arith, ap (λ (c : Call). c .fed .used) e, uses-within (now .record) rest 64, rest-length, so-far .within);
         some = λ h.
-            ap (λ (f : Fed). counted now (f .record) (f .written)) e
+            ap (λ (c : Call). counted now (c .fed .record) (c .replies)) e
             ∙ call-heard now rest 64 (good h)
-            ∙ (λ j. heardAfter (so-far .some h j) (take (sym e j .used) (rest-is j)))
-            ∙ heard-then start (take at piece) (take (fed .used) (drop at piece))
-            ∙ ap (heardAfter start) (sym (take-add at (fed .used) piece));
-        none = λ h. absurd (used (ap (λ (f : Fed). f .used) e ∙ refused-uses (now .record) rest 64 (subst (λ (m : Heard). inRange (m .record) ≡ false) (sym (so-far .none h)) h)));
+            ∙ (λ j. heardAfter (so-far .some h j) (take (sym e j .fed .used) (rest-is j)))
+            ∙ heard-then start (take at piece) (take (call .fed .used) (drop at piece))
+            ∙ ap (heardAfter start) (sym (take-add at (call .fed .used) piece));
+        none = λ h. absurd (used (ap (λ (c : Call). c .fed .used) e ∙ refused-uses (now .record) rest 64 (subst (λ (m : Heard). inRange (m .record) ≡ false) (sym (so-far .none h)) h)));
       }
 
   -- At its end it is heard whole.

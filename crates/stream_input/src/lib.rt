@@ -6,34 +6,44 @@ ghost use mathlib.Core.List.{List};
 ghost use Prim.Native.Nat.{ℕ};
 ghost use Rattle.record.specs.Range.{inRange};
 ghost use Rattle.picture.specs.Data.{Bytes};
-ghost use Rattle.stream.specs.Stream.{fedOf};
-ghost use Rattle.stream_input.specs.Heard.{capped, recordAfter, repliesTo, counted, heardAfter, Hears};
+ghost use Rattle.stream_input.specs.Heard.{capped, recordAfter, repliesTo, callOf, counted, heardAfter, Hears};
 use record::Record;
 use stream::Fed;
 
-// Any room does that takes a byte's answer, which is one '?' at most.
+// Any room does that takes the longest answer, the version's 29 bytes.
 const ROOM: usize = 64;
 
-// The record after the stream, how many answer bytes there were, and whether the input failed before its end.
+// The record after the stream, how many answers there were, and whether the input failed before its end.
 pub struct Heard {
     pub record: Record,
     pub replies: u64,
     pub failed: bool,
 }
 
-// A call with a buffer of its own for the answers.
-fn one_call(r: Record, bytes: &[u8]) -> Fed
-    ensures { λ f. ⌜ f ≡ fedOf r (now (bytes .entry)) 64 ⌝ }
+// What a call handed back, and how many answers it wrote.
+struct Call {
+    fed: Fed,
+    replies: usize,
+}
+
+// A call with a buffer of its own for the answers, which are counted in it.
+fn one_call(r: Record, bytes: &[u8]) -> Call
+    ensures { λ c. ⌜ c ≡ callOf r (now (bytes .entry)) 64 ⌝ }
 {
     let mut answers = [0u8; ROOM];
-    stream_by_value::feed(r, bytes, &mut answers)
+    let fed = stream_by_value::feed(r, bytes, &mut answers);
+    let replies = answer::count(&answers[..fed.written]);
+    Call {
+        fed: fed,
+        replies: replies,
+    }
 }
 
 // The count stops at its type's end rather than run over.
-fn more(heard: Heard, after: Record, written: usize) -> Heard
-    ensures { λ h. ⌜ h ≡ counted heard after written ⌝ }
+fn more(heard: Heard, after: Record, answered: usize) -> Heard
+    ensures { λ h. ⌜ h ≡ counted heard after answered ⌝ }
 {
-    let n = written as u64;
+    let n = answered as u64;
     let replies = heard.replies;
     if 0xFFFF_FFFF_FFFF_FFFF - replies < n {
         return Heard {
@@ -58,12 +68,13 @@ fn hear_piece(heard: Heard, piece: &[u8]) -> Heard
     let mut now = heard;
     let mut at = 0;
     while at < piece.len() {
-        let fed = one_call(now.record, &piece[at..]);
+        let call = one_call(now.record, &piece[at..]);
+        let fed = call.fed;
         if fed.used == 0 {
             return now;
         }
         let after = fed.record;
-        now = more(now, after, fed.written);
+        now = more(now, after, call.replies);
         at += fed.used;
     }
     now

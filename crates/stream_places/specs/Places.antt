@@ -3,35 +3,13 @@ use Prim.Native.Nat.{ℕ, suc, _+_, _-_, _≤_, _<_}
 use native.Mathlib.Omega.{arith}
 use native.Mathlib.Numerals.{add-one}
 use mathlib.Core.Path.{_≡_, refl, sym, ap, _∙_}
-use mathlib.Core.Bool.{cond}
 use mathlib.Core.List.{List, [], _∷_, _++_, append-nil, append-assoc}
-use lib.Dec.{ltb}
 use lib.ListN.{length, take, set, replicate, length-set}
 use lib.Seq.{take-suc-set, take-all}
-use borrow.Author.Tests.{lt-ltb, le-ltb}
-use Rattle.lists.specs.Codes.{questionMark}
-
--- AN ANSWER MORE, if there is room for it
-abbrev pub countAfter : ℕ → ℕ → ℕ
-countAfter room written = cond (ltb written room) (written + 1) written
-
-abbrev pub asked : List ℕ → ℕ → List ℕ
-asked answers written = cond (ltb written (length answers)) (set answers written questionMark) answers
 
 -- UNUSED PLACES hold zero
 unfoldable pub emptied : List ℕ → ℕ → List ℕ
 emptied bytes len = take len bytes ++ replicate (length bytes - len) 0
-
-pub one-more : (answers : List ℕ) (written : ℕ) → written < length answers → (countAfter (length answers) written ≡ written + 1) × (asked answers written ≡ set answers written questionMark)
-one-more answers written l = rw (lt-ltb written (length answers) l) (refl, refl)
-
-pub no-more : (answers : List ℕ) (written : ℕ) → length answers ≤ written → (countAfter (length answers) written ≡ written) × (asked answers written ≡ answers)
-no-more answers written l = rw (le-ltb written (length answers) l) (refl, refl)
-
--- what one that found room did
-pub asked-once : (answers : List ℕ) (written : ℕ) {answers′ : List ℕ} {written′ : ℕ} → written < length answers → (written′ ≡ countAfter (length answers) written) × (answers′ ≡ asked answers written)
-    → (written′ ≡ written + 1) × (answers′ ≡ set answers written questionMark)
-asked-once answers written l (m, n) = let k = one-more answers written l in (m ∙ k .0, n ∙ k .1)
 
 -- of so many places
 pub emptied-of : {n : ℕ} (bytes : List ℕ) (len : ℕ) → length bytes ≡ n → emptied bytes len ≡ take len bytes ++ replicate (n - len) 0

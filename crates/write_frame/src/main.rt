@@ -263,6 +263,7 @@ fn find_phrase(line: &[u8], start: usize) -> Found
         X display on\n\
         C cursor show\n\
         c cursor hide\n\
+        l clear line\n\
         # clear\n\
         0 labels empty\n\
         E light on\n\
@@ -287,7 +288,12 @@ fn find_phrase(line: &[u8], start: usize) -> Found
         B buzzer\n\
         n light\n\
         H at\n\
-        T times\n",
+        T times\n\
+        t contrast\n\
+        q ask contrast\n\
+        h ask hook\n\
+        V ask version\n\
+        Z inverse\n",
         line,
         start,
     )
@@ -340,7 +346,9 @@ fn tell_range(phrase: u8) {
         B buzzer is 0-255\n\
         n light is 0-255\n\
         H at is a row 0-4 and a column 0-15\n\
-        T times are 4-50 and 0 or 4-50\n",
+        T times are 4-50 and 0 or 4-50\n\
+        t contrast is 1-20\n\
+        Z inverse is 0-5\n",
         phrase,
     );
 }
@@ -361,6 +369,8 @@ fn wanted(phrase: u8) -> u8 {
         b'M' => 1,
         b'B' => 1,
         b'n' => 1,
+        b't' => 1,
+        b'Z' => 1,
         b'H' => 2,
         b'T' => 2,
         _ => 0,
@@ -396,6 +406,12 @@ fn command_of(phrase: u8, n: u16, m: u16) -> Command {
         b'M' => Command::Mute(n),
         b'B' => Command::Buzzer(n),
         b'n' => Command::Light(n),
+        b't' => Command::Contrast(n),
+        b'q' => Command::ContrastAsked,
+        b'h' => Command::HookAsked,
+        b'V' => Command::VersionAsked,
+        b'l' => Command::ClearLine,
+        b'Z' => Command::Inverse(n),
         b'H' => Command::Position(n, m),
         _ => Command::KeyTimes(n, m),
     }
@@ -491,7 +507,9 @@ fn usage(asked_by_line: bool) -> bool {
         mode N                    text mode 0 1 5 6 10, or overlay 11 to 18\n\
         cursor show | cursor hide\n\
         clear                     all text blank, cursor at 0 0\n\
+        clear line                blank from the cursor to the end of its row\n\
         at ROW COLUMN             the cursor: row 0-4, column 0-15\n\
+        inverse N                 the text row that is seen inverse, 1-5; 0 for none\n\
         left TEXT | right TEXT    a label: all behind one blank, at most 7 codes; no TEXT empties it\n\
         labels empty              both\n\
         icon LETTER N             S 0-1, U 0 1 255, F 0-6, R 0-1, P 0-19, W 0-3\n\
@@ -506,6 +524,8 @@ fn usage(asked_by_line: bool) -> bool {
         light auto keep           auto, its time as it is\n\
         light default             the duration 30 s\n\
         keypad on | keypad off\n\
+        contrast N                1-20\n\
+        ask contrast | ask hook | ask version\n\
         picture ROW COLUMNS       row 0-6; 1 to 96 columns, two digits 0-9 A-F each, blanks between them or not\n\
         text TEXT                 all behind one blank, as it is and in no frame; codes 0x20-0xFF\n\
         frame TEXT                a frame as it is typed, good, bad or out of range: ESC, all behind one blank, CR LF\n\

@@ -9,7 +9,7 @@ use Rattle.record.specs.Number.{paperNumber}
 use Rattle.picture.specs.Writing.{hexCode, itemText}
 use Rattle.command.specs.InRange.{commandInRange, mostRows}
 use Rattle.command.specs.declared.Command.{Command}
-use Rattle.command.specs.declared.Command.the-variants.{DisplayOn, Mode, Position, LabelsEmpty, IconU, IconP, HandsfreeOfNote, KeyTimes, Light, LightOn, KeypadSet}
+use Rattle.command.specs.declared.Command.the-variants.{DisplayOn, Mode, Position, LabelsEmpty, IconU, IconP, HandsfreeOfNote, KeyTimes, Light, LightOn, KeypadSet, Contrast, ContrastAsked, HookAsked, VersionAsked, ClearLine, Inverse}
 use Rattle.command.specs.declared.Side.{Side}
 use Rattle.command.specs.declared.Side.the-variants.{Left, Right}
 use Rattle.writer_ranges.specs.Fitting.{isLabel, isRow}
@@ -98,6 +98,20 @@ table =
     ∷ (commandIn 12 LightOn, done (ascii "IEE") 6)
     ∷ (commandIn 12 KeypadSet, done (ascii "IEe") 6)
     ∷ (commandIn 12 (HandsfreeOfNote 10), done (ascii "II10") 5)
+    -- the questions, and the shortest frame: exact room, and one less
+    ∷ (commandIn 5 ContrastAsked, done (ascii "IA") 0)
+    ∷ (commandIn 4 ContrastAsked, refused 3 4)
+    ∷ (commandIn 12 HookAsked, done (ascii "IH") 7)
+    ∷ (commandIn 12 VersionAsked, done (ascii "&V") 7)
+    -- contrast 1 to 20, the line cleared, marks 0 to 5
+    ∷ (commandIn 12 (Contrast 0), refused 2 12)
+    ∷ (commandIn 12 (Contrast 1), done (ascii "IA1") 6)
+    ∷ (commandIn 12 (Contrast 20), done (ascii "IA20") 5)
+    ∷ (commandIn 12 (Contrast 21), refused 2 12)
+    ∷ (commandIn 12 ClearLine, done (ascii "[K") 7)
+    ∷ (commandIn 12 (Inverse 0), done (ascii "IZ0") 6)
+    ∷ (commandIn 12 (Inverse 5), done (ascii "IZ5") 6)
+    ∷ (commandIn 12 (Inverse 6), refused 2 12)
     ∷ []
 
 pub cases : map (λ (c : List ℕ × List ℕ). c .0) table ≡ map (λ (c : List ℕ × List ℕ). c .1) table

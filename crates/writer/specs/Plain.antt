@@ -19,7 +19,7 @@ use Rattle.picture.specs.Data.{Digit, decimal, letter, Item, single, several, I
 use Rattle.picture.specs.Data as told
 use Rattle.command.specs.Order.{Order, plain, label, draw}
 use Rattle.command.specs.Grammar.{Piece, sign, number, digit, text, columns, Matches, end, signs, digits, one-digit, codes, data-of, form, Spells}
-use Rattle.command.specs.declared.Command.the-variants.{DisplayOff, DisplayOn, Mode, CursorShown, CursorHidden, Clear, Position, LabelsEmpty, IconS, IconU, IconF, IconR, IconP, IconW, Private, Handsfree, HandsfreeOfNote, Mute, KeyTimes, Buzzer, Light, LightOn, LightAutoStart, LightAuto, DefaultDuration, KeypadSet, KeypadCleared}
+use Rattle.command.specs.declared.Command.the-variants.{DisplayOff, DisplayOn, Mode, CursorShown, CursorHidden, Clear, Position, LabelsEmpty, IconS, IconU, IconF, IconR, IconP, IconW, Private, Handsfree, HandsfreeOfNote, Mute, KeyTimes, Buzzer, Light, LightOn, LightAutoStart, LightAuto, DefaultDuration, KeypadSet, KeypadCleared, Contrast, ContrastAsked, HookAsked, VersionAsked, ClearLine, Inverse}
 use Rattle.command.specs.declared.Side.the-variants.{Left, Right}
 
 -- codes that are neither ESC nor CR, and at most so many
@@ -138,6 +138,12 @@ form-plain (plain LightAuto) = (refl, omega arith)
 form-plain (plain DefaultDuration) = (refl, omega arith)
 form-plain (plain KeypadSet) = (refl, omega arith)
 form-plain (plain KeypadCleared) = (refl, omega arith)
+form-plain (plain (Contrast n)) = (refl, omega arith)
+form-plain (plain ContrastAsked) = (refl, omega arith)
+form-plain (plain HookAsked) = (refl, omega arith)
+form-plain (plain VersionAsked) = (refl, omega arith)
+form-plain (plain ClearLine) = (refl, omega arith)
+form-plain (plain (Inverse n)) = (refl, omega arith)
 form-plain (label Left t) = (refl, omega arith)
 form-plain (label Right t) = (refl, omega arith)
 form-plain (draw row cs) = (refl, omega arith)

@@ -22,7 +22,7 @@ use Rattle.command.specs.Order.{Order, plain, label, draw}
 use Rattle.command.specs.Grammar.{sign, number, text, Matches, end, signs, digits, one-digit, codes, data-of, Spells}
 use Rattle.command.specs.InRange.{isOverlay, isColumn, commandInRange, mostRows}
 use Rattle.command.specs.declared.Command.{Command}
-use Rattle.command.specs.declared.Command.the-variants.{DisplayOff, DisplayOn, Mode, CursorShown, CursorHidden, Clear, Position, LabelsEmpty, IconS, IconU, IconF, IconR, IconP, IconW, Private, Handsfree, HandsfreeOfNote, Mute, KeyTimes, Buzzer, Light, LightOn, LightAutoStart, LightAuto, DefaultDuration, KeypadSet, KeypadCleared}
+use Rattle.command.specs.declared.Command.the-variants.{DisplayOff, DisplayOn, Mode, CursorShown, CursorHidden, Clear, Position, LabelsEmpty, IconS, IconU, IconF, IconR, IconP, IconW, Private, Handsfree, HandsfreeOfNote, Mute, KeyTimes, Buzzer, Light, LightOn, LightAutoStart, LightAuto, DefaultDuration, KeypadSet, KeypadCleared, Contrast, ContrastAsked, HookAsked, VersionAsked, ClearLine, Inverse}
 use Rattle.command.specs.declared.Side.{Side}
 use Rattle.command.specs.declared.Side.the-variants.{Left, Right}
 use Rattle.writer_ranges.specs.Fitting.{isLabel, isRow}
@@ -140,6 +140,12 @@ spells LightAuto h = signs-alone (ascii "IES")
 spells DefaultDuration h = signs-alone (ascii "IER")
 spells KeypadSet h = signs-alone (ascii "IEe")
 spells KeypadCleared h = signs-alone (ascii "IEr")
+spells (Contrast n) h = signs-number (ascii "IA") n (at-most n 20 (omega arith) (both {a = leb 1 n} {b = leb n 20} h .1))
+spells ContrastAsked h = signs-alone (ascii "IA")
+spells HookAsked h = signs-alone (ascii "IH")
+spells VersionAsked h = signs-alone (ascii "&V")
+spells ClearLine h = signs-alone (ascii "[K")
+spells (Inverse n) h = signs-number (ascii "IZ") n (at-most n mostRows (omega arith) h)
 
 signs-text : (s t : List ℕ) → length t ≤ 7 → every isCode t ≡ true → Matches (sign s ∷ text t ∷ []) (s ++ t)
 signs-text s t l h = signs s (rw append-nil at (codes {t = t} l h end))

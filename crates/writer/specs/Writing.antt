@@ -12,7 +12,7 @@ use Rattle.numeral.specs.Spelt.{digitCode}
 use Rattle.numeral.specs.Numeral.{decimal}
 use Rattle.picture.specs.Writing.{encode}
 use Rattle.command.specs.declared.Command.{Command}
-use Rattle.command.specs.declared.Command.the-variants.{DisplayOff, DisplayOn, Mode, CursorShown, CursorHidden, Clear, Position, LabelsEmpty, IconS, IconU, IconF, IconR, IconP, IconW, Private, Handsfree, HandsfreeOfNote, Mute, KeyTimes, Buzzer, Light, LightOn, LightAutoStart, LightAuto, DefaultDuration, KeypadSet, KeypadCleared}
+use Rattle.command.specs.declared.Command.the-variants.{DisplayOff, DisplayOn, Mode, CursorShown, CursorHidden, Clear, Position, LabelsEmpty, IconS, IconU, IconF, IconR, IconP, IconW, Private, Handsfree, HandsfreeOfNote, Mute, KeyTimes, Buzzer, Light, LightOn, LightAutoStart, LightAuto, DefaultDuration, KeypadSet, KeypadCleared, Contrast, ContrastAsked, HookAsked, VersionAsked, ClearLine, Inverse}
 use Rattle.command.specs.declared.Side.{Side}
 use Rattle.command.specs.declared.Side.the-variants.{Left, Right}
 use Rattle.writer.specs.declared.Written.{Written}
@@ -47,6 +47,12 @@ bodyOf LightAuto = ascii "IES"
 bodyOf DefaultDuration = ascii "IER"
 bodyOf KeypadSet = ascii "IEe"
 bodyOf KeypadCleared = ascii "IEr"
+bodyOf (Contrast n) = ascii "IA" ++ decimal n
+bodyOf ContrastAsked = ascii "IA"
+bodyOf HookAsked = ascii "IH"
+bodyOf VersionAsked = ascii "&V"
+bodyOf ClearLine = ascii "[K"
+bodyOf (Inverse n) = ascii "IZ" ++ decimal n
 
 abbrev pub labelBody : Side → List ℕ → List ℕ
 labelBody Left codes = ascii "IK1" ++ codes

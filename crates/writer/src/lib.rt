@@ -28,7 +28,7 @@ const CARRIAGE_RETURN: u8 = 0x0D;
 
 const LINE_FEED: u8 = 0x0A;
 
-// A writer knows no text mode: it takes the cursor rows of the mode that has most.
+// A writer knows no text mode: it takes the cursor rows and marks of the mode that has most.
 const MOST_ROWS: u8 = 5;
 
 // How a writer ended, and how many bytes of the room it wrote.
@@ -124,6 +124,12 @@ fn plan_of(c: Command) -> Plan
         Command::DefaultDuration => Plan::ThreeSigns(b'I', b'E', b'R'),
         Command::KeypadSet => Plan::ThreeSigns(b'I', b'E', b'e'),
         Command::KeypadCleared => Plan::ThreeSigns(b'I', b'E', b'r'),
+        Command::Contrast(n) => Plan::Number(b'A', n),
+        Command::ContrastAsked => Plan::TwoSigns(b'I', b'A'),
+        Command::HookAsked => Plan::TwoSigns(b'I', b'H'),
+        Command::VersionAsked => Plan::TwoSigns(b'&', b'V'),
+        Command::ClearLine => Plan::TwoSigns(b'[', b'K'),
+        Command::Inverse(n) => Plan::Number(b'Z', n),
     }
 }
 

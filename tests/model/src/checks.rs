@@ -1,6 +1,7 @@
 //! The paper's own examples, and the settled points.
 
 use crate::cover;
+use crate::effect::LONGEST;
 use crate::grammar::{spelt, Command};
 use crate::record::*;
 use crate::script::{self, Answer, Call};
@@ -9,7 +10,7 @@ use crate::{generate, keys, property, ranges, stream, writers};
 
 /// Feeds a stream with room for all answers; gives the answers.
 fn feed(record: &mut Record, bytes: &[u8]) -> Vec<u8> {
-    let mut room = vec![0; bytes.len() + 1];
+    let mut room = vec![0; LONGEST * bytes.len()];
     let (number, used, written) = stream::call(record, bytes, &mut room);
     assert_eq!((number, used), (0, bytes.len()));
     room[..written].to_vec()
@@ -53,12 +54,13 @@ fn full() -> Record {
     let stream =
         b"\x1BID10\rlarge line\x1BID6\r\x1B[4;3H\rabcdefghijklmnop\x1B[2;15H\rz\x1BID13\r\x1B&C\r\
         \x1BIK1Keep\r\x1BIK2Leave\r\x1BIS1\r\x1BIU255\r\x1BIF4\r\x1BIR1\r\x1BIP17\r\x1BIW2\r\
-        \x1BIJ7\r\x1BIM1\r\x1BIT20;8\r\x1BIB77\r\x1BIE9\r\x1BIEA\r\x1BIEe\r\
+        \x1BIJ7\r\x1BIM1\r\x1BIT20;8\r\x1BIB77\r\x1BIE9\r\x1BIEA\r\x1BIEe\r\x1BIA7\r\x1BIZ5\r\
         \x1BGr0,c00dFFg331B2Cf00z\r\x1BGr6,1F0EFFz\r";
     assert_eq!(feed(&mut record, stream), b"");
     let mut room = [0; 4];
     let log = keys::call(&mut record, &[100, 300], &[0, 255], &mut room);
     assert_eq!(log, (0, 2, 1));
+    assert_eq!(script::hook(&mut record, false), 0);
     record
 }
 
@@ -258,8 +260,7 @@ fn modes_and_overlays() {
     }
     for body in [
         "ID", "IDe", "IDd", "ID0011", "ID00", "ID01", "ID005", "ID011", "ID1 ", "ID-1", "IDDE",
-        "IDD0", "IV4", "IA", "IA5", "IH", "IZ1", "IX", "&V", "[K", "&", "&CC", "[1H", "[1;2;3H",
-        "[;1H", "[1;H", "[1;2h", "",
+        "IDD0", "IV4", "IX", "&", "&CC", "[1H", "[1;2;3H", "[;1H", "[1;H", "[1;2h", "",
     ] {
         bad(&record, body);
     }
@@ -325,7 +326,7 @@ fn one_spelling_of_a_number() {
     for body in [
         "IP05", "IP005", "IP0001", "ID00", "IE000", "IE00", "IE030", "[03;5H", "[3;05H", "[00;0H",
         "[0;00H", "IT04;4", "IT4;04", "IT4;00", "IS00", "IU01", "IF06", "IR01", "IP020", "IW03",
-        "IL04", "IJ04", "II04", "IM01", "IB077", "IB0",
+        "IL04", "IJ04", "II04", "IM01", "IB077", "IB0", "IA05", "IA010", "IA00", "IZ01", "IZ00",
     ] {
         if body == "IB0" {
             obeyed(&full, body, |r| r.buzzer = 0);
@@ -353,7 +354,8 @@ fn one_spelling_of_a_number() {
     assert_eq!(values, (0..1000).collect::<Vec<u16>>());
     // Commands by their letters, though some have one effect.
     let all = [
-        "IL0", "IJ0", "II0", "IE30", "IER", "IP20", "IP21", "IK0", "IK1",
+        "IL0", "IJ0", "II0", "IE30", "IER", "IP20", "IP21", "IK0", "IK1", "IA", "IA0", "IA10",
+        "IZ0", "IZ1", "IZ6", "IH", "&V", "[K",
     ];
     for (place, one) in all.iter().enumerate() {
         for other in &all[..place] {
@@ -533,6 +535,241 @@ fn the_large_line() {
 }
 
 #[test]
+fn contrast() {
+    assert_eq!(power_on().contrast, 10);
+    assert_eq!(former_power_on().contrast, 10);
+    let record = full();
+    for number in 1..=20 {
+        let set = obeyed(&record, &format!("IA{number}"), |r| r.contrast = number);
+        let mut asked = set.clone();
+        let said = feed(&mut asked, b"\x1BIA\r\n");
+        assert_eq!(said, format!("\x1BIA{number}\r").into_bytes());
+        assert_eq!(asked, set);
+    }
+    for number in [0, 21, 22, 99, 100, 255, 256, 257, 266, 999] {
+        silent(&record, &format!("IA{number}"));
+    }
+    // The note's own example.
+    assert_eq!(
+        feed(&mut power_on(), b"\x1BIA\r\n"),
+        [0x1B, 0x49, 0x41, 0x31, 0x30, 0x0D]
+    );
+}
+
+#[test]
+fn hook() {
+    assert!(power_on().hook && former_power_on().hook);
+    let mut record = power_on();
+    assert_eq!(feed(&mut record, b"\x1BIH\r\n"), b"\x1BIHH\r");
+    assert_eq!(script::hook(&mut record, false), 0);
+    assert_eq!(feed(&mut record, b"\x1BIH\r\n"), b"\x1BIHh\r");
+    assert_eq!(feed(&mut record, b"\x1BIHH\r\x1BIHh\r"), b"??");
+    assert_eq!(feed(&mut record, b"\x1BIH\r"), b"\x1BIHh\r");
+    assert_eq!(script::hook(&mut record, true), 0);
+    assert_eq!(record, power_on());
+    // An open frame lets the switch be, and the switch the frame.
+    feed(&mut record, b"\x1BI");
+    let mut open = record.clone();
+    assert_eq!(script::hook(&mut open, false), 0);
+    record.hook = false;
+    assert_eq!(open, record);
+    assert_eq!(feed(&mut open, b"H\r"), b"\x1BIHh\r");
+    // Neither overlay nor display off is in the way.
+    let mut record = full();
+    assert_eq!(record.overlay, 13);
+    frame(&mut record, "IDD");
+    assert_eq!(feed(&mut record, b"\x1BIH\r"), b"\x1BIHh\r");
+}
+
+#[test]
+fn version() {
+    let mut record = full();
+    let before = record.clone();
+    let said = feed(&mut record, b"\x1B&V\r\n");
+    assert_eq!(said, b"\x1B&VHA209 V.01.01 11.07.2006\r\n");
+    assert_eq!((said.len(), LONGEST), (29, 29));
+    assert_eq!(record, before);
+    // What the handset says is no question when it comes back.
+    assert_eq!(feed(&mut record, &said), b"?");
+    assert_eq!(feed(&mut record, b"\x1BIA20\r\x1BIA\r"), b"\x1BIA20\r");
+    assert_eq!(record.contrast, 20);
+}
+
+#[test]
+fn cleared_lines() {
+    let mut record = power_on();
+    feed(&mut record, b"0123456789abcdef\x1B[1;0H\r0123456789abcdef");
+    // At column 16 nothing; the position stays.
+    assert_eq!((record.row, record.column), (1, 16));
+    obeyed(&record, "[K", |_| ());
+    frame(&mut record, "[1;3H");
+    let mut cleared = obeyed(&record, "[K", |r| r.text[19..32].fill(0x20));
+    assert_eq!(&cleared.text[..32], b"0123456789abcdef012             ");
+    feed(&mut cleared, b"x");
+    assert_eq!(&cleared.text[16..21], b"012x ");
+    // The note's example: from the start of a line all of it.
+    frame(&mut record, "[0;0H");
+    obeyed(&record, "[K", |r| r.text[..16].fill(0x20));
+    frame(&mut record, "[0;15H");
+    obeyed(&record, "[K", |r| r.text[15] = 0x20);
+    // Under an overlay and with the display off too.
+    feed(&mut record, b"\x1BID13\r\x1BIDD\r");
+    obeyed(&record, "[K", |r| r.text[15] = 0x20);
+    // Mode 10: the large line from the column on; no text row.
+    let mut large = record.clone();
+    feed(&mut large, b"\x1BID10\r0123456789abcdefghijklmn");
+    obeyed(&large, "[K", |_| ());
+    large.column = 23;
+    obeyed(&large, "[K", |r| r.line[23] = 0x20);
+    large.column = 16;
+    obeyed(&large, "[K", |r| r.line[16..].fill(0x20));
+    frame(&mut large, "ID10");
+    obeyed(&large, "[K", |r| r.line.fill(0x20));
+    let mut text = large.clone();
+    frame(&mut text, "ID0");
+    obeyed(&text, "[K", |r| r.text[..16].fill(0x20));
+}
+
+#[test]
+fn inverse_text() {
+    let record = power_on();
+    assert_eq!(record.marks, [false; 5]);
+    let marked = |row: usize| std::array::from_fn(|k| k == row);
+    // The note's example: line 1 is row 0.
+    let mut first = record.clone();
+    feed(&mut first, b"\x1B&#\r\nHello\r\n\x1BIZ1\r\n");
+    assert_eq!(first.marks, [true, false, false, false, false]);
+    for number in 1..=4 {
+        let one = obeyed(&first, &format!("IZ{number}"), |r| {
+            r.marks = marked(number - 1)
+        });
+        obeyed(&one, "IZ0", |r| r.marks = [false; 5]);
+        obeyed(&one, "IZ2", |r| r.marks = marked(1));
+    }
+    for body in ["IZ5", "IZ6", "IZ9", "IZ10", "IZ255", "IZ256", "IZ999"] {
+        silent(&first, body);
+    }
+    let mut five = first.clone();
+    frame(&mut five, "ID5");
+    assert_eq!(five.marks, first.marks);
+    silent(&five, "IZ6");
+    let mut five = obeyed(&five, "IZ5", |r| r.marks = marked(4));
+    let row = |record: &Record, row: u8| match seen::row(record, row, Phase::Lit) {
+        (0, Owner::Text { row, mark, .. }) => Some((row, mark)),
+        _ => None,
+    };
+    let column = |record: &Record, row: u8, column: u8| {
+        let (_, there) = seen::column(record, row, column, Phase::Lit);
+        script::cell(&there)
+    };
+    assert_eq!(row(&five, 4), Some((4, true)));
+    assert_eq!(row(&five, 3), Some((3, false)));
+    assert_eq!(column(&five, 4, 95), Some([2, 4, 0x20, 1]));
+    assert_eq!(column(&five, 3, 95), Some([2, 3, 0x20, 0]));
+    // A mark on row 4 stays through ID0, and is not seen there.
+    frame(&mut five, "ID0");
+    assert_eq!(five.marks, marked(4));
+    for display_row in 1..5 {
+        assert_eq!(row(&five, display_row), Some((display_row - 1, false)));
+    }
+    let back = obeyed(&five, "ID6", |r| r.mode = 6);
+    assert_eq!(row(&back, 4), Some((4, true)));
+    // Clearing leaves marks.
+    obeyed(&back, "&#", |r| r.text.fill(0x20));
+    obeyed(&back, "[K", |r| r.text[..16].fill(0x20));
+    // Row k of the display shows text row k - 1 in mode 0, k in mode 5.
+    assert_eq!(row(&first, 1), Some((0, true)));
+    assert_eq!(row(&first, 2), Some((1, false)));
+    assert_eq!(column(&first, 1, 0), Some([2, 0, b'H', 1]));
+    let over = obeyed(&first, "ID17", |r| r.overlay = 17);
+    assert_eq!(row(&over, 1), Some((0, true)));
+    assert_eq!(column(&over, 3, 0), Some([3, 3, 0, 0]));
+    let under = obeyed(&over, "IZ4", |r| r.marks = marked(3));
+    obeyed(&under, "IZ0", |r| r.marks = [false; 5]);
+    // Mode 10 names no row, and lets marks be.
+    let mut large = first.clone();
+    feed(&mut large, b"\x1BID10\r12345678901");
+    assert_eq!(large.marks, first.marks);
+    for body in ["IZ1", "IZ2", "IZ4", "IZ5", "IZ6"] {
+        silent(&large, body);
+    }
+    for (row, cell) in [(1, [4, 0, b'1', 0]), (2, [5, 0, b'4', 0])] {
+        assert_eq!(column(&large, row, 0), Some(cell));
+    }
+    obeyed(&large, "IZ0", |r| r.marks = [false; 5]);
+}
+
+#[test]
+fn forms_close_to_the_questions() {
+    let record = full();
+    for body in generate::DAMAGED {
+        bad(&record, body);
+    }
+    for mode in generate::MODES {
+        let mut record = record.clone();
+        (record.mode, record.row, record.column) = (mode, 0, 0);
+        for body in generate::PASSED_OVER {
+            silent(&record, body);
+        }
+    }
+}
+
+#[test]
+fn stop_for_whole_answers() {
+    let go = |record: &Record, bytes: &[u8], room: usize| {
+        let mut record = record.clone();
+        let mut answers = vec![7; room];
+        let (number, used, written) = stream::call(&mut record, bytes, &mut answers);
+        assert_eq!(number, 0);
+        assert!(answers[written..].iter().all(|&byte| byte == 7));
+        answers.truncate(written);
+        (used, answers, record)
+    };
+    let start = power_on();
+    // One byte short: the CR is not used, and no half answer is written.
+    let (used, said, record) = go(&start, b"a\x1BIA\rb", 5);
+    assert_eq!((used, &said[..]), (4, &b""[..]));
+    assert_eq!((record.frame.state, record.frame.length), (1, 2));
+    assert_eq!(&record.text[..2], b"a ");
+    let (used, said, record) = go(&record, b"\rb", 6);
+    assert_eq!((used, &said[..]), (2, &b"\x1BIA10\r"[..]));
+    assert_eq!(&record.text[..2], b"ab");
+    // A shorter answer that comes later is not given first.
+    let (used, said, _) = go(&start, b"\x1B&V\r\x1BQ\r\x1BIH\r", 28);
+    assert_eq!((used, &said[..]), (3, &b""[..]));
+    let (used, said, _) = go(&start, b"\x1B&V\r\x1BQ\r\x1BIH\r", 34);
+    assert_eq!((used, said.len()), (10, 30));
+    let (used, said, _) = go(&start, b"\x1B&V\r\x1BQ\r\x1BIH\r", 35);
+    assert_eq!((used, said.len()), (11, 35));
+    // A question mark takes one byte of the room that is left.
+    let (used, said, _) = go(&start, b"\x1BIH\r\x1BIA\x1B\r", 5);
+    assert_eq!((used, said.len()), (7, 5));
+    let (used, said, _) = go(&start, b"\x1BIH\r\x1BIA\x1B\r", 6);
+    assert_eq!((used, &said[..]), (8, &b"\x1BIHH\r?"[..]));
+    // What stands before a question in the stream is told: 9 is one byte.
+    let (used, said, record) = go(&start, b"\x1BIA9\r\x1BIA\r", 5);
+    assert_eq!((used, &said[..]), (9, &b"\x1BIA9\r"[..]));
+    assert_eq!(record.contrast, 9);
+    let (used, said, record) = go(&start, b"\x1BIA20\r\x1BIA\r", 5);
+    assert_eq!((used, said.len(), record.contrast), (9, 0, 20));
+    // A question that waits is answered as things are then.
+    let (_, _, mut record) = go(&start, b"\x1BIH\r", 4);
+    assert_eq!(script::hook(&mut record, false), 0);
+    assert_eq!(go(&record, b"\r", 5).1, b"\x1BIHh\r");
+    let (_, _, record) = go(&start, b"\x1BIA\r", 5);
+    assert_eq!(go(&record, b"5\r\x1BIA\r", 5).1, b"\x1BIA5\r");
+    assert_eq!(go(&record, b"\x1BIH\r", 6).1, b"?\x1BIHH\r");
+    // Frames that are obeyed or passed over need no room.
+    let (used, said, record) = go(&start, b"\x1BIA3\r\x1BIZ2\r\x1B[K\r\x1BIA0\r", 0);
+    assert_eq!((used, said.len()), (19, 0));
+    assert_eq!((record.contrast, record.marks[1]), (3, true));
+    // The list screen counts answers, not bytes.
+    let listing = seen::listing(b"\x1B&V\r\x1BIA\r\x1BQ\r\x1BIH\r\x1BIA5\r");
+    assert!(listing.starts_with("REPLIES 4\nMODE 0 "));
+    assert_eq!(listing.lines().count(), 12);
+}
+
+#[test]
 fn stop_for_room() {
     let go = |frame_before: &[u8], bytes: &[u8], room: usize| {
         let mut record = power_on();
@@ -694,7 +931,15 @@ fn ranges_of_the_record() {
     feed(&mut open, b"\x1BIP");
     let mut large = power_on();
     frame(&mut large, "ID10");
-    let wrong: [(&Record, u16, usize, u16); 54] = [
+    let wrong: [(&Record, u16, usize, u16); 62] = [
+        (&empty, 37, 0, 0),
+        (&empty, 37, 0, 21),
+        (&record, 37, 0, 255),
+        (&large, 37, 0, 256),
+        (&record, 39, 0, 1),
+        (&record, 39, 1, 1),
+        (&record, 39, 2, 256),
+        (&record, 39, 3, 65_535),
         (&empty, 1, 0, 2),
         (&empty, 1, 0, 9),
         (&empty, 1, 0, 11),
@@ -771,7 +1016,20 @@ fn ranges_of_the_record() {
     let mut overlong = open.clone();
     overlong.frame.state = 2;
     refused(&overlong);
-    let right: [(&Record, u16, usize, u16); 18] = [
+    let right: [(&Record, u16, usize, u16); 31] = [
+        (&empty, 37, 0, 1),
+        (&empty, 37, 0, 20),
+        (&record, 37, 0, 256 + 20),
+        (&empty, 38, 0, 0),
+        (&record, 38, 0, 1),
+        (&record, 38, 0, 256),
+        (&record, 39, 4, 0),
+        (&record, 39, 4, 2),
+        (&empty, 39, 0, 1),
+        (&empty, 39, 3, 255),
+        (&empty, 39, 4, 1),
+        (&large, 39, 0, 1),
+        (&large, 39, 4, 1),
         (&empty, 5, 0, 16),
         (&empty, 1, 0, 10),
         (&empty, 2, 0, 14),
@@ -810,6 +1068,9 @@ fn refused(record: &Record) {
     ];
     assert_eq!(calls, [(1, 0, 0); 4]);
     assert_eq!(script::second(&mut after), 1);
+    for on in [true, false] {
+        assert_eq!(script::hook(&mut after, on), 1);
+    }
     for phase in PHASES {
         assert_eq!(seen::row(&after, 0, phase), (1, Owner::Nothing));
         assert_eq!(seen::row(&after, 7, phase), (1, Owner::Nothing));
@@ -948,7 +1209,9 @@ fn columns_of_the_display() {
     let at = |record: &Record, row: u8, column: u8| {
         let (number, there) = seen::column(record, row, column, Phase::Lit);
         assert_eq!(number, 0);
-        script::cell(&there).unwrap_or([0; 3])
+        let [owner, place, value, mark] = script::cell(&there).unwrap_or([0; 4]);
+        assert_eq!(mark, 0);
+        [owner, place, value]
     };
     // Soft keys: labels of 4 and 5 codes, empty cells, and the rocker.
     for (column, wanted) in [
@@ -1087,6 +1350,18 @@ fn writers_write() {
         (24, 0, 0, "IER"),
         (25, 0, 0, "IEe"),
         (26, 0, 0, "IEr"),
+        (27, 1, 0, "IA1"),
+        (27, 9, 0, "IA9"),
+        (27, 20, 7, "IA20"),
+        (28, 0, 0, "IA"),
+        (28, 5, 9, "IA"),
+        (29, 0, 0, "IH"),
+        (30, 0, 0, "&V"),
+        (31, 0, 0, "[K"),
+        (31, 65_535, 0, "[K"),
+        (32, 0, 0, "IZ0"),
+        (32, 1, 0, "IZ1"),
+        (32, 5, 0, "IZ5"),
     ] {
         let length = text.len() + 3;
         assert_eq!(write(command, a, b, 40), wrote(text));
@@ -1107,6 +1382,11 @@ fn writers_write() {
         (19, 256, 0),
         (20, 256, 0),
         (20, 65_535, 0),
+        (27, 0, 0),
+        (27, 21, 0),
+        (27, 266, 0),
+        (32, 6, 0),
+        (32, 256, 0),
     ] {
         assert_eq!(write(command, a, b, 40), none(2));
         assert_eq!(write(command, a, b, 0), none(2));
@@ -1152,7 +1432,7 @@ fn script_lines() {
     assert_eq!(ask("Q 0700"), "Q 04\n");
     assert_eq!(
         ask("Q 0200"),
-        format!("Q 00\nrow 0201\ncells {}\n", "20".repeat(16))
+        format!("Q 00\nrow 020100\ncells {}\n", "20".repeat(16))
     );
     assert_eq!(ask("M 00"), "M 0000\n");
     assert_eq!(ask("M 01"), "M 0000\n");
@@ -1166,10 +1446,10 @@ fn script_lines() {
     assert_eq!(ask("V"), "V 000000\n");
     assert_eq!(ask("U 000000"), "U 00\nicon bar 000000000000\n");
     assert_eq!(ask("U 005F01"), "U 00\nicon bar 000000000000\n");
-    assert_eq!(ask("U 020B00"), "U 00\ncell 020120\n");
-    assert_eq!(ask("U 050001"), "U 00\ncell 060000\n");
-    assert_eq!(ask("U 052A00"), "U 00\ncell 070000\n");
-    assert_eq!(ask("U 055F00"), "U 00\ncell 080600\n");
+    assert_eq!(ask("U 020B00"), "U 00\ncell 02012000\n");
+    assert_eq!(ask("U 050001"), "U 00\ncell 06000000\n");
+    assert_eq!(ask("U 052A00"), "U 00\ncell 07000000\n");
+    assert_eq!(ask("U 055F00"), "U 00\ncell 08060000\n");
     assert_eq!(ask("U 065F00"), "U 00\n");
     assert_eq!(ask("U 066000"), "U 04\n");
     assert_eq!(ask("U 070001"), "U 04\n");
@@ -1178,14 +1458,14 @@ fn script_lines() {
     let blanks = "20".repeat(14);
     assert_eq!(
         ask("Q 0100"),
-        format!("Q 00\nrow 0400\ncells 3031{blanks}\n")
+        format!("Q 00\nrow 040000\ncells 3031{blanks}\n")
     );
-    assert_eq!(ask("Q 0200"), "Q 00\nrow 0500\ncells 3233343536373839\n");
-    assert_eq!(ask("Q 0301"), "Q 00\nrow 0501\ncells 3233343536373839\n");
+    assert_eq!(ask("Q 0200"), "Q 00\nrow 050000\ncells 3233343536373839\n");
+    assert_eq!(ask("Q 0301"), "Q 00\nrow 050100\ncells 3233343536373839\n");
     assert_eq!(ask("Q 0400"), "Q 00\n");
-    assert_eq!(ask("U 010600"), "U 00\ncell 040031\n");
-    assert_eq!(ask("U 020B00"), "U 00\ncell 050032\n");
-    assert_eq!(ask("U 030C01"), "U 00\ncell 050133\n");
+    assert_eq!(ask("U 010600"), "U 00\ncell 04003100\n");
+    assert_eq!(ask("U 020B00"), "U 00\ncell 05003200\n");
+    assert_eq!(ask("U 030C01"), "U 00\ncell 05013300\n");
     assert_eq!(ask("U 040000"), "U 00\n");
     let answer = ask("S 240017017E");
     let blanks = "20".repeat(13);
@@ -1194,7 +1474,7 @@ fn script_lines() {
     assert!(answer.contains(&line));
     assert_eq!(
         ask("Q 0200"),
-        format!("Q 00\nrow 0500\ncells {}7E\n", "20".repeat(7))
+        format!("Q 00\nrow 050000\ncells {}7E\n", "20".repeat(7))
     );
     // A picture and the rocker.
     ask("S 0200000012");
@@ -1203,12 +1483,12 @@ fn script_lines() {
     ask("S 1100000003");
     assert_eq!(
         ask("Q 0500"),
-        format!("Q 00\nrow 0605\ncells FF{}\nrocker 03\n", "00".repeat(95))
+        format!("Q 00\nrow 060500\ncells FF{}\nrocker 03\n", "00".repeat(95))
     );
-    assert_eq!(ask("U 050000"), "U 00\ncell 0305FF\n");
-    assert_eq!(ask("U 052901"), "U 00\ncell 030500\n");
-    assert_eq!(ask("U 052A01"), "U 00\ncell 070003\n");
-    assert_eq!(ask("U 053500"), "U 00\ncell 070003\n");
+    assert_eq!(ask("U 050000"), "U 00\ncell 0305FF00\n");
+    assert_eq!(ask("U 052901"), "U 00\ncell 03050000\n");
+    assert_eq!(ask("U 052A01"), "U 00\ncell 07000300\n");
+    assert_eq!(ask("U 053500"), "U 00\ncell 07000300\n");
     ask("S 2400000000");
     assert_eq!(ask("R"), "R 00\n");
     assert_eq!(ask("U 070000"), "U 01\n");
@@ -1235,6 +1515,7 @@ fn script_lines() {
         "right 00000000000000",
         "icons 0000000000000000000000",
         "backlight 001E0000",
+        "switches 0A010000000000",
         "keys 00000000000C00",
         "frame 0101",
         &format!("bytes 51{}", "00".repeat(249)),
@@ -1258,7 +1539,61 @@ fn script_lines() {
     assert_eq!(now[1..].replace("0C00\n", "0C0C\n"), former[1..]);
     assert_eq!(now[..1], *"P");
     assert_eq!(former[..2], *"O ");
-    assert_eq!(former.lines().count(), 13);
+    assert_eq!(former.lines().count(), 14);
+    // Contrast, hook switch and marks.
+    ask("P");
+    let switched = "\nbacklight 001E0000\nswitches";
+    assert!(ask("S 2500000114").contains(&format!("{switched} 14010000000000\nkeys ")));
+    assert!(ask("S 2600000000").contains(&format!("{switched} 14000000000000\n")));
+    assert!(ask("S 2700030100").contains(&format!("{switched} 14000000000100\n")));
+    assert_eq!(
+        ask("Q 0400"),
+        format!("Q 00\nrow 020301\ncells {}\n", "20".repeat(16))
+    );
+    assert_eq!(ask("U 045F00"), "U 00\ncell 02032001\n");
+    assert_eq!(ask("U 035F00"), "U 00\ncell 02022000\n");
+    assert_eq!(ask("B"), "B 00\nbacklight 001E0000\n");
+    // The hook call: any byte but 0 is on-hook.
+    for (line, on) in [("H 01", 1), ("H 00", 0), ("H fF", 1), ("H 02", 1)] {
+        let answer = ask(line);
+        assert!(answer.starts_with("H 00\nscreen 010000000000\nlabels"));
+        assert!(answer.contains(&format!("{switched} 140{on}0000000100\n")));
+        assert_eq!(answer.lines().count(), 14);
+    }
+    // Answers of several bytes, and what is lent behind them.
+    let answer = ask("F 00081B49410D1B49480D");
+    assert!(answer.starts_with("F 0000070006\nbuffer 1B494132300D2D34\nscreen 01"));
+    assert!(answer.contains("\nframe 0102\nbytes 494800"));
+    ask("H 00");
+    assert!(ask("F 00050D").starts_with("F 0000010005\nbuffer 1B4948680D\n"));
+    let version = "1B2656484132303920562E30312E30312031312E30372E323030360D0A";
+    assert!(ask("F 001D1B26560D").starts_with(&format!("F 000004001D\nbuffer {version}\n")));
+    assert!(ask("F 001C1B26560D").starts_with("F 0000030000\nbuffer 030A11181F26"));
+    // Two marks, and a contrast of 0.
+    assert!(ask("S 2700040001").contains(&format!("{switched} 14000000000101\n")));
+    assert_eq!(ask("R"), "R 00\n");
+    let refused = ask("H 01");
+    assert!(refused.starts_with("H 01\nscreen 01"));
+    assert!(refused.contains(&format!("{switched} 14000000000101\n")));
+    ask("S 2700040000");
+    assert_eq!(ask("R"), "R 01\n");
+    assert!(ask("S 2500000100").contains(&format!("{switched} 00000000000100\n")));
+    assert_eq!(ask("R"), "R 00\n");
+    for (line, wanted) in [
+        (
+            "W 00081B00140000",
+            "W 0000000007\nbuffer 1B494132300D0A34\n",
+        ),
+        ("W 00001B00150000", "W 0200000000\nbuffer\n"),
+        ("W 00061CFFFFFFFF", "W 0000000005\nbuffer 1B49410D0A26\n"),
+        ("W 00051D00000000", "W 0000000005\nbuffer 1B49480D0A\n"),
+        ("W 00041E00000000", "W 0300000000\nbuffer 030A1118\n"),
+        ("W 00051F00000000", "W 0000000005\nbuffer 1B5B4B0D0A\n"),
+        ("W 00062000050000", "W 0000000006\nbuffer 1B495A350D0A\n"),
+        ("W 00062000060000", "W 0200000000\nbuffer 030A11181F26\n"),
+    ] {
+        assert_eq!(ask(line), wanted, "{line}");
+    }
     let held = "K 000400030000007800F000FFFF";
     ask("O ");
     assert!(ask(held).starts_with("K 0000030002\nbuffer CCEC1118\n"));
@@ -1283,7 +1618,10 @@ fn script_lines() {
         ("U 0460", "01", 1),
         ("S 230000", "00", 2),
         ("S 240017", "00", 2),
-        ("W 00001A0000", "00", 2),
+        ("S 270004", "00", 2),
+        ("W 0000200000", "00", 2),
+        ("H ", "00", 1),
+        ("H ", "FF", 1),
     ] {
         assert_ne!(ask(&full(head, byte, most)), "what\n", "{head}");
     }
@@ -1318,8 +1656,18 @@ fn script_lines() {
         "F +001",
         "K 000100",
         "K 0001000100",
-        "S 2500000000",
+        "S 2800000000",
         "S 2400180020",
+        "S 2500010001",
+        "S 2600010001",
+        "S 2700050001",
+        "H",
+        "H ",
+        "H 0",
+        "H 0000",
+        "H 000000",
+        "H0",
+        "h 00",
         "S 0100010000",
         "S 0600500000",
         "S 01000000",
@@ -1341,7 +1689,7 @@ fn script_lines() {
         "U 000002",
         "U 0760FF",
         "U 00000000",
-        "W 00011B00000000",
+        "W 00012100000000",
         "W 000100000000",
         "W 0001000000000000",
         "T 0001",
@@ -1365,7 +1713,9 @@ fn lines_of_calls_read_back() {
 
 #[test]
 fn kinds_are_kept() {
-    for kinds in ["F", "PSRF", "O", "OK", "K", "W", "TG", "QUMV", "CB"] {
+    for kinds in [
+        "F", "PSRF", "O", "OK", "K", "W", "TG", "QUMV", "CB", "H", "FH", "SH",
+    ] {
         let calls = generate::calls(5, 300, kinds);
         assert_eq!(calls.len(), 300);
         for (call, _, _) in calls {
@@ -1399,7 +1749,7 @@ fn unused_bytes_come_first() {
 
 #[test]
 fn scripts_reach_everything() {
-    let cover = cover::over(0..60, 2000);
+    let cover = cover::over(0..80, 2000);
     let missing: Vec<String> = cover::wanted()
         .into_iter()
         .filter(|name| cover.count(name) == 0)
@@ -1409,7 +1759,11 @@ fn scripts_reach_everything() {
 
 #[test]
 fn model_agrees_with_itself() {
-    property::commands_read_back().unwrap();
+    for (name, check) in property::ONCE {
+        if let Err(why) = check() {
+            panic!("{name}: {why}");
+        }
+    }
     for (name, check) in property::CHECKS {
         for seed in 0..60 {
             if let Err(why) = check(seed) {

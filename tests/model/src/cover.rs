@@ -2,8 +2,11 @@
 
 use std::collections::BTreeMap;
 
-use crate::generate::{distance, number_commands, BORDERS, MODES, OVERLAYS, REFUSABLE};
-use crate::grammar::{count_of_numbers, spelt, Command, SHAPES};
+use crate::effect::LONGEST;
+use crate::generate::{
+    distance, number_commands, BORDERS, DAMAGED, MODES, OVERLAYS, PASSED_OVER, REFUSABLE,
+};
+use crate::grammar::{count_of_numbers, spelt, Command, Spelt, QUESTIONS, SHAPES};
 use crate::keys::{self, KEYS};
 use crate::ranges::faults;
 use crate::record::*;
@@ -59,6 +62,7 @@ pub fn wanted() -> Vec<String> {
         ('F', &[0, 1][..]),
         ('K', &[0, 1, 4, 5]),
         ('C', &[0, 1]),
+        ('H', &[0, 1]),
         ('B', &[0, 1]),
         ('Q', &[0, 1, 4]),
         ('U', &[0, 1, 4]),
@@ -73,7 +77,7 @@ pub fn wanted() -> Vec<String> {
     }
     for field in REFUSABLE {
         let name = FIELD_NAMES[usize::from(field)];
-        for letter in ['R', 'F', 'K', 'C', 'Q', 'U', 'M', 'V'] {
+        for letter in ['R', 'F', 'K', 'C', 'H', 'Q', 'U', 'M', 'V'] {
             names.push(format!("refused {letter} for {name} alone"));
         }
     }
@@ -109,6 +113,8 @@ pub fn wanted() -> Vec<String> {
     }
     names.extend(wanted_columns());
     names.extend(wanted_large());
+    names.extend(wanted_questions());
+    names.extend(wanted_marks());
     for power in ["power-on", "former power-on"] {
         for before in ["from itself", "from the other", "in range", "out of range"] {
             names.push(format!("{power} {before}"));
@@ -304,12 +310,224 @@ fn wanted_large() -> Vec<String> {
     ] {
         names.push(name.to_string());
     }
-    for field in [1, 6, 8, 10, 11, 31, 35, 36] {
+    for field in [1, 6, 8, 10, 11, 31, 35, 36, 37, 38, 39] {
         let name = FIELD_NAMES[field];
         names.push(format!("line S one place behind {name}"));
     }
     names.push(format!("line S with field {FIELDS}"));
     names
+}
+
+/// The questions, the contrast and the hook switch.
+fn wanted_questions() -> Vec<String> {
+    let mut names = vec![];
+    // The bytes of each answer, and the room left for it.
+    for (question, length) in [
+        ("AskContrast", 5),
+        ("AskContrast", 6),
+        ("AskHook", 5),
+        ("AskVersion", LONGEST),
+    ] {
+        for left in 0..length {
+            names.push(format!("{question} of {length} stopped with {left} left"));
+        }
+        for left in length..length + 2 {
+            names.push(format!("{question} of {length} answered with {left} left"));
+        }
+        names.push(format!("{question} of {length} stopped at once"));
+        names.push(format!("{question} of {length} stopped behind an answer"));
+        names.push(format!("{question} of {length} answered behind an answer"));
+        names.push(format!("{question} of {length} open before, answered"));
+        names.push(format!("{question} of {length} open before, stopped"));
+    }
+    for question in QUESTIONS {
+        for mode in MODES {
+            names.push(format!("{question:?} answered in mode {mode}"));
+        }
+        for overlay in OVERLAYS {
+            names.push(format!("{question:?} answered under overlay {overlay}"));
+        }
+        names.push(format!("{question:?} answered with the display off"));
+        names.push(format!("{question:?} answered with a key held"));
+        names.push(format!("{question:?} abandoned"));
+        names.push(format!("{question:?} left open"));
+        names.push(format!("{question:?} open before, spoilt"));
+    }
+    for contrast in 1..=20 {
+        names.push(format!("contrast {contrast} told"));
+        names.push(format!("IA{contrast} obeyed"));
+        names.push(format!("IA{contrast} written"));
+    }
+    for number in [0, 21] {
+        names.push(format!("IA{number} not written"));
+        names.push(format!("contrast {number} refused"));
+    }
+    for value in [0, 1, 20, 21, 255] {
+        names.push(format!("contrast set to {value}"));
+    }
+    for form in DAMAGED {
+        names.push(format!("bad frame {form:?}"));
+    }
+    for form in PASSED_OVER {
+        names.push(format!("frame {form:?} passed over"));
+    }
+    for on in ["on-hook", "off-hook"] {
+        names.push(format!("{on} told"));
+        for before in ["on-hook", "off-hook"] {
+            names.push(format!("hook call to {on} from {before}"));
+        }
+        names.push(format!("hook field set to {on}"));
+        names.push(format!("hook call to {on} while AskHook waits"));
+    }
+    for on in [0, 1, 2, 128, 255] {
+        names.push(format!("hook call {on}"));
+    }
+    for name in [
+        "contrast set to 256 or more",
+        "hook call with a frame open",
+        "hook call with a frame overlong",
+        "hook call with a key held",
+        "hook field set to 2 or more",
+        "line H with 0 bytes",
+        "line H with 2 bytes",
+        "line H with 3 bytes",
+        "line W with command 33",
+        "three answers of several bytes in one call",
+        "a question mark behind a long answer",
+        "stop at ESC behind a long answer",
+        "more than 255 bytes of answers in one call",
+        "stop with room 300",
+    ] {
+        names.push(name.to_string());
+    }
+    names
+}
+
+/// The marks, and the clearing of a line.
+fn wanted_marks() -> Vec<String> {
+    let mut names = vec![];
+    for mode in MODES {
+        let most = match mode {
+            0 | 1 => 4,
+            5 | 6 => 5,
+            _ => 0,
+        };
+        for number in 0..=6 {
+            let how = if number <= most {
+                "obeyed"
+            } else {
+                "passed over"
+            };
+            names.push(format!("IZ{number} {how} in mode {mode}"));
+        }
+        let (rows, end) = match mode {
+            0 | 1 => (4, CODES),
+            5 | 6 => (5, CODES),
+            _ => (1, LINE),
+        };
+        for column in 0..=end {
+            names.push(format!("[K at column {column} in mode {mode}"));
+        }
+        for column in 0..end {
+            names.push(format!("[K blanks from column {column} in mode {mode}"));
+        }
+        for row in 0..rows {
+            names.push(format!("[K in row {row} in mode {mode}"));
+        }
+        names.push(format!("[K in mode {mode} with a mark"));
+        names.push(format!("&# in mode {mode} with a mark"));
+        names.push(format!("ID{mode} obeyed with a mark"));
+        names.push(format!("[K of blanks in mode {mode}"));
+        names.push(format!("[K with the display off in mode {mode}"));
+    }
+    for overlay in OVERLAYS {
+        names.push(format!("[K under overlay {overlay}"));
+        names.push(format!("IZ under overlay {overlay}"));
+    }
+    // Every place where a text row is seen, with its mark.
+    for (mode, overlay) in MODES
+        .into_iter()
+        .flat_map(|mode| OVERLAYS.map(|overlay| (mode, overlay)))
+    {
+        let mut record = power_on();
+        (record.mode, record.overlay) = (mode, overlay);
+        for (row, sign) in seen::layout(&record).into_iter().enumerate() {
+            if sign.is_ascii_digit() {
+                let place = format!("row {row} in mode {mode} overlay {overlay}");
+                names.push(format!("marked text by {place}"));
+                names.push(format!("marked text by a column of {place}"));
+            }
+        }
+    }
+    for row in 0..TEXT_ROWS {
+        names.push(format!("mark {row} seen by row"));
+        names.push(format!("mark {row} seen by column"));
+        names.push(format!("text row {row} seen beside another's mark"));
+        names.push(format!("mark {row} set"));
+        names.push(format!("mark {row} taken off"));
+        names.push(format!("IZ{} written", row + 1));
+        names.push(format!("IZ{} to the same mark", row + 1));
+        names.push(format!("IZ{} to a row with another marked", row + 1));
+        names.push(format!("IZ{} with none marked", row + 1));
+        names.push(format!("IZ0 with mark {row}"));
+        for other in 0..row {
+            names.push(format!("marks {other} and {row} refused"));
+        }
+    }
+    for mode in [0, 1, 10] {
+        names.push(format!("mark 4 not seen in mode {mode}"));
+    }
+    for owner in [0, 1, 3, 4, 5, 6, 7, 8] {
+        names.push(format!("owner {owner} with a mark in the record"));
+    }
+    for owner in [3, 4, 5, 6, 7, 8] {
+        names.push(format!("column owner {owner} with a mark in the record"));
+    }
+    for name in [
+        "IZ0 with none marked",
+        "IZ0 written",
+        "IZ6 not written",
+        "mark set by 2 or more",
+        "three marks and more refused",
+        "display off with a mark",
+    ] {
+        names.push(name.to_string());
+    }
+    names
+}
+
+/// The number of the marked row; none where no row or several are marked.
+fn marked(record: &Record) -> Option<usize> {
+    match rows_marked(record)[..] {
+        [row] => Some(row),
+        _ => None,
+    }
+}
+
+fn rows_marked(record: &Record) -> Vec<usize> {
+    (0..TEXT_ROWS).filter(|&row| record.marks[row]).collect()
+}
+
+fn hook_name(on: bool) -> &'static str {
+    if on {
+        "on-hook"
+    } else {
+        "off-hook"
+    }
+}
+
+/// The question that a frame's bytes spell, and its answer now.
+fn question(record: &Record, body: &[u8]) -> Option<(Command, Vec<u8>)> {
+    let good = stream::good(body)?;
+    QUESTIONS
+        .contains(&good.command)
+        .then(|| (good.command, effect::answer(record, &good)))
+}
+
+/// The bytes of an open frame.
+fn open_body(record: &Record) -> Option<&[u8]> {
+    let frame = &record.frame;
+    (frame.state == 1).then(|| &frame.bytes[..usize::from(frame.length)])
 }
 
 /// What the large line's count of codes rests on.
@@ -358,6 +576,11 @@ impl Cover {
                 match field {
                     4 => self.add(format!("row {row} refused in mode {mode}")),
                     5 => self.add(format!("column {column} refused in mode {mode}")),
+                    37 => self.add(format!("contrast {} refused", before.contrast)),
+                    39 => match rows_marked(before)[..] {
+                        [one, other] => self.add(format!("marks {one} and {other} refused")),
+                        _ => self.add("three marks and more refused"),
+                    },
                     _ => (),
                 }
                 match (field, before.frame.state) {
@@ -410,7 +633,15 @@ impl Cover {
             (Call::Column { row, column, phase }, Answer::Column(number, there)) => {
                 self.see_column(before, (*row, *column, *phase), *number, there);
             }
-            (Call::Set { field, place, .. }, Answer::Done) => {
+            (
+                Call::Set {
+                    field,
+                    place,
+                    value,
+                },
+                Answer::Done,
+            ) => {
+                self.see_switch(*field, *place, *value);
                 if (*field, *place) == (36, 0) {
                     self.add("first place of the large line set");
                 }
@@ -433,14 +664,26 @@ impl Cover {
                     _ => self.add("second lowers left"),
                 }
             }
-            (Call::Command { command: n, .. }, Answer::Written { number, .. }) => {
+            (Call::Hook { on }, Answer::Number(0)) => self.see_hook(before, *on),
+            (
+                Call::Command {
+                    command: n,
+                    numbers,
+                    ..
+                },
+                Answer::Written { number, .. },
+            ) => {
                 self.add(format!("writer {:?} {number}", command(*n)));
-                if let (Call::Command { numbers, .. }, Command::Mode) = (call, command(*n)) {
-                    match number {
-                        0 => self.add(format!("ID{} written", numbers[0])),
-                        2 => self.add(format!("ID{} not written", numbers[0])),
-                        _ => (),
-                    }
+                let letters = match command(*n) {
+                    Command::Mode => Some("ID"),
+                    Command::Contrast => Some("IA"),
+                    Command::Inverse => Some("IZ"),
+                    _ => None,
+                };
+                match (letters, number) {
+                    (Some(letters), 0) => self.add(format!("{letters}{} written", numbers[0])),
+                    (Some(letters), 2) => self.add(format!("{letters}{} not written", numbers[0])),
+                    _ => (),
                 }
             }
             (Call::Label { codes, .. }, Answer::Written { number: 0, .. }) if codes.len() == 7 => {
@@ -483,6 +726,8 @@ impl Cover {
             _ => (),
         }
         let parts = stream::parts_of_call(before, &bytes[..used]);
+        self.see_answers(before, room, &parts, &bytes[used..]);
+        self.see_again(before, room, bytes);
         if let Some(stop) = bytes.get(used) {
             let overlong = matches!(parts.last(), Some((Part::Tail(body), _)) if body.len() > 250);
             let end = if *stop == CR { "CR" } else { "ESC" };
@@ -523,6 +768,9 @@ impl Cover {
                     }
                     let Some(good) = spelt(body) else {
                         self.add("frame outside the grammar");
+                        if let Some(form) = DAMAGED.iter().find(|form| form.as_bytes() == body) {
+                            self.add(format!("bad frame {form:?}"));
+                        }
                         self.see_bad(&record, body);
                         continue;
                     };
@@ -539,6 +787,7 @@ impl Cover {
                     };
                     self.add(format!("frame {:?} {how}", good.command));
                     self.see_screen(&record, good.command, &good.numbers, how);
+                    self.see_marks(&record, &good, how);
                     if body.starts_with(b"Gr") {
                         self.add(format!("picture frame of {} columns", good.codes.len()));
                         if good.numbers == [6] && good.codes.iter().any(|&dots| dots > 31) {
@@ -551,6 +800,201 @@ impl Cover {
                     effect::take(&mut record, &good);
                 }
             }
+        }
+    }
+
+    /// The answers of a call and the room that each finds; and its stop.
+    fn see_answers(
+        &mut self,
+        before: &Record,
+        room: usize,
+        parts: &[stream::Placed],
+        unused: &[u8],
+    ) {
+        let mut record = before.clone();
+        record.frame = NO_FRAME;
+        let (mut left, mut long) = (room, 0);
+        for (part, _) in parts {
+            let asked = match part {
+                Part::Closed(body) => question(&record, body),
+                _ => None,
+            };
+            if let Some((command, answer)) = asked {
+                let length = answer.len();
+                self.add(format!("{command:?} of {length} answered with {left} left"));
+                if left < room {
+                    self.add(format!("{command:?} of {length} answered behind an answer"));
+                }
+                let (mode, overlay) = (record.mode, record.overlay);
+                self.add(format!("{command:?} answered in mode {mode}"));
+                self.add(format!("{command:?} answered under overlay {overlay}"));
+                if !record.display {
+                    self.add(format!("{command:?} answered with the display off"));
+                }
+                if record.held.down {
+                    self.add(format!("{command:?} answered with a key held"));
+                }
+                match command {
+                    Command::AskContrast => self.add(format!("contrast {} told", record.contrast)),
+                    Command::AskHook => self.add(format!("{} told", hook_name(record.hook))),
+                    _ => (),
+                }
+                long += 1;
+                if long == 3 {
+                    self.add("three answers of several bytes in one call");
+                }
+            }
+            if let Part::Abandoned(body) = part {
+                if let Some((command, _)) = question(&record, body) {
+                    self.add(format!("{command:?} abandoned"));
+                }
+            }
+            let answer = stream::take(&mut record, part);
+            if long > 0 && answer == [QUESTION] {
+                self.add("a question mark behind a long answer");
+            }
+            left -= answer.len();
+        }
+        if room - left > 255 {
+            self.add("more than 255 bytes of answers in one call");
+        }
+        if room == 300 && !unused.is_empty() {
+            self.add("stop with room 300");
+        }
+        if long > 0 && unused.first() == Some(&ESC) {
+            self.add("stop at ESC behind a long answer");
+        }
+        let Some(Part::Tail(body)) = parts.last().map(|(part, _)| part) else {
+            return;
+        };
+        let Some((command, answer)) = question(&record, body) else {
+            return;
+        };
+        let length = answer.len();
+        match unused.first() {
+            Some(&CR) => {
+                self.add(format!("{command:?} of {length} stopped with {left} left"));
+                self.add(match left == room {
+                    true => format!("{command:?} of {length} stopped at once"),
+                    false => format!("{command:?} of {length} stopped behind an answer"),
+                });
+            }
+            _ => self.add(format!("{command:?} left open")),
+        }
+    }
+
+    /// A question that stood open before the call: its CR comes first, or
+    /// something else.
+    fn see_again(&mut self, before: &Record, room: usize, bytes: &[u8]) {
+        let open = open_body(before).and_then(|body| question(before, body));
+        let (Some((command, answer)), Some(first)) = (open, bytes.first()) else {
+            return;
+        };
+        let length = answer.len();
+        if *first != CR {
+            self.add(format!("{command:?} open before, spoilt"));
+            return;
+        }
+        self.add(match room < length {
+            true => format!("{command:?} of {length} open before, stopped"),
+            false => format!("{command:?} of {length} open before, answered"),
+        });
+    }
+
+    fn see_hook(&mut self, before: &Record, on: u8) {
+        self.add(format!("hook call {on}"));
+        let to = hook_name(on != 0);
+        let from = hook_name(before.hook);
+        self.add(format!("hook call to {to} from {from}"));
+        match before.frame.state {
+            1 => self.add("hook call with a frame open"),
+            2 => self.add("hook call with a frame overlong"),
+            _ => (),
+        }
+        if before.held.down {
+            self.add("hook call with a key held");
+        }
+        if let Some((command, _)) = open_body(before).and_then(|body| question(before, body)) {
+            self.add(format!("hook call to {to} while {command:?} waits"));
+        }
+    }
+
+    /// Contrast, hook switch and marks as fields.
+    fn see_switch(&mut self, field: u16, place: u16, value: u16) {
+        match (field, value) {
+            (37, 0..=255) => self.add(format!("contrast set to {value}")),
+            (37, _) => self.add("contrast set to 256 or more"),
+            (38, _) => {
+                self.add(format!("hook field set to {}", hook_name(value != 0)));
+                if value > 1 {
+                    self.add("hook field set to 2 or more");
+                }
+            }
+            (39, 0) => self.add(format!("mark {place} taken off")),
+            (39, _) => {
+                self.add(format!("mark {place} set"));
+                if value > 1 {
+                    self.add("mark set by 2 or more");
+                }
+            }
+            _ => (),
+        }
+    }
+
+    /// A good frame of the contrast, of the marks, or that clears.
+    fn see_marks(&mut self, record: &Record, good: &Spelt, how: &str) {
+        let (mode, overlay) = (record.mode, record.overlay);
+        let column = usize::from(record.column);
+        let mark = marked(record);
+        match (good.command, &good.numbers[..]) {
+            (Command::Contrast, [number]) => {
+                self.add(format!("IA{number} {how}"));
+                self.add(format!("frame \"IA{number}\" {how}"));
+            }
+            (Command::Inverse, [number]) => {
+                self.add(format!("IZ{number} {how} in mode {mode}"));
+                self.add(format!("frame \"IZ{number}\" {how}"));
+                if how != "obeyed" {
+                    return;
+                }
+                self.add(format!("IZ under overlay {overlay}"));
+                self.add(match (number, mark) {
+                    (0, Some(row)) => format!("IZ0 with mark {row}"),
+                    (_, None) => format!("IZ{number} with none marked"),
+                    (_, Some(row)) if usize::from(*number) == row + 1 => {
+                        format!("IZ{number} to the same mark")
+                    }
+                    _ => format!("IZ{number} to a row with another marked"),
+                });
+            }
+            (Command::ClearLine, _) => {
+                let cleared = match mode {
+                    LARGE => &record.line[column..],
+                    _ => &record.text[CODES * usize::from(record.row)..][column..CODES],
+                };
+                self.add(format!("[K at column {column} in mode {mode}"));
+                self.add(format!("[K in row {} in mode {mode}", record.row));
+                if cleared.first().is_some_and(|&code| code != 0x20) {
+                    self.add(format!("[K blanks from column {column} in mode {mode}"));
+                }
+                if !cleared.is_empty() && cleared.iter().all(|&code| code == 0x20) {
+                    self.add(format!("[K of blanks in mode {mode}"));
+                }
+                self.add(format!("[K under overlay {overlay}"));
+                if !record.display {
+                    self.add(format!("[K with the display off in mode {mode}"));
+                }
+                if mark.is_some() {
+                    self.add(format!("[K in mode {mode} with a mark"));
+                }
+            }
+            (Command::Clear, _) if mark.is_some() => {
+                self.add(format!("&# in mode {mode} with a mark"));
+            }
+            (Command::Mode, [number]) if mark.is_some() => {
+                self.add(format!("ID{number} {how} with a mark"));
+            }
+            _ => (),
         }
     }
 
@@ -768,6 +1212,13 @@ impl Cover {
                 self.add(format!("line S one place behind {name}"));
             }
         }
+        match (letter, &bytes[..]) {
+            (b'H', bytes) => self.add(format!("line H with {} bytes", bytes.len())),
+            (b'W', &[_, _, number, _, _, _, _]) => {
+                self.add(format!("line W with command {number}"));
+            }
+            _ => (),
+        }
         let before_phase = match letter {
             b'M' => 0,
             b'Q' => 1,
@@ -807,13 +1258,31 @@ impl Cover {
             }
             _ => (),
         }
+        let (mode, overlay) = (before.mode, before.overlay);
+        let place = format!("row {row} in mode {mode} overlay {overlay}");
         if before.display {
-            self.add(format!(
-                "row {row} in mode {} overlay {}",
-                before.mode, before.overlay
-            ));
+            self.add(&place);
         } else {
             self.add("display off asked");
+        }
+        let mark = marked(before);
+        match *owner {
+            Owner::Text {
+                row, mark: true, ..
+            } => {
+                self.add(format!("marked text by {place}"));
+                self.add(format!("mark {row} seen by row"));
+            }
+            Owner::Text { row, .. } if mark.is_some() => {
+                self.add(format!("text row {row} seen beside another's mark"));
+            }
+            _ => (),
+        }
+        if !before.display && mark.is_some() {
+            self.add("display off with a mark");
+        }
+        if row == 4 && mark == Some(4) {
+            self.add(format!("mark 4 not seen in mode {mode}"));
         }
         let owner = match owner {
             Owner::Nothing => 0,
@@ -830,6 +1299,9 @@ impl Cover {
             Owner::PictureWithRocker { .. } => 8,
         };
         self.add(format!("owner {owner}"));
+        if mark.is_some() {
+            self.add(format!("owner {owner} with a mark in the record"));
+        }
     }
 
     fn see_column(
@@ -868,9 +1340,22 @@ impl Cover {
         let owner = match there {
             Column::Nothing => 0,
             Column::IconBar(_) => 1,
-            _ => cell(there).map_or(0, |[owner, _, _]| owner),
+            _ => cell(there).map_or(0, |[owner, _, _, _]| owner),
         };
         self.add(format!("column owner {owner}"));
+        if marked(before).is_some() {
+            self.add(format!("column owner {owner} with a mark in the record"));
+        }
+        if let Column::Text {
+            row: text,
+            mark: true,
+            ..
+        } = *there
+        {
+            let place = format!("row {row} in mode {mode} overlay {overlay}");
+            self.add(format!("marked text by a column of {place}"));
+            self.add(format!("mark {text} seen by column"));
+        }
         let empty = |code: u8| if code == 0 { ", empty" } else { "" };
         let (what, width, from) = match *there {
             Column::IconBar(_) => {

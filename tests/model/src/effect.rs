@@ -68,6 +68,18 @@ pub fn take(record: &mut Record, spelt: &Spelt) {
         LightDefault => record.backlight.duration = 30,
         KeypadSet => record.backlight.keypad = true,
         KeypadClear => record.backlight.keypad = false,
+        Contrast => record.contrast = value(0),
+        AskContrast | AskHook | AskVersion => (),
+        ClearLine => {
+            let column = usize::from(record.column);
+            row_of_cursor(record)[column..].fill(0x20);
+        }
+        Inverse => {
+            record.marks = [false; TEXT_ROWS];
+            if let Some(row) = usize::from(value(0)).checked_sub(1) {
+                record.marks[row] = true;
+            }
+        }
         Picture => {
             let row = usize::from(value(0));
             let mask = if row == 6 { 0x1F } else { 0xFF };
@@ -97,15 +109,37 @@ fn light(record: &mut Record, mode: u8, left: Option<u8>) {
     }
 }
 
-/// A text byte: stored at the cursor, dropped at the end of the row. In mode
-/// 10 the row is the large line.
+/// What a frame of the grammar is answered: a question is told its value, to
+/// all others nothing is said.
+pub fn answer(record: &Record, spelt: &Spelt) -> Vec<u8> {
+    match spelt.command {
+        AskContrast => format!("\x1BIA{}\r", record.contrast).into_bytes(),
+        AskHook if record.hook => b"\x1BIHH\r".to_vec(),
+        AskHook => b"\x1BIHh\r".to_vec(),
+        AskVersion => format!("\x1B&V{VERSION}\r\n").into_bytes(),
+        _ => vec![],
+    }
+}
+
+/// What the note calls the current version (3.5.15). No blank stands before
+/// it in an answer.
+const VERSION: &str = "HA209 V.01.01 11.07.2006";
+
+/// The bytes of the longest answer: that to the question of the version.
+pub const LONGEST: usize = 29;
+
+/// The row that the cursor stands in. In mode 10 it is the large line.
+fn row_of_cursor(record: &mut Record) -> &mut [u8] {
+    match record.mode {
+        LARGE => &mut record.line,
+        _ => &mut record.text[usize::from(record.row) * CODES..][..CODES],
+    }
+}
+
+/// A text byte: stored at the cursor, dropped at the end of the row.
 pub fn text(record: &mut Record, code: u8) {
-    let (row, column) = (usize::from(record.row), usize::from(record.column));
-    let row = match record.mode {
-        LARGE => &mut record.line[..],
-        _ => &mut record.text[row * CODES..][..CODES],
-    };
-    if let Some(place) = row.get_mut(column) {
+    let column = usize::from(record.column);
+    if let Some(place) = row_of_cursor(record).get_mut(column) {
         *place = code;
         record.column += 1;
     }

@@ -7,16 +7,16 @@ use crate::ranges::{faults, in_range};
 use crate::record::*;
 use crate::rng::Rng;
 use crate::script::{perform, Answer, Call, COMMANDS};
-use crate::seen::PHASES;
-use crate::writers;
+use crate::seen::{layout, PHASES};
+use crate::{stream, writers};
 
 /// The letters of all calls; X stands for lines that can't be taken.
-pub const KINDS: &str = "POSRFKCBQUMVWTGX";
+pub const KINDS: &str = "POSRFKCHBQUMVWTGX";
 
 /// Values around the ends of the ranges.
-const EDGES: [u16; 46] = [
-    0, 1, 2, 3, 4, 5, 6, 7, 8, 9, 10, 11, 12, 13, 14, 15, 16, 17, 18, 19, 20, 23, 24, 25, 26, 27,
-    30, 31, 32, 33, 48, 49, 50, 51, 99, 100, 127, 128, 249, 250, 251, 254, 255, 256, 511, 999,
+const EDGES: [u16; 47] = [
+    0, 1, 2, 3, 4, 5, 6, 7, 8, 9, 10, 11, 12, 13, 14, 15, 16, 17, 18, 19, 20, 21, 23, 24, 25, 26,
+    27, 30, 31, 32, 33, 48, 49, 50, 51, 99, 100, 127, 128, 249, 250, 251, 254, 255, 256, 511, 999,
 ];
 
 /// The text modes, and the overlays with none among them.
@@ -89,7 +89,7 @@ pub fn stream_of(rng: &mut Rng, pieces: usize) -> Vec<u8> {
 /// A record in range, brought there by random calls.
 pub fn random_record(seed: u64) -> Record {
     let mut record = power_on();
-    for (call, before, _) in calls(seed, 60, "SFKC") {
+    for (call, before, _) in calls(seed, 60, "SFKCH") {
         record = before;
         perform(&mut record, &call);
     }
@@ -118,16 +118,20 @@ impl Generator {
     }
 
     fn episode(&mut self) {
-        match self.rng.below(100) {
+        match self.rng.below(132) {
+            100..=107 => self.asking(),
+            108..=113 => self.look_at_marks(),
+            114..=120 => self.clear_line(),
+            121..=123 => self.hooks(),
             0 => self.power(),
             1..=32 => self.streams(),
             33..=44 => self.key_logs(),
             45..=48 => self.seconds(),
             49..=55 => self.questions(),
             56..=61 => self.look(),
-            62..=70 => self.write(),
+            62..=70 | 124..=127 => self.write(),
             71..=81 => self.odd_values(),
-            82..=93 => self.out_of_range(),
+            82..=93 | 128..=131 => self.out_of_range(),
             94 => {
                 self.emit(Call::InRange);
             }
@@ -170,14 +174,29 @@ impl Generator {
     // Streams.
 
     fn room(&mut self) -> u16 {
-        match self.rng.below(10) {
+        match self.rng.below(12) {
             0..=2 => 0,
             3 | 4 => 1,
             5 => 2,
             6 => self.rng.between(3, 8) as u16,
-            7 => 300,
+            7 | 8 => 300,
+            9 => self.rng.between(27, 31) as u16,
             _ => self.rng.between(0, 40) as u16,
         }
+    }
+
+    /// A room about what the first answers to these bytes need: it takes some
+    /// of them, and the next one whole or in part.
+    fn room_near(&mut self, bytes: &[u8]) -> u16 {
+        if !in_range(&self.record) {
+            return self.room();
+        }
+        let answers = stream::answers(&self.record, bytes);
+        let most = self.rng.pick(&[4, 4, 4, 30]);
+        let whole = self.rng.below(answers.len().min(most) + 1);
+        let needed: usize = answers[..whole].iter().map(|(_, a)| a.len()).sum();
+        let next = answers.get(whole).map_or(0, |(_, a)| a.len());
+        (needed + self.rng.below(next + 2)).min(300) as u16
     }
 
     fn streams(&mut self) {
@@ -204,6 +223,13 @@ impl Generator {
     }
 
     fn stream_call(&mut self) {
+        let near = self.rng.one_in(4);
+        self.offer(near);
+    }
+
+    /// Offers what is pending, or a part of it, with any room or one about
+    /// what is needed.
+    fn offer(&mut self, near: bool) {
         let all = self.pending.len().min(crate::script::BYTES);
         let cut = match self.rng.below(8) {
             0 => self.rng.below(all + 1),
@@ -211,10 +237,159 @@ impl Generator {
             2 => all - self.rng.between(0, 3).min(all),
             _ => all,
         };
-        let room = self.room();
         let bytes = self.pending[..cut].to_vec();
+        let room = match near {
+            true => self.room_near(&bytes),
+            false => self.room(),
+        };
         if let Some(Answer::Counts { used, .. }) = self.emit(Call::Stream { room, bytes }) {
             self.pending.drain(..used);
+        }
+    }
+
+    // Questions from the collector.
+
+    /// Questions and other frames, with rooms about what the answers need.
+    /// What is asked for may change while a question waits.
+    fn asking(&mut self) {
+        if self.rng.one_in(2) {
+            self.pending.clear();
+        }
+        let pieces = match self.rng.below(8) {
+            0 => self.rng.between(20, 50),
+            _ => self.rng.between(1, 5),
+        };
+        self.pending.extend(asked(&mut self.rng, pieces));
+        for _ in 0..self.rng.between(1, 7) {
+            self.offer(true);
+            if self.pending.is_empty() {
+                break;
+            }
+            match self.rng.below(8) {
+                0 => self.hook_call(),
+                1 if self.has('S') => {
+                    let contrast = self.rng.pick(&[1, 9, 10, 20]);
+                    self.put(37, 0, contrast);
+                }
+                _ => (),
+            }
+        }
+    }
+
+    fn hooks(&mut self) {
+        for _ in 0..self.rng.between(1, 3) {
+            self.hook_call();
+            if self.rng.one_in(2) {
+                let room = self.rng.pick(&[4, 5, 5, 6]);
+                let bytes = b"\x1BIH\r\n".to_vec();
+                self.emit(Call::Stream { room, bytes });
+            }
+        }
+    }
+
+    fn hook_call(&mut self) {
+        let any = self.rng.byte();
+        let on = self.rng.pick(&[0, 0, 0, 1, 1, 2, 128, 255, any]);
+        self.emit(Call::Hook { on });
+    }
+
+    /// Marks this text row alone: 1 the first, 0 none.
+    fn mark(&mut self, number: usize) {
+        for row in 0..TEXT_ROWS {
+            if self.record.marks[row] && row + 1 != number {
+                self.put(39, row, 0);
+            }
+        }
+        if number > 0 {
+            self.put(39, number - 1, 1);
+        }
+    }
+
+    /// A marked row, or none, under some screen, and what is seen of it.
+    fn look_at_marks(&mut self) {
+        let number = self.rng.below(TEXT_ROWS + 1);
+        let by_field = self.has('S') && in_range(&self.record) && self.rng.one_in(2);
+        let mut frames = vec!["IDE".to_string()];
+        if !by_field {
+            // The row must be one of the mode; the mode that comes then keeps
+            // the mark.
+            if self.rng.one_in(3) {
+                frames.push("ID5".to_string());
+            }
+            frames.push(format!("IZ{number}"));
+        }
+        frames.push(format!("ID{}", self.rng.pick(&MODES)));
+        let any = self.rng.pick(&OVERLAYS);
+        match self.rng.pick(&[0, 0, 16, 16, 17, 17, 18, 18, any]) {
+            0 => (),
+            overlay => frames.push(format!("ID{overlay}")),
+        }
+        if self.rng.one_in(3) {
+            frames.push(format!("IZ{number}"));
+        }
+        if self.rng.one_in(6) {
+            let others = ["&#", "[K", "IZ6", "IDD", "[2;3H"];
+            frames.push(self.rng.pick(&others).to_string());
+        }
+        let bytes = frames
+            .iter()
+            .flat_map(|body| format!("\x1B{body}\r").into_bytes());
+        let bytes = bytes.collect();
+        self.emit(Call::Stream { room: 9, bytes });
+        if by_field {
+            self.mark(number);
+        }
+        // The row of the display that shows the marked row, and any other.
+        let sign = b'0' + number.saturating_sub(1) as u8;
+        let shown = layout(&self.record).iter().position(|&s| s == sign);
+        for row in [shown, Some(self.rng.below(7))].into_iter().flatten() {
+            let (row, column) = (row as u8, self.column());
+            let phase = self.rng.pick(&PHASES);
+            self.emit(Call::Row { row, phase });
+            self.emit(Call::Column { row, column, phase });
+        }
+    }
+
+    /// A row with codes in it, the cursor somewhere, and the frame that clears
+    /// from there to the end; some text behind it, and what is seen.
+    fn clear_line(&mut self) {
+        let mode = self.rng.pick(&[0, 1, 5, 6, LARGE, LARGE]);
+        let row = self.rng.below(rows(mode).map_or(0, usize::from));
+        let end = capacity(mode);
+        let column = self.rng.below(end + 1);
+        let mut bytes = format!("\x1BID{mode}\r").into_bytes();
+        let overlay = self.rng.pick(&OVERLAYS);
+        if overlay > 0 && self.rng.one_in(2) {
+            bytes.extend(format!("\x1BID{overlay}\r").bytes());
+        }
+        bytes.extend(
+            self.rng
+                .pick(&[&b"\x1BIDD\r"[..], b"\x1BIDE\r", b"\x1BIDE\r"]),
+        );
+        bytes.extend(format!("\x1B[{row};0H\r").bytes());
+        if !self.rng.one_in(6) {
+            bytes.extend((0..end).map(|_| text_code(&mut self.rng)));
+        }
+        if mode == LARGE && self.has('S') && in_range(&self.record) {
+            // No frame brings the cursor to a column of the large line.
+            self.emit(Call::Stream { room: 9, bytes });
+            if self.record.mode == LARGE {
+                self.settle(&[(5, column as u16)]);
+            }
+            bytes = vec![];
+        } else if column < end {
+            bytes.extend(format!("\x1B[{row};{column}H\r").bytes());
+        }
+        bytes.extend(b"\x1B[K\r\n");
+        if self.rng.one_in(3) {
+            bytes.extend(text_run(&mut self.rng));
+        }
+        if self.rng.one_in(6) {
+            bytes.extend(b"\x1B[K\r");
+        }
+        self.emit(Call::Stream { room: 9, bytes });
+        if self.rng.one_in(3) {
+            self.question();
         }
     }
 
@@ -509,7 +684,8 @@ impl Generator {
 
     fn command_call(&mut self) -> Call {
         let number = match self.rng.below(6) {
-            0 => 2, // the display mode
+            0 => 2,                            // the display mode
+            1 => self.rng.pick(&[27, 27, 32]), // contrast and marks
             _ => self.rng.below(usize::from(COMMANDS)) as u16,
         };
         let command = crate::script::command(number);
@@ -608,8 +784,20 @@ impl Generator {
         if !self.has('S') {
             return;
         }
-        match self.rng.below(12) {
+        match self.rng.below(15) {
             0 => self.odd_volume(),
+            12 => {
+                let contrast = self.rng.pick(&[1, 2, 9, 10, 11, 19, 20]);
+                self.put(37, 0, contrast);
+            }
+            13 => {
+                let on = self.rng.below(2) as u16;
+                self.put(38, 0, on);
+            }
+            14 => {
+                let number = self.rng.below(TEXT_ROWS + 1);
+                self.mark(number);
+            }
             1 => self.odd_held(),
             2 | 3 => self.odd_frame(),
             4 => self.odd_label(),
@@ -827,11 +1015,15 @@ impl Generator {
         };
         let mut touched = vec![];
         for _ in 0..fields {
-            let field = self.rng.pick(&REFUSABLE);
+            let field = match self.rng.below(16) {
+                0 => 39, // two rows can be marked in many ways
+                _ => self.rng.pick(&REFUSABLE),
+            };
             touched.extend(self.spoil(field));
         }
         for _ in 0..self.rng.between(2, 6) {
-            match self.rng.below(12) {
+            match self.rng.below(14) {
+                12 | 13 => self.hook_call(),
                 0 => {
                     self.emit(Call::InRange);
                 }
@@ -882,6 +1074,14 @@ impl Generator {
             31 | 32 if self.record.held.down => {
                 vec![(29, 0, 0), (30, 0, 0), (31, 0, 0), (32, 0, 0)]
             }
+            39 if self.rng.one_in(6) => {
+                let but = self.rng.below(TEXT_ROWS + 1);
+                let others = (0..TEXT_ROWS).filter(|&row| row != but);
+                others.map(|row| (39, row, 1)).collect()
+            }
+            39 if self.record.marks == [false; TEXT_ROWS] => {
+                vec![(39, self.rng.below(TEXT_ROWS), 1)]
+            }
             34 | 35 if self.record.frame.bytes == [0; FRAME] && self.rng.one_in(2) => {
                 vec![(33, 0, self.rng.pick(&[0, 2, 2])), (34, 0, 0)]
             }
@@ -930,9 +1130,9 @@ impl Generator {
 }
 
 /// The fields that can be out of range.
-pub const REFUSABLE: [u16; 31] = [
+pub const REFUSABLE: [u16; 33] = [
     1, 2, 4, 5, 6, 7, 8, 9, 10, 11, 12, 13, 14, 15, 16, 17, 18, 19, 21, 22, 23, 25, 26, 27, 30, 31,
-    32, 33, 34, 35, 36,
+    32, 33, 34, 35, 36, 37, 39,
 ];
 
 /// Values right outside the range of a field, in some record.
@@ -940,8 +1140,8 @@ fn just_outside(field: u16) -> &'static [u16] {
     match field {
         1 => &[2, 4, 7, 9, 11, 255],
         2 => &[1, 5, 10, 19, 255],
-        4 => &[1, 4, 5],
-        5 => &[17, 25, 17, 25, 18, 255],
+        4 => &[1, 4, 4, 5],
+        5 => &[17, 17, 17, 25, 18, 255],
         6 | 36 => &[0x1F, 0x1B, 0x0D, 0],
         7 | 9 => &[8, 9, 255],
         8 | 10 => &[0x1F, 0, 1, 0x20],
@@ -962,6 +1162,7 @@ fn just_outside(field: u16) -> &'static [u16] {
         33 => &[3, 255],
         34 => &[1, 250, 251, 255],
         35 => &[0x1B, 0x0D, 1],
+        37 => &[0, 21, 0, 21, 22, 255],
         _ => &[1],
     }
 }
@@ -981,12 +1182,14 @@ fn just_above(rng: &mut Rng, command: Command, place: usize) -> u16 {
         (Times, 0) => rng.pick(&[0, 3, 51]),
         (Times, _) => rng.pick(&[1, 3, 51]),
         (Buzzer | LightNumber, _) => 256,
+        (Contrast, _) => rng.pick(&[0, 21]),
+        (Inverse, _) => rng.pick(&[5, 6, 6, 7]),
         _ => 2,
     }
 }
 
 fn is_flag(field: u16) -> bool {
-    [0, 3, 20, 21, 28, 29, 32].contains(&field)
+    [0, 3, 20, 21, 28, 29, 32, 38, 39].contains(&field)
 }
 
 // Pieces of streams.
@@ -1028,6 +1231,11 @@ fn good_numbers(rng: &mut Rng, command: Command) -> Vec<u16> {
             vec![rng.pick(&[any, any, any, 0, 9])]
         }
         LightNumber => vec![rng.pick(&[0, 0, 1, 2, 3, 30, 255])],
+        Contrast => {
+            let any = rng.between(1, 20) as u16;
+            vec![rng.pick(&[1, 20, any, any, any, any])]
+        }
+        Inverse => vec![up_to(rng, 5)],
         _ => vec![],
     }
 }
@@ -1257,7 +1465,7 @@ fn near_miss(rng: &mut Rng) -> Vec<u8> {
         match rng.below(5) {
             0 => frame[place] = rng.byte(),
             1 => frame[place] = frame[place].wrapping_add(rng.pick(&[1, 255, 32, 224, 128])),
-            2 => frame[place] = rng.pick(b"IDKGrz,;H[&#0123456789EAabyFf\x1B\x0D\x0A\x00"),
+            2 => frame[place] = rng.pick(b"IDKGrz,;H[&#0123456789EAabyFfVZh\x1B\x0D\x0A\x00"),
             3 => {
                 frame.remove(place);
             }
@@ -1456,17 +1664,26 @@ fn foreign(rng: &mut Rng) -> Vec<u8> {
         b"\x1BGL40,20;",
         b"\x1BGR30,20;",
     ];
-    const SISTER: [&[u8]; 22] = [
+    const SISTER: [&[u8]; 31] = [
         b"\x1BIA10\r\n",
-        b"\x1BIA\r\n",
-        b"\x1BIH\r\n",
-        b"\x1B&V\r\n",
+        b"\x1BIA?\r\n",
+        b"\x1BIA+\r\n",
+        b"\x1BIA-\r\n",
+        b"\x1BKH?\r\n",
+        b"\x1BKP?\r\n",
+        b"\x1B&V?\r\n",
+        b"\x1B&K\r\n",
+        b"\x1B&H1;2\r\n",
+        b"\x1B&H?\r\n",
+        b"\x1B&C1\r\n",
+        b"\x1B&00\r\n",
+        b"\x1BIDM4\r\n",
+        b"\x1BIN50\r\n",
+        b"\x1BIE?\r\n",
         b"\x1BIZ1\r\n",
-        b"\x1B[K\r\n",
         b"\x1BIV4\r\n",
         b"\x1BID10\r\n",
         b"\x1BID14\r\n",
-        b"\x1BID15\r\n",
         b"\x1BID18\r\n",
         b"\x1BIX\r\n",
         b"\x1BIU2\r\n",
@@ -1503,7 +1720,7 @@ fn noise(rng: &mut Rng) -> Vec<u8> {
             if plain {
                 rng.byte()
             } else {
-                rng.pick(b"\x1B\x1B\x1B\x0D\x0D\x0D\x0AIDKEFPLMSTUWJ&[;H#CDEArRGz,ab00112569")
+                rng.pick(b"\x1B\x1B\x1B\x0D\x0D\x0D\x0AIDKEFPLMSTUWJVZ&[;H#CDEArRGz,ab00112569")
             }
         })
         .collect()
@@ -1534,9 +1751,16 @@ fn story(rng: &mut Rng) -> Vec<u8> {
         "ID0", "ID1", "ID5", "ID6", "ID10", "ID11", "ID12", "ID13", "ID14", "ID15", "ID16", "ID17",
         "ID18", "IDD", "IDE", "&#", "[4;1H", "[3;15H",
     ];
-    const DEPOT: [&str; 12] = [
+    const DEPOT: [&str; 14] = [
         "ID10", "ID10", "ID10", "ID0", "ID5", "ID16", "ID17", "ID18", "&#", "[0;0H", "[0;9H",
-        "[1;24H",
+        "[1;24H", "[K", "IZ1",
+    ];
+    const MARKS: [&str; 14] = [
+        "IZ0", "IZ1", "IZ2", "IZ3", "IZ4", "IZ5", "IZ5", "ID0", "ID1", "ID5", "ID6", "ID10", "&#",
+        "[K",
+    ];
+    const CONTRAST: [&str; 10] = [
+        "IA", "IA", "IA1", "IA5", "IA9", "IA10", "IA15", "IA20", "IA0", "IA21",
     ];
     const LABELS: [&str; 9] = [
         "IK0",
@@ -1549,7 +1773,15 @@ fn story(rng: &mut Rng) -> Vec<u8> {
         "IK1K",
         "IK2older",
     ];
-    let list = rng.pick(&[&VOLUME[..], &LIGHT, &SCREEN, &DEPOT, &LABELS]);
+    let list = rng.pick(&[
+        &VOLUME[..],
+        &LIGHT,
+        &SCREEN,
+        &DEPOT,
+        &LABELS,
+        &MARKS,
+        &CONTRAST,
+    ]);
     let mut out = vec![];
     for _ in 0..rng.between(2, 5) {
         out.push(ESC);
@@ -1562,9 +1794,59 @@ fn story(rng: &mut Rng) -> Vec<u8> {
     out
 }
 
+/// Forms that lie close to the questions, the contrast, the marks and the
+/// clearing of a line, and are outside the grammar.
+pub const DAMAGED: [&str; 66] = [
+    "IA00", "IA01", "IA05", "IA010", "IA020", "IA021", "IA000", "IA1000", "IA+", "IA-", "IA?",
+    "IAA", "IA 5", "IA5 ", "IA1;2", "IA10\n", "IA\n", "ia", "Ia", "iA5", "A", "A5", "IH0", "IH1",
+    "IH?", "IHh", "IHH", "IH\n", "Ih", "ih", "H", "h", "&V0", "&V1", "&V?", "&VV", "&V ", "&V\n",
+    "&v", "V", "IV", "&VHA209", "[K0", "[K1", "[KK", "[KH", "[K\n", "[k", "[0K", "[1K", "[2K",
+    "[;K", "[0;0K", "K", "[", "IZ", "IZ00", "IZ01", "IZ05", "IZ06", "IZ1000", "IZZ", "IZ1 ",
+    "IZ1;2", "Iz1", "Z1",
+];
+
+/// Forms of the grammar whose number is out of range in every mode.
+pub const PASSED_OVER: [&str; 14] = [
+    "IA0", "IA21", "IA22", "IA99", "IA100", "IA255", "IA256", "IA999", "IZ6", "IZ7", "IZ10",
+    "IZ255", "IZ256", "IZ999",
+];
+
+/// A question, or a frame that came with the questions, in range or not, or
+/// one that lies close to them.
+fn asking_frame(rng: &mut Rng) -> Vec<u8> {
+    let body = match rng.below(16) {
+        0..=2 => "IA".to_string(),
+        3 | 4 => "IH".to_string(),
+        5..=7 => "&V".to_string(),
+        8 => format!("IA{}", rng.below(23)),
+        9 | 10 => format!("IZ{}", rng.below(7)),
+        11 => "[K".to_string(),
+        12 => rng.pick(&PASSED_OVER).to_string(),
+        _ => rng.pick(&DAMAGED).to_string(),
+    };
+    closed(rng, body.as_bytes())
+}
+
+/// Some of these frames, with other things between them now and then.
+pub fn asked(rng: &mut Rng, pieces: usize) -> Vec<u8> {
+    let mut out = vec![];
+    for _ in 0..pieces {
+        out.extend(asking_frame(rng));
+        match rng.below(16) {
+            0 => out.extend(good_frame(rng)),
+            1 => out.extend(text_run(rng)),
+            2 => out.extend(b"\x1B\r"),
+            3 => out.push(ESC),
+            _ => (),
+        }
+    }
+    out
+}
+
 fn piece(rng: &mut Rng) -> Vec<u8> {
-    match rng.below(46) {
-        43.. => padded_frame(rng),
+    match rng.below(52) {
+        46.. => asking_frame(rng),
+        43..=45 => padded_frame(rng),
         40..=42 => story(rng),
         0..=13 => good_frame(rng),
         14..=17 => odd_numbers(rng),
@@ -1600,7 +1882,7 @@ fn sender(rng: &mut Rng, pieces: usize) -> Vec<u8> {
 
 /// A line that can't be taken, or an empty one.
 fn misfit(rng: &mut Rng) -> Vec<u8> {
-    const LINES: [&str; 67] = [
+    const LINES: [&str; 71] = [
         "",
         " ",
         "Z",
@@ -1617,6 +1899,11 @@ fn misfit(rng: &mut Rng) -> Vec<u8> {
         "OP",
         "R 00",
         "C 00",
+        "H 0",
+        "H 000",
+        "H  01",
+        "H 01 ",
+        "h 01",
         "B 00",
         "m 00",
         "V 00",
@@ -1662,7 +1949,6 @@ fn misfit(rng: &mut Rng) -> Vec<u8> {
         "Q ",
         "q 0000",
         "Q 00 00",
-        "W 001E1B00000000",
         "W 012D0000000000",
         "W 001E00000000",
         "W 001E0000000000FF",
@@ -1670,7 +1956,10 @@ fn misfit(rng: &mut Rng) -> Vec<u8> {
         "T 001E0241",
     ];
     let stream = |count: usize| format!("F 000A{}", "41".repeat(count));
-    match rng.below(18) {
+    match rng.below(21) {
+        20 => no_field(rng).into_bytes(),
+        18 => no_hook(rng).into_bytes(),
+        19 => no_command(rng).into_bytes(),
         0 => stream(4097).into_bytes(),
         1 => format!("{}4", stream(4096)).into_bytes(),
         2 => format!("G 000A00{}", "41".repeat(301)).into_bytes(),
@@ -1706,10 +1995,32 @@ fn no_phase(rng: &mut Rng) -> String {
     }
 }
 
+/// A hook call with too few bytes or too many.
+fn no_hook(rng: &mut Rng) -> String {
+    let bytes = rng.pick(&["", "", "00", "01", "0001"]);
+    match bytes {
+        "" => rng.pick(&["H", "H "]).to_string(),
+        more => format!("H {:02X}{more}", rng.below(2)),
+    }
+}
+
+/// A command that there isn't: the next one, or a later one.
+fn no_command(rng: &mut Rng) -> String {
+    let later = rng.between(usize::from(COMMANDS), 255);
+    let command = rng.pick(&[usize::from(COMMANDS), later]);
+    format!(
+        "W 001E{command:02X}{:04X}{:04X}",
+        rng.below(30),
+        rng.below(30)
+    )
+}
+
 /// A field or a place of a field that there isn't: the next one.
 fn no_field(rng: &mut Rng) -> String {
     let fields = crate::script::FIELDS;
-    let field = rng.pick(&[1, 6, 8, 10, 11, 31, 35, 36, 36, fields, fields]);
+    let field = rng.pick(&[
+        1, 6, 8, 10, 11, 31, 35, 36, 36, 37, 38, 39, 39, fields, fields,
+    ]);
     let place = if field == fields { 0 } else { places(field) };
     format!("S {field:02X}{place:04X}{:04X}", rng.below(256))
 }
@@ -1717,7 +2028,8 @@ fn no_field(rng: &mut Rng) -> String {
 /// The line of a good call with one sign too few, too many or another, if it
 /// can't be taken then.
 fn damaged(rng: &mut Rng) -> Option<Vec<u8>> {
-    let call = match rng.below(7) {
+    let call = match rng.below(8) {
+        7 => Call::Hook { on: rng.byte() },
         0 => Call::Set {
             field: 1,
             place: 0,

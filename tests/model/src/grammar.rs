@@ -36,6 +36,12 @@ pub enum Command {
     LightDefault,
     KeypadSet,
     KeypadClear,
+    Contrast,
+    AskContrast,
+    AskHook,
+    AskVersion,
+    ClearLine,
+    Inverse,
     LeftLabel,
     RightLabel,
     Picture,
@@ -57,11 +63,11 @@ pub enum Piece {
 use Command::*;
 use Piece::{Data, Digit, Is, Label as Text, Number};
 
-/// All commands. The first 27 stand in the order in which a script numbers
+/// All commands. The first 33 stand in the order in which a script numbers
 /// them. II is the note's spelling of the handsfree volume (3.5.25), IJ that
 /// of document 01; they are two commands of one effect. The picture frame is
 /// spelt as in 3.6.5 of the note.
-pub const SHAPES: [(Command, &[Piece]); 30] = [
+pub const SHAPES: [(Command, &[Piece]); 36] = [
     (DisplayOff, &[Is(b"IDD")]),
     (DisplayOn, &[Is(b"IDE")]),
     (Mode, &[Is(b"ID"), Number]),
@@ -89,6 +95,12 @@ pub const SHAPES: [(Command, &[Piece]); 30] = [
     (LightDefault, &[Is(b"IER")]),
     (KeypadSet, &[Is(b"IEe")]),
     (KeypadClear, &[Is(b"IEr")]),
+    (Contrast, &[Is(b"IA"), Number]),
+    (AskContrast, &[Is(b"IA")]),
+    (AskHook, &[Is(b"IH")]),
+    (AskVersion, &[Is(b"&V")]),
+    (ClearLine, &[Is(b"[K")]),
+    (Inverse, &[Is(b"IZ"), Number]),
     (LeftLabel, &[Is(b"IK1"), Text]),
     (RightLabel, &[Is(b"IK2"), Text]),
     (Picture, &[Is(b"Gr"), Digit, Is(b","), Data, Is(b"z")]),
@@ -234,8 +246,11 @@ fn data_ways(mut rest: &[u8]) -> Vec<(Vec<u8>, &[u8])> {
     ways
 }
 
-/// Whether the numbers of a command are in range, where a cursor frame can
-/// name `rows` rows.
+/// The commands that are answered and change nothing.
+pub const QUESTIONS: [Command; 3] = [AskContrast, AskHook, AskVersion];
+
+/// Whether the numbers of a command are in range, where a frame can name
+/// `rows` rows. The inverse frame numbers them from 1; its 0 names none.
 pub fn numbers_in_range(command: Command, numbers: &[u16], rows: u16) -> bool {
     let within = |low: u16, high: u16| numbers[0] >= low && numbers[0] <= high;
     let one_of = |list: &[u16]| list.contains(&numbers[0]);
@@ -250,6 +265,8 @@ pub fn numbers_in_range(command: Command, numbers: &[u16], rows: u16) -> bool {
         Private | HandsfreeJ | HandsfreeI => within(0, 10),
         Times => crate::ranges::time1(numbers[0]) && crate::ranges::time2(numbers[1]),
         Buzzer | LightNumber => within(0, 255),
+        Contrast => crate::ranges::contrast(numbers[0]),
+        Inverse => within(0, rows),
         _ => true,
     }
 }

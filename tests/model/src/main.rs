@@ -1,6 +1,6 @@
 //! A second, independent program of the handset's rules, made from the papers
 //! alone, and a tester that holds another program against it. Of the change
-//! requests it has T-01, T-02, T-03 and T-05.
+//! requests it has T-01 to T-05.
 //!
 //! The model is written plainly, to be read beside the paper: `record`,
 //! `ranges` (a list of rules), `grammar` (a table of shapes), `effect`,
@@ -24,7 +24,7 @@
 //!   reach; exit status 1 if something isn't reached.
 //!
 //! KINDS is a list of call letters, for instance `PSRF`; without it all
-//! (`POSRFKCBQUMVWTGX`, where X stands for lines that can't be taken).
+//! (`POSRFKCHBQUMVWTGX`, where X stands for lines that can't be taken).
 
 mod compare;
 mod cover;
@@ -203,7 +203,9 @@ fn properties(seeds: Range<u64>) -> bool {
             failed += 1;
         }
     };
-    tell_one("commands read back", property::commands_read_back());
+    for (name, check) in property::ONCE {
+        tell_one(name, check());
+    }
     for (name, check) in property::CHECKS {
         for seed in seeds.clone() {
             tell_one(name, check(seed));

@@ -2,14 +2,14 @@
 
 use std::collections::BTreeMap;
 
-use crate::effect;
-use crate::generate::{close_bodies, random_record, stream_of, OVERLAYS};
+use crate::effect::{self, LONGEST};
+use crate::generate::{asked, close_bodies, random_record, stream_of, MODES, OVERLAYS};
 use crate::grammar::{readings, spelt, Command, Spelt};
 use crate::keys;
 use crate::ranges::in_range;
 use crate::record::*;
 use crate::rng::Rng;
-use crate::script::{command, COMMANDS};
+use crate::script::{self, command, COMMANDS};
 use crate::seen::{self, Column, Half, Owner, Phase, PHASES};
 use crate::stream::{self, parting, Part};
 use crate::writers;
@@ -23,7 +23,7 @@ pub fn cutting(seed: u64) -> Result<(), String> {
     let bytes = stream_of(&mut rng, pieces);
 
     let mut whole = start.clone();
-    let mut answers = vec![0; bytes.len()];
+    let mut answers = vec![0; LONGEST * bytes.len()];
     let (number, used, written) = stream::call(&mut whole, &bytes, &mut answers);
     if (number, used) != (0, bytes.len()) {
         return Err(format!(
@@ -33,7 +33,7 @@ pub fn cutting(seed: u64) -> Result<(), String> {
     }
 
     let mut cut = start;
-    let mut asked = 0;
+    let mut said: Vec<u8> = vec![];
     let mut from = 0;
     let mut to = 0;
     let mut room_of_call = 0;
@@ -41,23 +41,393 @@ pub fn cutting(seed: u64) -> Result<(), String> {
         to = (to + rng.below(20)).clamp(from, bytes.len());
         let mut room = vec![7; room_of_call];
         let (_, used, written) = stream::call(&mut cut, &bytes[from..to], &mut room);
-        if room[..written].iter().any(|&byte| byte != QUESTION) {
-            return Err(format!("seed {seed}: an answer that is no question mark"));
-        }
         if room[written..].iter().any(|&byte| byte != 7) {
             return Err(format!("seed {seed}: a place past the written count"));
         }
         if !in_range(&cut) {
             return Err(format!("seed {seed}: record out of range"));
         }
-        asked += written;
+        said.extend(&room[..written]);
         from += used;
-        room_of_call = rng.below(3);
+        room_of_call = rng.pick(&[0, 1, 2, 4, 5, 6, 28, 29, 30, 35]);
     }
-    if cut != whole || asked != written {
-        return Err(format!(
-            "seed {seed}: cutting changed something ({asked}, {written})"
-        ));
+    if cut != whole || said != answers[..written] {
+        return Err(format!("seed {seed}: cutting changed something"));
+    }
+    Ok(())
+}
+
+/// The same for every place of a cut, with any room for the first call.
+pub fn cut_anywhere(seed: u64) -> Result<(), String> {
+    let mut rng = Rng::new(seed ^ 0xC08);
+    let start = random_record(seed);
+    let pieces = rng.between(1, 5);
+    let bytes = asked(&mut rng, pieces);
+    let (whole, all) = with_room_for_all(&start, &bytes);
+    for cut in 0..=bytes.len() {
+        for _ in 0..3 {
+            let mut record = start.clone();
+            let mut room = vec![7; rng.between(0, 32)];
+            let (number, used, written) = stream::call(&mut record, &bytes[..cut], &mut room);
+            let (end, rest) = with_room_for_all(&record, &bytes[used..]);
+            let untouched = room[written..].iter().all(|&byte| byte == 7);
+            if number != 0 || used > cut || !untouched {
+                return Err(format!("seed {seed}: the first call of a cut at {cut}"));
+            }
+            if end != whole || [&room[..written], &rest].concat() != all {
+                return Err(format!("seed {seed}: a cut at {cut} changed something"));
+            }
+        }
+    }
+    Ok(())
+}
+
+/// A call with room for all answers: the record and what was said.
+fn with_room_for_all(record: &Record, bytes: &[u8]) -> (Record, Vec<u8>) {
+    let mut record = record.clone();
+    let mut room = vec![7; LONGEST * bytes.len()];
+    let (_, _, written) = stream::call(&mut record, bytes, &mut room);
+    room.truncate(written);
+    (record, room)
+}
+
+/// A call stops exactly before the byte whose whole answer does not fit. The
+/// bytes are given one by one, to learn what each of them is answered; for
+/// every room it is then known where a call stops.
+pub fn stops(seed: u64) -> Result<(), String> {
+    let mut rng = Rng::new(seed ^ 0x570);
+    let start = random_record(seed);
+    let mut bytes = asked(&mut rng, 4);
+    bytes.extend(stream_of(&mut rng, 2));
+    bytes.truncate(400);
+    // The record before each byte and at the end, and all said before it.
+    let mut steps = vec![(start.clone(), vec![])];
+    for byte in &bytes {
+        let (record, said) = &steps[steps.len() - 1];
+        let (next, more) = with_room_for_all(record, &[*byte]);
+        let said = [&said[..], &more].concat();
+        steps.push((next, said));
+    }
+    let total = steps[bytes.len()].1.len();
+    for room in (0..=60).chain([total.saturating_sub(1), total, total + 1]) {
+        let used = steps
+            .iter()
+            .position(|(_, said)| said.len() > room)
+            .map_or(bytes.len(), |place| place - 1);
+        let (wanted, said) = &steps[used];
+        let mut record = start.clone();
+        let mut buffer = vec![7; room];
+        let counts = stream::call(&mut record, &bytes, &mut buffer);
+        let mut lent = vec![7; room];
+        lent[..said.len()].copy_from_slice(said);
+        if counts != (0, used, said.len()) || &record != wanted || buffer != lent {
+            return Err(format!("seed {seed}: room {room}: {counts:?}"));
+        }
+    }
+    Ok(())
+}
+
+/// The questions and what a record answers, byte for byte.
+fn told(record: &Record) -> [(&'static [u8], Vec<u8>); 3] {
+    let contrast = match record.contrast {
+        n @ 1..=9 => vec![0x1B, 0x49, 0x41, 0x30 + n, 0x0D],
+        10 => vec![0x1B, 0x49, 0x41, 0x31, 0x30, 0x0D],
+        n @ 11..=19 => vec![0x1B, 0x49, 0x41, 0x31, 0x30 + n - 10, 0x0D],
+        _ => vec![0x1B, 0x49, 0x41, 0x32, 0x30, 0x0D],
+    };
+    let hook = match record.hook {
+        true => vec![0x1B, 0x49, 0x48, 0x48, 0x0D],
+        false => vec![0x1B, 0x49, 0x48, 0x68, 0x0D],
+    };
+    let version = vec![
+        0x1B, 0x26, 0x56, 0x48, 0x41, 0x32, 0x30, 0x39, 0x20, 0x56, 0x2E, 0x30, 0x31, 0x2E, 0x30,
+        0x31, 0x20, 0x31, 0x31, 0x2E, 0x30, 0x37, 0x2E, 0x32, 0x30, 0x30, 0x36, 0x0D, 0x0A,
+    ];
+    [(b"IA", contrast), (b"IH", hook), (b"&V", version)]
+}
+
+/// Each question, behind some question marks, in each room from 0 to 30: the
+/// whole answer, or none of it and the question still open. It changes
+/// nothing, and is answered when it is offered again with room.
+pub fn whole_answers(seed: u64) -> Result<(), String> {
+    let mut start = random_record(seed);
+    start.frame = NO_FRAME;
+    for contrast in [start.contrast, 9, 10] {
+        start.contrast = contrast;
+        for (question, answer) in told(&start) {
+            for (before, room) in (0..3).flat_map(|n| (n..=30).map(move |room| (n, room))) {
+                let bytes = [&b"\x1B\r".repeat(before)[..], &[ESC], question, b"\r\n"].concat();
+                let stop = bytes.len() - 2;
+                let mut record = start.clone();
+                let mut buffer = vec![7; room];
+                let (_, used, written) = stream::call(&mut record, &bytes, &mut buffer);
+                let mut lent = [&vec![b'?'; before][..], &vec![7; room - before]].concat();
+                let mut wanted = start.clone();
+                let counts = if room < before + answer.len() {
+                    wanted.frame.state = 1;
+                    wanted.frame.length = 2;
+                    wanted.frame.bytes[..2].copy_from_slice(question);
+                    (stop, before)
+                } else {
+                    lent[before..][..answer.len()].copy_from_slice(&answer);
+                    (bytes.len(), before + answer.len())
+                };
+                if (used, written) != counts || record != wanted || buffer != lent {
+                    return Err(format!("seed {seed}: {question:?} with room {room}"));
+                }
+                let (record, rest) = with_room_for_all(&record, &bytes[used..]);
+                if record != start || [&buffer[before..written], &rest].concat() != answer {
+                    return Err(format!("seed {seed}: {question:?} again after {room}"));
+                }
+            }
+        }
+    }
+    Ok(())
+}
+
+/// Questions put between the parts of a stream change nothing: the record at
+/// the end is the same, and so are the other answers.
+pub fn questions_change_nothing(seed: u64) -> Result<(), String> {
+    let mut rng = Rng::new(seed ^ 0xA5C);
+    let start = random_record(seed);
+    let bytes = stream_of(&mut rng, 8);
+    let before = stream::standing(&start.frame).len();
+    let mut with: Vec<u8> = vec![];
+    let mut from = 0;
+    let mut put = vec![];
+    for (part, behind) in stream::parts_of_call(&start, &bytes) {
+        let end = behind.saturating_sub(before);
+        with.extend(&bytes[from..end]);
+        from = end;
+        let outside = matches!(part, Part::Text(_) | Part::Skipped(_) | Part::Closed(_));
+        if outside && rng.one_in(3) {
+            with.push(ESC);
+            with.extend(rng.pick(&[b"IA", b"IH", b"&V"]));
+            put.push(with.len());
+            with.push(CR);
+        }
+    }
+    let answers = stream::answers(&start, &with);
+    let others = answers
+        .iter()
+        .filter(|(place, _)| !put.contains(place))
+        .map(|(_, answer)| answer);
+    let alone = stream::answers(&start, &bytes);
+    let same = others.eq(alone.iter().map(|(_, answer)| answer));
+    let (end, _) = with_room_for_all(&start, &with);
+    if same && end == with_room_for_all(&start, &bytes).0 {
+        Ok(())
+    } else {
+        Err(format!("seed {seed}: a question changed something"))
+    }
+}
+
+/// Contrast and marks are changed by their own frames alone, obeyed; the hook
+/// switch by none, nor by keys and seconds.
+pub fn own_frames(seed: u64) -> Result<(), String> {
+    let mut rng = Rng::new(seed ^ 0x0F7);
+    let start = random_record(seed);
+    let mut bytes = stream_of(&mut rng, 10);
+    bytes.extend(asked(&mut rng, 6));
+    let mut record = start.clone();
+    record.frame = NO_FRAME;
+    let (mut contrast, mut marks) = (start.contrast, start.marks);
+    for (part, _) in stream::parts_of_call(&start, &bytes) {
+        let good = match &part {
+            Part::Closed(body) => stream::good(body),
+            _ => None,
+        };
+        match good {
+            Some(good) if effect::obeyed(&record, &good) => match good.command {
+                Command::Contrast => contrast = good.numbers[0] as u8,
+                Command::Inverse => {
+                    marks = std::array::from_fn(|row| good.numbers[0] == row as u16 + 1);
+                }
+                _ => (),
+            },
+            _ => (),
+        }
+        stream::take(&mut record, &part);
+        let now = (record.contrast, record.hook, record.marks);
+        if now != (contrast, start.hook, marks) {
+            return Err(format!("seed {seed}: {part:?} changed {now:?}"));
+        }
+    }
+    for (question, answer) in told(&record) {
+        let asked = [&[ESC, CR, ESC], question, &[CR]].concat();
+        let (_, said) = with_room_for_all(&record, &asked);
+        if !said.ends_with(&answer) {
+            return Err(format!("seed {seed}: {question:?} tells {said:?}"));
+        }
+    }
+    let other = (record.contrast, record.hook, record.marks);
+    keys::call(&mut record, &[1, 700, 701], &[3, 255, 131], &mut [0; 4]);
+    script::second(&mut record);
+    if other == (record.contrast, record.hook, record.marks) {
+        Ok(())
+    } else {
+        Err(format!("seed {seed}: keys and seconds"))
+    }
+}
+
+/// The hook call sets its switch and nothing else, in a record in range.
+pub fn hook_calls(seed: u64) -> Result<(), String> {
+    let start = random_record(seed);
+    for on in [true, false, false, true] {
+        let mut record = start.clone();
+        let mut wanted = start.clone();
+        wanted.hook = on;
+        if script::hook(&mut record, on) != 0 || record != wanted {
+            return Err(format!("seed {seed}: hook call {on}"));
+        }
+        // What an open frame waits for is told as the switch now is.
+        record.frame = NO_FRAME;
+        stream::call(&mut record, b"\x1BIH\r", &mut [0; 4]);
+        script::hook(&mut record, !on);
+        let (_, said) = with_room_for_all(&record, b"\r");
+        if said != [b"\x1BIH", &[if on { b'h' } else { b'H' }][..], b"\r"].concat() {
+            return Err(format!(
+                "seed {seed}: a question that waited tells {said:?}"
+            ));
+        }
+        let mut spoilt = start.clone();
+        spoilt.contrast = if on { 0 } else { 21 };
+        let before = spoilt.clone();
+        if script::hook(&mut spoilt, on) != 1 || spoilt != before {
+            return Err(format!("seed {seed}: hook call on a record out of range"));
+        }
+    }
+    Ok(())
+}
+
+/// The clearing of a line, in every mode, row and column.
+pub fn lines_cleared(seed: u64) -> Result<(), String> {
+    let mut rng = Rng::new(seed ^ 0xC1E);
+    let mut start = random_record(seed);
+    start.frame = NO_FRAME;
+    start.overlay = rng.pick(&OVERLAYS);
+    for code in start.text.iter_mut().chain(&mut start.line) {
+        if !rng.one_in(4) {
+            *code = rng.between(0x21, 0xFF) as u8;
+        }
+    }
+    for (mode, rows, end) in [(0, 4, 16), (1, 4, 16), (5, 5, 16), (6, 5, 16), (10, 1, 24)] {
+        for (row, column) in (0..rows).flat_map(|row| (0..=end).map(move |column| (row, column))) {
+            start.mode = mode;
+            (start.row, start.column) = (row, column);
+            let (record, said) = with_room_for_all(&start, b"\x1B[K\r");
+            let mut wanted = start.clone();
+            for place in column..end {
+                match mode {
+                    10 => wanted.line[usize::from(place)] = b' ',
+                    _ => wanted.text[usize::from(16 * row + place)] = b' ',
+                }
+            }
+            if record != wanted || !said.is_empty() {
+                return Err(format!("seed {seed}: [K at {row} {column} in mode {mode}"));
+            }
+        }
+    }
+    Ok(())
+}
+
+/// Marks are seen in the row and in every column of a text row, and nowhere
+/// else; without them the rest is the same.
+pub fn marks_seen(seed: u64) -> Result<(), String> {
+    let mut rng = Rng::new(seed ^ 0x3A7);
+    let mut plain = record_to_see(&mut rng, seed);
+    plain.marks = [false; TEXT_ROWS];
+    let phase = rng.pick(&PHASES);
+    for marked in 0..TEXT_ROWS {
+        let mut record = plain.clone();
+        record.marks[marked] = true;
+        for row in 0..7 {
+            let with_mark = |owner: Owner| match owner {
+                Owner::Text { row, codes, .. } => Owner::Text {
+                    row,
+                    codes,
+                    mark: usize::from(row) == marked,
+                },
+                other => other,
+            };
+            let (number, owner) = seen::row(&plain, row, phase);
+            if seen::row(&record, row, phase) != (number, with_mark(owner)) {
+                return Err(format!("seed {seed}: mark {marked} in row {row}"));
+            }
+            for column in 0..96 {
+                let there = match seen::column(&plain, row, column, phase) {
+                    (0, Column::Text { row, code, .. }) => Column::Text {
+                        row,
+                        code,
+                        mark: usize::from(row) == marked,
+                    },
+                    (_, other) => other,
+                };
+                if seen::column(&record, row, column, phase) != (0, there) {
+                    return Err(format!("seed {seed}: mark {marked} at {row} {column}"));
+                }
+            }
+        }
+    }
+    Ok(())
+}
+
+/// The inverse frame with all numbers, in every mode, from every mark.
+pub fn inverse_frames() -> Result<(), String> {
+    for mode in MODES {
+        for before in 0..=TEXT_ROWS {
+            let mut start = power_on();
+            start.mode = mode;
+            start.marks = std::array::from_fn(|row| row + 1 == before);
+            for number in 0..1000 {
+                let bytes = format!("\x1BIZ{number}\r");
+                let (record, said) = with_room_for_all(&start, bytes.as_bytes());
+                let most = match mode {
+                    0 | 1 => 4,
+                    5 | 6 => 5,
+                    _ => 0,
+                };
+                let mut wanted = start.clone();
+                if number <= most {
+                    wanted.marks = [1, 2, 3, 4, 5].map(|row| row == number);
+                }
+                if record != wanted || !said.is_empty() {
+                    return Err(format!("IZ{number} in mode {mode}, {before} before"));
+                }
+            }
+        }
+    }
+    Ok(())
+}
+
+/// Of all ways to mark rows those with two or more are refused.
+pub fn marks_refused() -> Result<(), String> {
+    for set in 0..32_u32 {
+        for mode in MODES {
+            let mut record = power_on();
+            record.mode = mode;
+            record.marks = std::array::from_fn(|row| set & (1 << row) != 0);
+            let mut after = record.clone();
+            let number = u8::from(set.count_ones() > 1);
+            let mut room = [7; 9];
+            let asked = stream::call(&mut after, b"\x1BIH\r", &mut room);
+            let counts = match number {
+                0 => (0, 4, 5),
+                _ => (1, 0, 0),
+            };
+            let others = [
+                script::hook(&mut after, true),
+                script::second(&mut after),
+                keys::call(&mut after, &[], &[], &mut []).0,
+                seen::row(&after, 1, Phase::Lit).0,
+                seen::column(&after, 1, 0, Phase::Lit).0,
+                seen::sms(&after, Phase::Pause).0,
+                seen::volume(&after).0,
+            ];
+            if asked != counts || others != [number; 7] || after != record {
+                return Err(format!("marks {:?} in mode {mode}", record.marks));
+            }
+        }
     }
     Ok(())
 }
@@ -175,12 +545,12 @@ pub fn commands_read_back() -> Result<(), String> {
             }
         }
     }
-    // 12 without numbers, and the sizes of all ranges.
-    let sizes = 13 + 5 * 16 + (2 + 3 + 7 + 2 + 20 + 4) + 3 * 11 + 2 + 47 * 48 + 256 + 256;
-    if written == 12 + sizes {
+    // 16 without numbers, and the sizes of all ranges.
+    let sizes = 13 + 5 * 16 + (2 + 3 + 7 + 2 + 20 + 4) + 3 * 11 + 2 + 47 * 48 + 256 + 256 + 20 + 6;
+    if written == 16 + sizes {
         Ok(())
     } else {
-        Err(format!("{written} commands written, not {}", 12 + sizes))
+        Err(format!("{written} commands written, not {}", 16 + sizes))
     }
 }
 
@@ -333,7 +703,7 @@ pub fn time2_alone(seed: u64) -> Result<(), String> {
         }
     };
     let mut ends = [start.clone(), other.clone()].map(|mut record| {
-        let mut answers = vec![0; bytes.len()];
+        let mut answers = vec![0; LONGEST * bytes.len()];
         let counts = stream::call(&mut record, &bytes, &mut answers);
         (record, counts, answers)
     });
@@ -415,9 +785,10 @@ fn column_of_row(owner: &Owner, column: u8) -> Column {
     match *owner {
         Owner::Nothing => Column::Nothing,
         Owner::IconBar(bar) => Column::IconBar(bar),
-        Owner::Text { row, codes } => Column::Text {
+        Owner::Text { row, codes, mark } => Column::Text {
             row,
             code: codes[cell],
+            mark,
         },
         Owner::Picture { row, columns } => Column::Picture {
             row,
@@ -568,10 +939,26 @@ pub fn shifting(seed: u64) -> Result<(), String> {
 }
 
 type Check = fn(u64) -> Result<(), String>;
+type Once = fn() -> Result<(), String>;
+
+/// All checks that take no seed.
+pub const ONCE: [(&str, Once); 3] = [
+    ("commands read back", commands_read_back),
+    ("an inverse frame marks a row of the mode", inverse_frames),
+    ("two marks are refused", marks_refused),
+];
 
 /// All checks that take a seed.
-pub const CHECKS: [(&str, Check); 12] = [
+pub const CHECKS: [(&str, Check); 20] = [
     ("cutting a stream elsewhere changes nothing", cutting),
+    ("a cut at any place changes nothing", cut_anywhere),
+    ("a call stops where an answer does not fit", stops),
+    ("a question is answered whole or not at all", whole_answers),
+    ("questions change nothing", questions_change_nothing),
+    ("contrast, hook and marks have their own frames", own_frames),
+    ("the hook call sets its switch alone", hook_calls),
+    ("a line is cleared from the cursor on", lines_cleared),
+    ("marks are seen in text rows alone", marks_seen),
     ("the parts are the stream", parts_join),
     ("a frame has one reading", one_reading),
     ("bad and out-of-range frames change nothing", no_effect),

@@ -8,7 +8,7 @@ use crate::record::*;
 
 pub type Rule = (u16, fn(&Record) -> bool);
 
-pub const RULES: [Rule; 32] = [
+pub const RULES: [Rule; 34] = [
     (1, |r| rows(r.mode).is_some()),
     (2, |r| matches!(r.overlay, 0 | 11..=18)),
     (4, |r| rows(r.mode).is_none_or(|rows| r.row < rows)),
@@ -58,6 +58,8 @@ pub const RULES: [Rule; 32] = [
     (35, |r| frame_bytes_used(r)),
     (35, |r| frame_bytes_unused(r)),
     (36, |r| r.line.iter().all(|&code| code >= 0x20)),
+    (37, |r| contrast(r.contrast.into())),
+    (39, |r| r.marks.iter().filter(|&&mark| mark).count() <= 1),
 ];
 
 pub fn time1(n: u16) -> bool {
@@ -66,6 +68,10 @@ pub fn time1(n: u16) -> bool {
 
 pub fn time2(n: u16) -> bool {
     n == 0 || (4..=50).contains(&n)
+}
+
+pub fn contrast(n: u16) -> bool {
+    (1..=20).contains(&n)
 }
 
 fn label_codes(label: &Label) -> bool {

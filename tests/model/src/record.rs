@@ -18,6 +18,8 @@ pub const BIG: usize = 8;
 pub const LINE: usize = CODES + BIG;
 /// The text mode that shows the large line.
 pub const LARGE: u8 = 10;
+/// Text rows, each with an inverse mark.
+pub const TEXT_ROWS: usize = 5;
 
 #[derive(Clone, Copy, PartialEq, Eq, Debug)]
 pub struct Label {
@@ -75,7 +77,7 @@ pub struct Record {
     pub shown: bool,
     pub row: u8,
     pub column: u8,
-    pub text: [u8; 5 * CODES],
+    pub text: [u8; TEXT_ROWS * CODES],
     pub line: [u8; LINE],
     pub left: Label,
     pub right: Label,
@@ -86,6 +88,11 @@ pub struct Record {
     pub time2: u8,
     pub buzzer: u8,
     pub backlight: Backlight,
+    pub contrast: u8,
+    /// True: on-hook.
+    pub hook: bool,
+    /// The inverse marks of the text rows.
+    pub marks: [bool; TEXT_ROWS],
     pub held: Held,
     pub frame: Frame,
 }
@@ -108,7 +115,8 @@ pub const NO_FRAME: Frame = Frame {
     bytes: [0; FRAME],
 };
 
-/// At power-on no key repeats.
+/// At power-on no key repeats, the contrast is the note's middle value, and
+/// the handset lies in its rest.
 pub fn power_on() -> Record {
     Record {
         display: true,
@@ -117,7 +125,7 @@ pub fn power_on() -> Record {
         shown: false,
         row: 0,
         column: 0,
-        text: [0x20; 5 * CODES],
+        text: [0x20; TEXT_ROWS * CODES],
         line: [0x20; LINE],
         left: NO_LABEL,
         right: NO_LABEL,
@@ -138,6 +146,9 @@ pub fn power_on() -> Record {
             left: 0,
             keypad: false,
         },
+        contrast: 10,
+        hook: true,
+        marks: [false; TEXT_ROWS],
         held: NO_KEY,
         frame: NO_FRAME,
     }
@@ -170,8 +181,8 @@ pub fn rows(mode: u8) -> Option<u8> {
     }
 }
 
-/// Rows that a cursor frame can name: those of the text mode, but none in the
-/// mode of the large line.
+/// Rows that a frame can name, to put the cursor there or to mark them: those
+/// of the text mode, but none in the mode of the large line.
 pub fn rows_to_name(mode: u8) -> u8 {
     match mode {
         LARGE => 0,
@@ -188,7 +199,7 @@ pub fn capacity(mode: u8) -> usize {
 }
 
 /// The fields by number, as a script names them.
-pub const FIELD_NAMES: [&str; 37] = [
+pub const FIELD_NAMES: [&str; 40] = [
     "display",
     "text mode",
     "overlay",
@@ -226,16 +237,20 @@ pub const FIELD_NAMES: [&str; 37] = [
     "frame length",
     "frame bytes",
     "large line",
+    "contrast",
+    "hook",
+    "inverse mark",
 ];
 
 /// How many places a field has.
 pub fn places(field: u16) -> usize {
     match field {
-        6 => 5 * CODES,
+        6 => TEXT_ROWS * CODES,
         8 | 10 => LABEL,
         11 => 7 * COLUMNS,
         35 => FRAME,
         36 => LINE,
+        39 => TEXT_ROWS,
         _ => 1,
     }
 }
@@ -284,6 +299,9 @@ fn spot(record: &mut Record, field: u16, place: usize) -> Option<Spot<'_>> {
         34 => Byte(&mut record.frame.length),
         35 => Byte(&mut record.frame.bytes[place]),
         36 => Byte(&mut record.line[place]),
+        37 => Byte(&mut record.contrast),
+        38 => Flag(&mut record.hook),
+        39 => Flag(&mut record.marks[place]),
         _ => return None,
     })
 }

@@ -12,7 +12,7 @@ pub const BYTES: usize = 4096;
 pub const ENTRIES: usize = 1024;
 pub const LENT: usize = 300;
 /// Commands that the command writer knows.
-pub const COMMANDS: u16 = 27;
+pub const COMMANDS: u16 = 33;
 /// Fields that can be set.
 pub const FIELDS: u16 = FIELD_NAMES.len() as u16;
 
@@ -36,6 +36,10 @@ pub enum Call {
         edges: Vec<u8>,
     },
     Second,
+    /// The hook call: 0 is off-hook, any other byte on-hook.
+    Hook {
+        on: u8,
+    },
     Thin,
     Row {
         row: u8,
@@ -138,6 +142,7 @@ fn with_bytes(letter: u8, bytes: &[u8]) -> Option<Call> {
         (b'O', []) => Some(Call::FormerPowerOn),
         (b'R', []) => Some(Call::InRange),
         (b'C', []) => Some(Call::Second),
+        (b'H', &[on]) => Some(Call::Hook { on }),
         (b'B', []) => Some(Call::Thin),
         (b'M', &[last]) => phase(last).map(|phase| Call::Sms { phase }),
         (b'V', []) => Some(Call::Volume),
@@ -242,6 +247,7 @@ pub fn line(call: &Call) -> Vec<u8> {
         Call::Row { row, phase } => vec![*row, *phase as u8],
         Call::Column { row, column, phase } => vec![*row, *column, *phase as u8],
         Call::Sms { phase } => vec![*phase as u8],
+        Call::Hook { on } => vec![*on],
         Call::Command {
             room,
             command,
@@ -295,6 +301,15 @@ pub fn second(record: &mut Record) -> u8 {
     0
 }
 
+/// The hook call.
+pub fn hook(record: &mut Record, on: bool) -> u8 {
+    if !ranges::in_range(record) {
+        return 1;
+    }
+    record.hook = on;
+    0
+}
+
 /// Makes one call on the record.
 pub fn perform(record: &mut Record, call: &Call) -> Answer {
     let counts = |(number, used, written), buffer| Answer::Counts {
@@ -338,6 +353,7 @@ pub fn perform(record: &mut Record, call: &Call) -> Answer {
             counts(keys::call(record, ticks, edges, &mut buffer), buffer)
         }
         Call::Second => Answer::Number(second(record)),
+        Call::Hook { on } => Answer::Number(hook(record, *on != 0)),
         Call::Thin => {
             let mut light = record.backlight;
             Answer::Thin(thin(&mut light), light)
@@ -387,7 +403,7 @@ fn put(out: &mut Vec<u8>, word: &str, bytes: &[u8]) {
     out.push(LF);
 }
 
-/// The record in its twelve lines.
+/// The record in its thirteen lines.
 pub fn print_record(out: &mut Vec<u8>, record: &Record) {
     let bit = u8::from;
     let screen = [
@@ -410,6 +426,12 @@ pub fn print_record(out: &mut Vec<u8>, record: &Record) {
     ];
     put(out, "icons", &[&record.icons[..], &sounds].concat());
     put_light(out, &record.backlight);
+    let switches = [record.contrast, bit(record.hook)];
+    put(
+        out,
+        "switches",
+        &[&switches[..], &record.marks.map(bit)].concat(),
+    );
     let held = &record.held;
     let [high, low] = held.tick.to_be_bytes();
     let keys = [
@@ -458,28 +480,30 @@ fn half_number(half: Half) -> u8 {
     }
 }
 
+/// An owner, its row or half, its mark, and its cells. Text rows alone have
+/// marks.
 fn put_owner(out: &mut Vec<u8>, owner: &Owner) {
     match owner {
         Owner::Nothing => (),
         Owner::IconBar(bar) => put_bar(out, bar),
-        Owner::Text { row, codes } => {
-            put(out, "row", &[2, *row]);
+        Owner::Text { row, codes, mark } => {
+            put(out, "row", &[2, *row, u8::from(*mark)]);
             put(out, "cells", codes);
         }
         Owner::Picture { row, columns } => {
-            put(out, "row", &[3, *row]);
+            put(out, "row", &[3, *row, 0]);
             put(out, "cells", columns);
         }
         Owner::Small { codes } => {
-            put(out, "row", &[4, 0]);
+            put(out, "row", &[4, 0, 0]);
             put(out, "cells", codes);
         }
         Owner::Big { half, codes } => {
-            put(out, "row", &[5, half_number(*half)]);
+            put(out, "row", &[5, half_number(*half), 0]);
             put(out, "cells", codes);
         }
         Owner::PictureWithRocker { row, columns, w } => {
-            put(out, "row", &[6, *row]);
+            put(out, "row", &[6, *row, 0]);
             put(out, "cells", columns);
             put(out, "rocker", &[*w]);
         }
@@ -490,17 +514,17 @@ fn put_owner(out: &mut Vec<u8>, owner: &Owner) {
     }
 }
 
-/// A column as an owner, where in it, and the value there.
-pub fn cell(column: &Column) -> Option<[u8; 3]> {
+/// A column as an owner, where in it, the value there, and the mark.
+pub fn cell(column: &Column) -> Option<[u8; 4]> {
     Some(match *column {
         Column::Nothing | Column::IconBar(_) => return None,
-        Column::Text { row, code } => [2, row, code],
-        Column::Picture { row, dots } => [3, row, dots],
-        Column::Small { code } => [4, 0, code],
-        Column::Big { half, code } => [5, half_number(half), code],
-        Column::Left { cell, code } => [6, cell, code],
-        Column::Rocker { w } => [7, 0, w],
-        Column::Right { cell, code } => [8, cell, code],
+        Column::Text { row, code, mark } => [2, row, code, u8::from(mark)],
+        Column::Picture { row, dots } => [3, row, dots, 0],
+        Column::Small { code } => [4, 0, code, 0],
+        Column::Big { half, code } => [5, half_number(half), code, 0],
+        Column::Left { cell, code } => [6, cell, code, 0],
+        Column::Rocker { w } => [7, 0, w, 0],
+        Column::Right { cell, code } => [8, cell, code, 0],
     })
 }
 
@@ -537,6 +561,7 @@ pub fn letter(call: &Call) -> char {
         Call::Stream { .. } => 'F',
         Call::Keys { .. } => 'K',
         Call::Second => 'C',
+        Call::Hook { .. } => 'H',
         Call::Thin => 'B',
         Call::Row { .. } => 'Q',
         Call::Column { .. } => 'U',

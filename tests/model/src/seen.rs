@@ -1,6 +1,7 @@
 //! What is seen: the questions of a row and of a column, the two panels, the
 //! list screen.
 
+use crate::effect::LONGEST;
 use crate::ranges::in_range;
 use crate::record::*;
 
@@ -28,9 +29,11 @@ pub struct Bar {
 pub enum Owner {
     Nothing,
     IconBar(Bar),
+    /// A text row and its inverse mark.
     Text {
         row: u8,
         codes: [u8; CODES],
+        mark: bool,
     },
     Picture {
         row: u8,
@@ -71,9 +74,11 @@ pub enum Column {
     Nothing,
     /// The bar whole.
     IconBar(Bar),
+    /// A code of a text row and the row's inverse mark.
     Text {
         row: u8,
         code: u8,
+        mark: bool,
     },
     Picture {
         row: u8,
@@ -135,7 +140,7 @@ pub fn layout(record: &Record) -> [u8; 7] {
     };
     std::array::from_fn(|row| match above[row] {
         b' ' => below[row],
-        mark => mark,
+        sign => sign,
     })
 }
 
@@ -180,17 +185,21 @@ pub fn row(record: &Record, row: u8, phase: Phase) -> (u8, Owner) {
     if !in_range(record) {
         return (1, Owner::Nothing);
     }
-    let Some(&mark) = layout(record).get(usize::from(row)) else {
+    let Some(&sign) = layout(record).get(usize::from(row)) else {
         return (4, Owner::Nothing);
     };
     let w = record.icons[ICON_W];
     let (small, big) = large_line(record);
-    let owner = match mark {
+    let owner = match sign {
         b'I' => Owner::IconBar(icon_bar(record, phase)),
-        b'0'..=b'4' => Owner::Text {
-            row: mark - b'0',
-            codes: text_row(record, mark - b'0'),
-        },
+        b'0'..=b'4' => {
+            let row = sign - b'0';
+            Owner::Text {
+                row,
+                codes: text_row(record, row),
+                mark: record.marks[usize::from(row)],
+            }
+        }
         b's' => Owner::Small { codes: small },
         b'u' => Owner::Big {
             half: Half::Upper,
@@ -235,10 +244,14 @@ pub fn column(record: &Record, row: u8, column: u8, phase: Phase) -> (u8, Column
     let rocker = ROCKER.contains(&column);
     let seen = match layout(record)[usize::from(row)] {
         b'I' => Column::IconBar(icon_bar(record, phase)),
-        mark @ b'0'..=b'4' => Column::Text {
-            row: mark - b'0',
-            code: text(mark - b'0'),
-        },
+        sign @ b'0'..=b'4' => {
+            let row = sign - b'0';
+            Column::Text {
+                row,
+                code: text(row),
+                mark: record.marks[usize::from(row)],
+            }
+        }
         b's' => Column::Small {
             code: small[usize::from(column / CELL)],
         },
@@ -318,11 +331,13 @@ pub fn volume(record: &Record) -> (u8, u8, u8) {
     }
 }
 
-/// The listing of the program "list screen" for a stream.
+/// The listing of the program "list screen" for a stream. It counts answers,
+/// not their bytes.
 pub fn listing(stream: &[u8]) -> String {
     let mut record = power_on();
-    let mut answers = vec![0; stream.len()];
-    let (_, _, replies) = crate::stream::call(&mut record, stream, &mut answers);
+    let replies = crate::stream::answers(&record, stream).len();
+    let mut room = vec![0; LONGEST * stream.len()];
+    crate::stream::call(&mut record, stream, &mut room);
     let plain = |codes: &[u8]| -> String {
         codes
             .iter()

@@ -2,7 +2,7 @@
 //! taken in order.
 
 use crate::effect;
-use crate::grammar::spelt;
+use crate::grammar::{spelt, Spelt};
 use crate::ranges::in_range;
 use crate::record::*;
 
@@ -64,13 +64,10 @@ pub fn standing(frame: &Frame) -> Vec<u8> {
     }
 }
 
-/// Whether taking this part gives a question mark.
-pub fn questioned(part: &Part) -> bool {
-    match part {
-        Part::Abandoned(_) => true,
-        Part::Closed(body) => body.len() > FRAME || spelt(body).is_none(),
-        _ => false,
-    }
+/// What a closed frame spells. None: it is bad, overlong or outside the
+/// grammar.
+pub fn good(body: &[u8]) -> Option<Spelt> {
+    spelt(body).filter(|_| body.len() <= FRAME)
 }
 
 /// The unfinished tail as a frame of the record.
@@ -86,34 +83,57 @@ fn tail(body: &[u8]) -> Frame {
     frame
 }
 
-/// Takes one part.
-fn take(record: &mut Record, part: &Part) {
+/// Takes one part; gives its answer.
+pub fn take(record: &mut Record, part: &Part) -> Vec<u8> {
     match part {
         Part::Text(code) => effect::text(record, *code),
-        Part::Skipped(_) | Part::Abandoned(_) => (),
+        Part::Skipped(_) => (),
+        Part::Abandoned(_) => return vec![QUESTION],
         Part::Closed(body) => {
-            if let (true, Some(good)) = (body.len() <= FRAME, spelt(body)) {
-                effect::take(record, &good);
-            }
+            let Some(good) = good(body) else {
+                return vec![QUESTION];
+            };
+            let answer = effect::answer(record, &good);
+            effect::take(record, &good);
+            return answer;
         }
         Part::Tail(body) => record.frame = tail(body),
     }
+    vec![]
 }
 
-/// How many bytes a call uses: up to the byte whose question mark has no
-/// room, or all.
+/// All answers of a stream, where there is room for each: the place of the
+/// byte that is answered, and its answer. From a record in range.
+pub fn answers(record: &Record, bytes: &[u8]) -> Vec<(usize, Vec<u8>)> {
+    let before = standing(&record.frame).len();
+    let mut record = record.clone();
+    let parts = parts_of_call(&record, bytes);
+    record.frame = NO_FRAME;
+    let mut answers = vec![];
+    for (part, behind) in &parts {
+        let answer = take(&mut record, part);
+        if !answer.is_empty() {
+            let place = match part {
+                Part::Closed(_) => behind - 1,
+                _ => *behind,
+            };
+            answers.push((place - before, answer));
+        }
+    }
+    answers
+}
+
+/// How many bytes a call uses: up to the byte whose whole answer has no room,
+/// or all.
 pub fn used(record: &Record, bytes: &[u8], room: usize) -> usize {
-    let before = standing(&record.frame);
-    let whole = [&before[..], bytes].concat();
-    parting(&whole)
-        .iter()
-        .filter(|(part, _)| questioned(part))
-        .map(|(part, behind)| match part {
-            Part::Closed(_) => behind - 1,
-            _ => *behind,
+    let mut needed = 0;
+    answers(record, bytes)
+        .into_iter()
+        .find(|(_, answer)| {
+            needed += answer.len();
+            needed > room
         })
-        .nth(room)
-        .map_or(bytes.len(), |place| place - before.len())
+        .map_or(bytes.len(), |(place, _)| place)
 }
 
 /// The parts of a call: the open frame and the used bytes.
@@ -131,11 +151,9 @@ pub fn call(record: &mut Record, bytes: &[u8], answers: &mut [u8]) -> (u8, usize
     record.frame = NO_FRAME;
     let mut written = 0;
     for (part, _) in &parts {
-        if questioned(part) {
-            answers[written] = QUESTION;
-            written += 1;
-        }
-        take(record, part);
+        let answer = take(record, part);
+        answers[written..][..answer.len()].copy_from_slice(&answer);
+        written += answer.len();
     }
     (0, used, written)
 }

@@ -1,4 +1,4 @@
--- What follows [: two numbers and an H. Assumes nothing.
+-- Two numbers and an H. Assumes nothing.
 use native.Mathlib.Omega.{arith}
 use denote.Ref.{now}
 use mathlib.Core.Path.{_∙_, ap}

@@ -4,7 +4,7 @@ use denote.Ref.{now}
 use mathlib.Core.Path.{_∙_, ap}
 use lib.ListN.{getD}
 use borrow.Author.Tests.{ne-eqb}
-use Rattle.command.specs.Reading.{soleOf, afterI, cursorSign, positionOf}
+use Rattle.command.specs.Reading.{soleOf, afterI, cursorSign, afterBracket}
 use Rattle.command.proofs.Parts.{part-rest, read-short, read-opens}
 use borrow.Author.Needs.{needs}
 use Rattle.command.proofs.read_command.Statement.{statement}
@@ -46,17 +46,17 @@ sole-requires c κs = search needs
 cursor-sign-requires : tie.Need-cursor-sign-requires
 cursor-sign-requires c κs = search needs
 
-sub-position : tie.Need-sub-position
-sub-position c = search needs
+sub-after-bracket : tie.Need-sub-after-bracket
+sub-after-bracket c = search needs
 
-part-position-start : tie.Need-part-position-start
-part-position-start c = search needs
+part-after-bracket-start : tie.Need-part-after-bracket-start
+part-after-bracket-start c = search needs
 
-part-position-end : tie.Need-part-position-end
-part-position-end c = search needs
+part-after-bracket-end : tie.Need-part-after-bracket-end
+part-after-bracket-end c = search needs
 
-position-requires : tie.Need-position-requires
-position-requires c κs = search needs
+after-bracket-requires : tie.Need-after-bracket-requires
+after-bracket-requires c κs = search needs
 
 returns-2 : tie.Need-returns-2
 returns-2 c =
@@ -77,7 +77,7 @@ returns-4 c =
     let m = c .before .before in
     let i = m .before .before .before in
     let f = now (i .before .before .args .f) in
-    rw (read-opens f (omega (arith, i .if1 .left)), m .match .keys3) (c .position .ensures ∙ ap positionOf (part-rest 1 f))
+    rw (read-opens f (omega (arith, i .if1 .left)), m .match .keys3) (c .after-bracket .ensures ∙ ap afterBracket (part-rest 1 f))
 
 returns-5 : tie.Need-returns-5
 returns-5 c =
@@ -101,10 +101,10 @@ read-command-spec =
     part-sole-end
     sole-requires
     cursor-sign-requires
-    sub-position
-    part-position-start
-    part-position-end
-    position-requires
+    sub-after-bracket
+    part-after-bracket-start
+    part-after-bracket-end
+    after-bracket-requires
     returns-2
     returns-3
     returns-4

@@ -1,6 +1,7 @@
 -- Each command in range does what its line says. Assumes nothing.
 use native.Mathlib.Omega.{arith}
-use Rattle.effect.proofs.Small.{at-most, small-mode, small-icon-u, small-from, small-position, small-times}
+use Rattle.effect.proofs.Small.{at-most, small-mode, small-icon-u, small-from, small-position, small-times, small-contrast, small-start, small-mark}
+use Rattle.effect.specs.Effect.{lineCleared}
 use borrow.Author.Needs.{needs}
 use Rattle.effect.proofs.changed.Statement.{statement}
 use Rattle.effect.proofs.changed.Tie as tie
@@ -164,6 +165,42 @@ enum-told-11 c = search needs
 enum-told-12 : tie.Need-enum-told-12
 enum-told-12 c = search needs
 
+enum-known-c-16 : tie.Need-enum-known-c-16
+enum-known-c-16 c = search needs
+
+cast-value-8 : tie.Need-cast-value-8
+cast-value-8 c = record { fits = small-contrast _ (c .before .c16 .given .1) (c .before .before .before .pre) }
+
+enum-told-13 : tie.Need-enum-told-13
+enum-told-13 c = search needs
+
+enum-told-14 : tie.Need-enum-told-14
+enum-told-14 c = search needs
+
+enum-told-15 : tie.Need-enum-told-15
+enum-told-15 c = search needs
+
+enum-told-16 : tie.Need-enum-told-16
+enum-told-16 c = search needs
+
+row-start-requires : tie.Need-row-start-requires
+row-start-requires c κs = search needs
+
+row-end-requires : tie.Need-row-end-requires
+row-end-requires c κs = search needs
+
+clear-line-requires : tie.Need-clear-line-requires
+clear-line-requires c κs = let s = c .before .before .before .before .before .args .p .screen in rw (c .before .before .row-start .ensures) (small-start (s .mode) (s .row) (search needs))
+
+enum-known-c-17 : tie.Need-enum-known-c-17
+enum-known-c-17 c = search needs
+
+cast-marks-of : tie.Need-cast-marks-of
+cast-marks-of c = record { fits = omega (arith, small-mark (c .before .before .before .args .p .screen .mode) (c .before .c17 .given .1) (c .before .before .before .pre)) }
+
+marks-of-requires : tie.Need-marks-of-requires
+marks-of-requires c κs = small-mark (c .before .before .before .args .p .screen .mode) (c .before .c17 .given .1) (c .before .before .before .pre)
+
 returns : tie.Need-returns
 returns c = λ g. rw (c .before .enum-told .given .1)
 
@@ -245,6 +282,25 @@ returns-26 c = λ g. rw (c .before .enum-told11 .given .1)
 returns-27 : tie.Need-returns-27
 returns-27 c = λ g. rw (c .before .enum-told12 .given .1)
 
+returns-28 : tie.Need-returns-28
+returns-28 c = λ g. rw (c .before .c16 .given .1)
+
+returns-29 : tie.Need-returns-29
+returns-29 c = λ g. rw (c .enum-told13 .given .1)
+
+returns-30 : tie.Need-returns-30
+returns-30 c = λ g. rw (c .enum-told14 .given .1)
+
+returns-31 : tie.Need-returns-31
+returns-31 c = λ g. rw (c .enum-told15 .given .1)
+
+returns-32 : tie.Need-returns-32
+unfolding lineCleared
+returns-32 c = λ g. rw (c .before .before .before .before .enum-told16 .given .1, c .clear-line .ensures, c .before .before .before .row-start .ensures, c .before .before .row-end .ensures)
+
+returns-33 : tie.Need-returns-33
+returns-33 c = λ g. rw (c .before .before .c17 .given .1, c .marks-of .ensures)
+
 pub changed-spec : {M : Type 1} → statement M
 changed-spec =
     tie.close
@@ -302,6 +358,18 @@ changed-spec =
     enum-told-10
     enum-told-11
     enum-told-12
+    enum-known-c-16
+    cast-value-8
+    enum-told-13
+    enum-told-14
+    enum-told-15
+    enum-told-16
+    row-start-requires
+    row-end-requires
+    clear-line-requires
+    enum-known-c-17
+    cast-marks-of
+    marks-of-requires
     returns
     returns-2
     returns-3
@@ -328,4 +396,10 @@ changed-spec =
     returns-24
     returns-25
     returns-26
-    returns-27)
+    returns-27
+    returns-28
+    returns-29
+    returns-30
+    returns-31
+    returns-32
+    returns-33)

@@ -45,11 +45,14 @@ enum-known-reading-2 c = search needs
 obey-label-requires : tie.Need-obey-label-requires
 obey-label-requires c κs = label-found (c .before .before .before .before .before .before .before .args .frame .now) (sym (c .before .before .before .read-command .ensures) ∙ c .before .reading2 .given .1) .codes .most
 
+answer-for-requires : tie.Need-answer-for-requires
+answer-for-requires c κs = search needs
+
 returns-3 : tie.Need-returns-3
 returns-3 c = obeys (a-reading (c .before .before .before .before .before .before .args .frame .now) (c .before .before .before .before .opens-picture .ensures) (c .before .before .before .if1 .left) (c .before .before .read-command .ensures) (c .enum-told .given .1)) refl refl
 
 returns-4 : tie.Need-returns-4
-returns-4 c = obeys (a-reading (c .before .before .before .before .before .before .before .before .before .args .frame .now) (c .before .before .before .before .before .before .before .opens-picture .ensures) (c .before .before .before .before .before .before .if1 .left) (c .before .before .before .before .before .read-command .ensures) (c .before .before .before .reading .given .1)) refl (c .obey-command .ensures (c .before .before .before .before .before .before .before .before .before .args .picture .now))
+returns-4 c = obeys (a-reading (c .before .before .before .before .before .before .before .before .before .before .args .frame .now) (c .before .before .before .before .before .before .before .before .opens-picture .ensures) (c .before .before .before .before .before .before .before .if1 .left) (c .before .before .before .before .before .before .read-command .ensures) (c .before .before .before .before .reading .given .1)) (c .answer-for .ensures) (c .before .obey-command .ensures (c .before .before .before .before .before .before .before .before .before .before .args .picture .now))
 
 returns-5 : tie.Need-returns-5
 unfolding carryOut
@@ -68,6 +71,7 @@ obey-spec =
     enum-told
     enum-known-reading
     obey-command-requires
+    answer-for-requires
     enum-known-reading-2
     obey-label-requires
     returns-3

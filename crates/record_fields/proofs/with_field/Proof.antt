@@ -126,6 +126,9 @@ enum-told-31 c = search needs
 enum-told-32 : tie.Need-enum-told-32
 enum-told-32 c = search needs
 
+marks-with-requires : tie.Need-marks-with-requires
+marks-with-requires c κs = search needs
+
 enum-told-33 : tie.Need-enum-told-33
 enum-told-33 c = search needs
 
@@ -137,6 +140,15 @@ enum-told-35 c = search needs
 
 enum-told-36 : tie.Need-enum-told-36
 enum-told-36 c = search needs
+
+enum-told-37 : tie.Need-enum-told-37
+enum-told-37 c = search needs
+
+enum-told-38 : tie.Need-enum-told-38
+enum-told-38 c = search needs
+
+enum-told-39 : tie.Need-enum-told-39
+enum-told-39 c = search needs
 
 frame-with-requires : tie.Need-frame-with-requires
 frame-with-requires c κs = search needs
@@ -235,7 +247,7 @@ returns-31 : tie.Need-returns-31
 returns-31 c = rw (c .before .enum-told31 .given .1)
 
 returns-32 : tie.Need-returns-32
-returns-32 c = rw (c .before .enum-told32 .given .1)
+returns-32 c = rw (c .before .before .before .enum-told32 .given .1, c .marks-with .ensures)
 
 returns-33 : tie.Need-returns-33
 returns-33 c = rw (c .before .enum-told33 .given .1)
@@ -247,7 +259,16 @@ returns-35 : tie.Need-returns-35
 returns-35 c = rw (c .before .enum-told35 .given .1)
 
 returns-36 : tie.Need-returns-36
-returns-36 c = rw (c .before .before .before .enum-told36 .given .1, c .frame-with .ensures)
+returns-36 c = rw (c .before .enum-told36 .given .1)
+
+returns-37 : tie.Need-returns-37
+returns-37 c = rw (c .before .enum-told37 .given .1)
+
+returns-38 : tie.Need-returns-38
+returns-38 c = rw (c .before .enum-told38 .given .1)
+
+returns-39 : tie.Need-returns-39
+returns-39 c = rw (c .before .before .before .enum-told39 .given .1, c .frame-with .ensures)
 
 pub with-field-spec : {M : Type 1} → statement M
 with-field-spec =
@@ -294,10 +315,14 @@ with-field-spec =
     enum-told-30
     enum-told-31
     enum-told-32
+    marks-with-requires
     enum-told-33
     enum-told-34
     enum-told-35
     enum-told-36
+    enum-told-37
+    enum-told-38
+    enum-told-39
     frame-with-requires
     returns
     returns-2
@@ -334,4 +359,7 @@ with-field-spec =
     returns-33
     returns-34
     returns-35
-    returns-36)
+    returns-36
+    returns-37
+    returns-38
+    returns-39)

@@ -27,20 +27,28 @@ buzzer-in-range-requires c κs = tt
 backlight-in-range-requires : tie.Need-backlight-in-range-requires
 backlight-in-range-requires c κs = tt
 
+contrast-in-range-requires : tie.Need-contrast-in-range-requires
+contrast-in-range-requires c κs = tt
+
+inverse-in-range-requires : tie.Need-inverse-in-range-requires
+inverse-in-range-requires c κs = tt
+
 held-in-range-requires : tie.Need-held-in-range-requires
 held-in-range-requires c κs = tt
 
 returns : tie.Need-returns
 returns c =
     λ i.
-    c .before .before .before .before .before .before .before .before .mode-in-range .ensures i
-    && c .before .before .before .before .before .before .before .overlay-in-range .ensures i
-    && c .before .before .before .before .before .before .cursor-in-range .ensures i
-    && c .before .before .before .before .before .icons-in-range .ensures i
-    && c .before .before .before .before .volume-in-range .ensures i
-    && c .before .before .before .times-in-range .ensures i
-    && c .before .before .buzzer-in-range .ensures i
-    && c .before .backlight-in-range .ensures i
+    c .before .before .before .before .before .before .before .before .before .before .mode-in-range .ensures i
+    && c .before .before .before .before .before .before .before .before .before .overlay-in-range .ensures i
+    && c .before .before .before .before .before .before .before .before .cursor-in-range .ensures i
+    && c .before .before .before .before .before .before .before .icons-in-range .ensures i
+    && c .before .before .before .before .before .before .volume-in-range .ensures i
+    && c .before .before .before .before .before .times-in-range .ensures i
+    && c .before .before .before .before .buzzer-in-range .ensures i
+    && c .before .before .before .backlight-in-range .ensures i
+    && c .before .before .contrast-in-range .ensures i
+    && c .before .inverse-in-range .ensures i
     && c .held-in-range .ensures i
 
 pub small-in-range-spec : {M : Type 1} → statement M
@@ -55,5 +63,7 @@ small-in-range-spec =
     times-in-range-requires
     buzzer-in-range-requires
     backlight-in-range-requires
+    contrast-in-range-requires
+    inverse-in-range-requires
     held-in-range-requires
     returns)

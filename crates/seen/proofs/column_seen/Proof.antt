@@ -45,16 +45,22 @@ shown-at-requires c κs =
 bar-at-place-requires : tie.Need-bar-at-place-requires
 bar-at-place-requires c κs = search needs
 
+inverse-at-requires : tie.Need-inverse-at-requires
+inverse-at-requires c κs =
+    let told = c .before .before .before .before .before .before .args in
+    rw (c .before .before .owner-of .ensures) (owner-placed (told .r .settings .screen) (told .row) (told .column) (within (told .row) (told .column) (c .before .before .before .if2 .left) .0))
+
 returns-3 : tie.Need-returns-3
 unfolding columnSeen
 returns-3 c =
     rw (
-      ← c .before .before .before .before .before .in-range .ensures,
-      c .before .before .before .before .if1 .left,
-      c .before .before .before .if2 .left,
-      c .bar-at-place .ensures,
-      c .before .shown-at .ensures,
-      c .before .before .owner-of .ensures,
+      ← c .before .before .before .before .before .before .in-range .ensures,
+      c .before .before .before .before .before .if1 .left,
+      c .before .before .before .before .if2 .left,
+      c .inverse-at .ensures,
+      c .before .bar-at-place .ensures,
+      c .before .before .shown-at .ensures,
+      c .before .before .before .owner-of .ensures,
     )
 
 pub column-seen-spec : {M : Type 1} → statement M
@@ -69,4 +75,5 @@ column-seen-spec =
     owner-of-requires
     shown-at-requires
     bar-at-place-requires
+    inverse-at-requires
     returns-3)

@@ -24,6 +24,9 @@ enum-known-owner c = search needs
 text-row-requires : tie.Need-text-row-requires
 text-row-requires c κs = ltb-true _ _ (rw (c .before .before .before .owner .given .1) at (c .before .before .before .before .before .before .pre .0))
 
+mark-of-requires : tie.Need-mark-of-requires
+mark-of-requires c κs = ltb-true _ _ (rw (c .before .before .before .before .before .owner .given .1) at (c .before .before .before .before .before .before .before .before .pre .0))
+
 enum-known-owner-2 : tie.Need-enum-known-owner-2
 enum-known-owner-2 c = search needs
 
@@ -64,7 +67,7 @@ returns-2 c = rw (c .before .before .before .before .before .enum-told2 .given .
 
 returns-3 : tie.Need-returns-3
 unfolding contents
-returns-3 c = rw (c .before .before .before .before .before .before .before .owner .given .1, c .before .before .before .before .before .before .before .before .before .nothing-seen .ensures, c .before .before .before .text-row .ensures)
+returns-3 c = rw (c .before .before .before .before .before .before .before .before .before .owner .given .1, c .before .before .before .before .before .before .before .before .before .before .before .nothing-seen .ensures, c .before .before .before .before .before .text-row .ensures, ← c .before .before .before .mark-of .ensures)
 
 returns-4 : tie.Need-returns-4
 unfolding contents
@@ -96,6 +99,7 @@ contents-of-spec =
     bar-of-requires
     enum-known-owner
     text-row-requires
+    mark-of-requires
     enum-known-owner-2
     picture-row-requires
     enum-told-3

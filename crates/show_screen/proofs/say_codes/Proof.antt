@@ -5,10 +5,10 @@ use Rattle.show_screen.proofs.say_codes.Statement.{statement}
 use Rattle.show_screen.proofs.say_codes.Tie as tie
 
 abbrev Inv-loop : tie.InvT-loop
-Inv-loop codes n i₀ i = i ≤ n
+Inv-loop codes n left right i₀ i = i ≤ n
 
 abbrev μ-loop : tie.MeasureT-loop
-μ-loop codes n i₀ i = n - i
+μ-loop codes n left right i₀ i = n - i
 
 loop-holds : tie.Need-loop-holds Inv-loop μ-loop
 loop-holds c = search needs

@@ -1,14 +1,15 @@
 -- `stream::read` keeps its promise. Assumes nothing.
-use mathlib.Core.Path.{_≡_, refl, sym, _∙_}
+use mathlib.Core.Path.{_≡_, refl, sym, ap, _∙_}
 use native.Mathlib.Omega.{arith}
 use lib.ListN.{length}
 use lib.Seq.{length-take-le}
 use Prim.Native.Nat.{_-_}
 use Rattle.parting.specs.Reading.{step}
 use Rattle.turns.specs.Loop.{go-start, go-end}
-use Rattle.stream.specs.Stream.{handset, standing}
-use Rattle.stream.specs.Turns.{Going, go-quiet, go-loud, go-halt, same-core, fits-none, fits-more, fits-open, turn-open, turn-skip, loud-esc, turn-good, loud-bad, range-bad, turn-collect, turn-over, turn-lost, in-place}
-use Rattle.stream_places.specs.Places.{asked-once}
+use Rattle.answer.specs.declared.Answer.the-variants.{QuestionMark}
+use Rattle.stream.specs.Stream.{handset, standing, answerFrom}
+use Rattle.stream.specs.Turns.{Going, go-quiet, go-loud, go-halt, same-core, fits-none, fits-more, fits-open, turn-open, turn-skip, loud-esc, turn-quiet, loud-return, range-loud, turn-collect, turn-over, turn-lost, in-place}
+use Rattle.answer.specs.Laws.{answer-not-empty, room-stays}
 use borrow.Author.Needs.{needs}
 use Rattle.stream.proofs.read.Statement.{statement}
 use Rattle.stream.proofs.read.Tie as tie
@@ -62,8 +63,8 @@ loop-again-3 : tie.Need-loop-again-3 Inv-loop μ-loop
 loop-again-3 c = let v = c .before .before .before .before .before .loop in
     go-quiet (v .inv) (omega arith) (v .inv .range) (v .inv .fits) (turn-skip (v .settings) (v .text) (v .picture) (v .state) (v .len) (v .frame) _ (c .before .before .if1 .taken) (c .before .if2 .left) (c .if3 .left))
 
-ask-requires : tie.Need-ask-requires Inv-loop μ-loop
-ask-requires c κs = search needs
+say-requires : tie.Need-say-requires Inv-loop μ-loop
+say-requires c κs = search needs
 
 add-i-3 : tie.Need-add-i-3 Inv-loop μ-loop
 add-i-3 c = search needs
@@ -73,17 +74,18 @@ loop-less-4 c = search needs
 
 loop-again-4 : tie.Need-loop-again-4 Inv-loop μ-loop
 loop-again-4 c = let v = c .before .before .before .before .before .before .before .before .before .loop in
-    go-loud (v .inv) (let t = c .before .before .before .before .before .before .before .before .loop-test in omega arith) (v .inv .range) (fits-none 1 (v .frame) (omega arith) (v .inv .fits .full)) (loud-esc (v .settings) (v .text) (v .picture) (v .state) (v .len) (v .frame) _ (c .before .before .before .before .before .before .if1 .left) (c .before .before .before .before .before .if4 .taken)) (c .before .before .before .before .if5 .taken) (asked-once (v .answers) (v .w) (c .before .before .before .before .if5 .taken) (c .before .before .ask .ensures))
+    go-loud (v .inv) (let t = c .before .before .before .before .before .before .before .before .loop-test in omega arith) (v .inv .range) (fits-none 1 (v .frame) (omega arith) (v .inv .fits .full)) (loud-esc (v .settings) (v .text) (v .picture) (v .state) (v .len) (v .frame) _ (c .before .before .before .before .before .before .if1 .left) (c .before .before .before .before .before .if4 .taken))
+    (c .before .before .before .say .ensures .0) (c .before .before .before .say .ensures .1) (c .if5 .taken)
 
 same-length : tie.Need-same-length Inv-loop μ-loop
-same-length c = c .before .before .before .before .before .loop .inv .fits .full ∙ sym (c .before .before .before .before .before .before .before .before .before .pre .fits .full)
+same-length c = c .before .before .before .before .before .before .before .before .before .loop .inv .fits .full ∙ sym (c .before .before .before .before .before .before .before .before .before .before .before .before .before .pre .fits .full)
 
 same-length-2 : tie.Need-same-length-2 Inv-loop μ-loop
-same-length-2 c = c .before .before .before .before .before .loop .inv .account .even
+same-length-2 c = let v = c .before .before .before .before .before .before .before .before .before .loop in ap length (c .before .before .before .say .ensures .1) ∙ room-stays (v .answers) (v .w) (answerFrom (v .settings) QuestionMark) ∙ v .inv .account .even
 
 returns : tie.Need-returns Inv-loop μ-loop
-returns c = let v = c .before .before .before .before .before .loop in
-    record { account = go-halt (v .inv) (omega arith) (loud-esc (v .settings) (v .text) (v .picture) (v .state) (v .len) (v .frame) _ (c .before .before .if1 .left) (c .before .if4 .taken)) (c .if5 .left); fits = v .inv .fits }
+returns c = let v = c .before .before .before .before .before .before .before .before .before .loop in
+    record { account = go-halt (v .inv) (let t = c .before .before .before .before .before .before .before .before .loop-test in omega arith) (loud-esc (v .settings) (v .text) (v .picture) (v .state) (v .len) (v .frame) _ (c .before .before .before .before .before .before .if1 .left) (c .before .before .before .before .before .if4 .taken)) (omega arith) (c .before .before .before .say .ensures .0) (c .before .before .before .say .ensures .1) (c .if5 .left); fits = v .inv .fits }
 
 slice-reshare-prefix-close : tie.Need-slice-reshare-prefix-close Inv-loop μ-loop
 slice-reshare-prefix-close c = let v = c .before .before .before .before .before .before .before .loop in omega (arith, v .inv .fits .full, v .inv .fits .short)
@@ -94,43 +96,48 @@ slice-aggregate-close c = let v = c .before .before .before .before .before .bef
 close-requires : tie.Need-close-requires Inv-loop μ-loop
 close-requires c κs = search needs
 
+is-silence-requires : tie.Need-is-silence-requires Inv-loop μ-loop
+is-silence-requires c κs = search needs
+
 add-i-4 : tie.Need-add-i-4 Inv-loop μ-loop
-add-i-4 c = let t = c .before .before .before .before .before .before .before .before .before .before .loop-test in let g = c .before .before .before .before .before .before .before .before .before .before .before .before .before .before .before .good .1 .1 .1 .1 .1 .1 .0 .0 in record { fits = omega arith }
+add-i-4 c = let t = c .before .before .before .before .before .before .before .before .before .before .before .loop-test in let g = c .before .before .before .before .before .before .before .before .before .before .before .before .before .before .before .before .good .1 .1 .1 .1 .1 .1 .0 .0 in record { fits = omega arith }
 
 loop-less-5 : tie.Need-loop-less-5 Inv-loop μ-loop
 loop-less-5 c = search needs
 
 loop-again-5 : tie.Need-loop-again-5 Inv-loop μ-loop
-loop-again-5 c = let v = c .before .before .before .before .before .before .before .before .before .before .before .loop in
-    let k = c .before .before .close .ensures in
-    go-quiet (v .inv) (let t = c .before .before .before .before .before .before .before .before .before .before .loop-test in omega arith) (k .range (v .inv .range)) (fits-none 0 (v .frame) (omega arith) (v .inv .fits .full))
-    (turn-good (v .settings) (v .text) (v .picture) (v .state) (v .len) (v .frame) _ (c .before .before .before .before .before .before .before .before .if1 .left) (c .before .before .before .before .before .before .if6 .taken) k (c .before .if7 .taken))
+loop-again-5 c = let v = c .before .before .before .before .before .before .before .before .before .before .before .before .loop in
+    let k = c .before .before .before .close .ensures in
+    go-quiet (v .inv) (let t = c .before .before .before .before .before .before .before .before .before .before .before .loop-test in omega arith) (k .range (v .inv .range)) (fits-none 0 (v .frame) (omega arith) (v .inv .fits .full))
+    (turn-quiet (v .settings) (v .text) (v .picture) (v .state) (v .len) (v .frame) _ (c .before .before .before .before .before .before .before .before .before .if1 .left) (c .before .before .before .before .before .before .before .if6 .taken) k (sym (c .before .before .is-silence .ensures) ∙ c .before .if7 .taken))
 
-ask-requires-2 : tie.Need-ask-requires-2 Inv-loop μ-loop
-ask-requires-2 c κs = search needs
+say-requires-2 : tie.Need-say-requires-2 Inv-loop μ-loop
+say-requires-2 c κs = search needs
 
 add-i-5 : tie.Need-add-i-5 Inv-loop μ-loop
-add-i-5 c = let t = c .before .before .before .before .before .before .before .before .before .before .before .before .before .before .loop-test in let g = c .before .before .before .before .before .before .before .before .before .before .before .before .before .before .before .before .before .before .before .good .1 .1 .1 .1 .1 .1 .0 .0 in record { fits = omega arith }
+add-i-5 c = let t = c .before .before .before .before .before .before .before .before .before .before .before .before .before .before .before .loop-test in let g = c .before .before .before .before .before .before .before .before .before .before .before .before .before .before .before .before .before .before .before .before .good .1 .1 .1 .1 .1 .1 .0 .0 in record { fits = omega arith }
 
 loop-less-6 : tie.Need-loop-less-6 Inv-loop μ-loop
 loop-less-6 c = search needs
 
 loop-again-6 : tie.Need-loop-again-6 Inv-loop μ-loop
-loop-again-6 c = let v = c .before .before .before .before .before .before .before .before .before .before .before .before .before .before .before .loop in
-    let k = c .before .before .before .before .before .before .close .ensures in
-    go-loud (v .inv) (let t = c .before .before .before .before .before .before .before .before .before .before .before .before .before .before .loop-test in omega arith) (range-bad (v .settings) (v .text) (v .picture) (v .state) (v .len) (v .frame) _ (c .before .before .before .before .before .before .before .before .before .before .before .before .if1 .left) (c .before .before .before .before .before .before .before .before .before .before .if6 .taken) k (c .before .before .before .before .before .if7 .left) (v .inv .range)) (fits-none 0 (v .frame) (omega arith) (v .inv .fits .full))
-    (loud-bad (v .settings) (v .text) (v .picture) (v .state) (v .len) (v .frame) _ (c .before .before .before .before .before .before .before .before .before .before .before .before .if1 .left) (c .before .before .before .before .before .before .before .before .before .before .if6 .taken) k (c .before .before .before .before .before .if7 .left)) (c .before .before .before .before .if8 .taken) (asked-once (v .answers) (v .w) (c .before .before .before .before .if8 .taken) (c .before .before .ask2 .ensures))
+loop-again-6 c = let v = c .before .before .before .before .before .before .before .before .before .before .before .before .before .before .before .before .loop in
+    let k = c .before .before .before .before .before .before .before .close .ensures in
+    let loud = sym (c .before .before .before .before .before .before .is-silence .ensures) ∙ c .before .before .before .before .before .if7 .left in
+    go-loud (v .inv) (let t = c .before .before .before .before .before .before .before .before .before .before .before .before .before .before .before .loop-test in omega arith) (range-loud (v .settings) (v .text) (v .picture) (v .state) (v .len) (v .frame) _ (c .before .before .before .before .before .before .before .before .before .before .before .before .before .if1 .left) (c .before .before .before .before .before .before .before .before .before .before .before .if6 .taken) k loud (v .inv .range)) (fits-none 0 (v .frame) (omega arith) (v .inv .fits .full))
+    (loud-return (v .settings) (v .text) (v .picture) (v .state) (v .len) (v .frame) _ (c .before .before .before .before .before .before .before .before .before .before .before .before .before .if1 .left) (c .before .before .before .before .before .before .before .before .before .before .before .if6 .taken) k loud) (c .before .before .before .say2 .ensures .0) (c .before .before .before .say2 .ensures .1) (c .if8 .taken)
 
 same-length-3 : tie.Need-same-length-3 Inv-loop μ-loop
-same-length-3 c = c .before .before .before .before .before .before .before .before .before .before .before .loop .inv .fits .full ∙ sym (c .before .before .before .before .before .before .before .before .before .before .before .before .before .before .before .pre .fits .full)
+same-length-3 c = c .before .before .before .before .before .before .before .before .before .before .before .before .before .before .before .before .loop .inv .fits .full ∙ sym (c .before .before .before .before .before .before .before .before .before .before .before .before .before .before .before .before .before .before .before .before .pre .fits .full)
 
 same-length-4 : tie.Need-same-length-4 Inv-loop μ-loop
-same-length-4 c = c .before .before .before .before .before .before .before .before .before .before .before .loop .inv .account .even
+same-length-4 c = let v = c .before .before .before .before .before .before .before .before .before .before .before .before .before .before .before .before .loop in ap length (c .before .before .before .say2 .ensures .1) ∙ room-stays (v .answers) (v .w) (answerFrom (v .settings) (c .before .before .before .before .before .before .before .close .result .answer)) ∙ v .inv .account .even
 
 returns-2 : tie.Need-returns-2 Inv-loop μ-loop
-returns-2 c = let v = c .before .before .before .before .before .before .before .before .before .before .before .loop in
-    let k = c .before .before .close .ensures in
-    record { account = same-core (k .keeps (c .before .if7 .left)) (go-halt (v .inv) (let t = c .before .before .before .before .before .before .before .before .before .before .loop-test in omega arith) (loud-bad (v .settings) (v .text) (v .picture) (v .state) (v .len) (v .frame) _ (c .before .before .before .before .before .before .before .before .if1 .left) (c .before .before .before .before .before .before .if6 .taken) k (c .before .if7 .left)) (c .if8 .left)); fits = v .inv .fits }
+returns-2 c = let v = c .before .before .before .before .before .before .before .before .before .before .before .before .before .before .before .before .loop in
+    let k = c .before .before .before .before .before .before .before .close .ensures in
+    let loud = sym (c .before .before .before .before .before .before .is-silence .ensures) ∙ c .before .before .before .before .before .if7 .left in
+    record { account = same-core (k .keeps loud) (go-halt (v .inv) (let t = c .before .before .before .before .before .before .before .before .before .before .before .before .before .before .before .loop-test in omega arith) (loud-return (v .settings) (v .text) (v .picture) (v .state) (v .len) (v .frame) _ (c .before .before .before .before .before .before .before .before .before .before .before .before .before .if1 .left) (c .before .before .before .before .before .before .before .before .before .before .before .if6 .taken) k loud) (answer-not-empty (v .settings .contrast) (v .settings .hook) (c .before .before .before .before .before .before .before .close .result .answer) loud) (c .before .before .before .say2 .ensures .0) (c .before .before .before .say2 .ensures .1) (c .if8 .left)); fits = v .inv .fits }
 
 add-i-6 : tie.Need-add-i-6 Inv-loop μ-loop
 add-i-6 c = search needs
@@ -200,7 +207,7 @@ read-spec =
     add-i-2
     loop-less-3
     loop-again-3
-    ask-requires
+    say-requires
     add-i-3
     loop-less-4
     loop-again-4
@@ -210,10 +217,11 @@ read-spec =
     slice-reshare-prefix-close
     slice-aggregate-close
     close-requires
+    is-silence-requires
     add-i-4
     loop-less-5
     loop-again-5
-    ask-requires-2
+    say-requires-2
     add-i-5
     loop-less-6
     loop-again-6

@@ -3,7 +3,7 @@ use Prim.Native.Nat.{_-_}
 use native.Mathlib.Omega.{arith}
 use mathlib.Core.Path.{ap}
 use lib.ListN.{length}
-use Rattle.stream.specs.declared.Fed.{Fed}
+use Rattle.stream_input.specs.declared.Call.{Call}
 use Rattle.stream_input.specs.Laws.{SoFar, begins, progress, further, ends}
 use borrow.Author.Needs.{needs}
 use Rattle.stream_input.proofs.hear_piece.Statement.{statement}
@@ -32,31 +32,31 @@ one-call-requires c κs = search needs
 
 returns : tie.Need-returns Inv-loop μ-loop
 returns c =
-    let v = c .before .before .before .before .before .loop .inv in
-    let used = ap (λ (f : Fed). f .used) (c .before .before .one-call .ensures) in
-    (λ h. absurd (omega (arith, progress v h (c .before .before .before .before .loop-test .taken), used, c .if1 .taken)), (v .none, λ i. omega (arith, c .before .before .before .before .before .before .shared-slice-known .given i)))
+    let v = c .before .before .before .before .before .before .loop .inv in
+    let used = ap (λ (call : Call). call .fed .used) (c .before .before .before .one-call .ensures) in
+    (λ h. absurd (omega (arith, progress v h (c .before .before .before .before .before .loop-test .taken), used, c .if1 .taken)), (v .none, λ i. omega (arith, c .before .before .before .before .before .before .before .shared-slice-known .given i)))
 
 more-requires : tie.Need-more-requires Inv-loop μ-loop
 more-requires c κs = search needs
 
 add-at : tie.Need-add-at Inv-loop μ-loop
 add-at c =
-    let v = c .before .before .before .before .before .before .before .before .loop .inv in
-    let call = c .before .before .before .before .before .one-call in
+    let v = c .before .before .before .before .before .before .before .before .before .loop .inv in
+    let call = c .before .before .before .before .before .before .one-call in
     let next = further v (call .result) (call .ensures) (c .before .before .before .if1 .left) in
-    record { fits = omega (arith, next .within, c .before .before .before .before .before .before .before .before .before .before .good .1 .0) }
+    record { fits = omega (arith, next .within, c .before .before .before .before .before .before .before .before .before .before .before .good .1 .0) }
 
 loop-less : tie.Need-loop-less Inv-loop μ-loop
 loop-less c =
-    let v = c .before .before .before .before .before .before .before .before .loop .inv in
-    let call = c .before .before .before .before .before .one-call in
+    let v = c .before .before .before .before .before .before .before .before .before .loop .inv in
+    let call = c .before .before .before .before .before .before .one-call in
     let next = further v (call .result) (call .ensures) (c .before .before .before .if1 .left) in
     omega (arith, next .within)
 
 loop-again : tie.Need-loop-again Inv-loop μ-loop
 loop-again c =
-    let v = c .before .before .before .before .before .before .before .before .loop .inv in
-    let call = c .before .before .before .before .before .one-call in
+    let v = c .before .before .before .before .before .before .before .before .before .loop .inv in
+    let call = c .before .before .before .before .before .before .one-call in
     rw (c .before .more .ensures) (further v (call .result) (call .ensures) (c .before .before .before .if1 .left))
 
 returns-2 : tie.Need-returns-2 Inv-loop μ-loop

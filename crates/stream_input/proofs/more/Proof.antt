@@ -13,7 +13,7 @@ sub-if1 c = search needs
 returns : tie.Need-returns
 returns c =
     let a = c .before .args in
-    let replies : greatest ≡ capped (a .heard .replies + a .written) = omega arith in
+    let replies : greatest ≡ capped (a .heard .replies + a .answered) = omega arith in
     λ j. record { «record» = a .after; replies = replies j; failed = a .heard .failed }
 
 add-t6 : tie.Need-add-t6
@@ -22,7 +22,7 @@ add-t6 c = search needs
 returns-2 : tie.Need-returns-2
 returns-2 c =
     let a = c .before .args in
-    let replies : a .heard .replies + a .written ≡ capped (a .heard .replies + a .written) = omega arith in
+    let replies : a .heard .replies + a .answered ≡ capped (a .heard .replies + a .answered) = omega arith in
     λ j. record { «record» = a .after; replies = replies j; failed = a .heard .failed }
 
 pub more-spec : {M : Type 1} → statement M

@@ -1,0 +1,93 @@
+-- A frame that is answered changes nothing: a bad one, and a question. Assumes nothing.
+use mathlib.Core.Bool.{true, false, true≢false}
+use mathlib.Core.Option.{Option, none, some}
+use mathlib.Core.Path.{_≡_, refl, sym, ap}
+use mathlib.Core.Logic.{_⊎_, inl, inr, ⊎-elim}
+use Rattle.lists.specs.Tests.{by-test}
+use Rattle.answer.specs.Answers.{isSilence}
+use Rattle.answer.specs.declared.Answer.{Answer}
+use Rattle.answer.specs.declared.Answer.the-variants.{Silence, QuestionMark}
+use Rattle.answer.specs.declared.Answer.the-variants as Answers
+use Prim.Native.Nat.{ℕ}
+use Rattle.command.specs.InRange.{inRangeInMode}
+use Rattle.command.specs.Order.{Order, plain, label, draw}
+use Rattle.command.specs.declared.Command.{Command}
+use Rattle.command.specs.declared.Command.the-variants.{DisplayOff, DisplayOn, Mode, CursorShown, CursorHidden, Clear, Position, LabelsEmpty, IconS, IconU, IconF, IconR, IconP, IconW, Private, Handsfree, HandsfreeOfNote, Mute, KeyTimes, Buzzer, Light, LightOn, LightAutoStart, LightAuto, DefaultDuration, KeypadSet, KeypadCleared, Contrast, ContrastAsked, HookAsked, VersionAsked, ClearLine, Inverse}
+use Rattle.effect.specs.Core.{Core}
+use Rattle.effect.specs.Effect.{carryOut}
+use Rattle.effect.specs.Obey.{obeyOrder, answerFor, answerTo}
+
+-- one of the three questions
+abbrev pub OneQuestion : Command → Type 0
+OneQuestion command = (command ≡ ContrastAsked) ⊎ (command ≡ HookAsked) ⊎ (command ≡ VersionAsked)
+
+-- Only these are answered.
+questions : (command : Command) → isSilence (answerFor command) ≡ false → OneQuestion command
+questions DisplayOff h = absurd (true≢false h)
+questions DisplayOn h = absurd (true≢false h)
+questions (Mode n) h = absurd (true≢false h)
+questions CursorShown h = absurd (true≢false h)
+questions CursorHidden h = absurd (true≢false h)
+questions Clear h = absurd (true≢false h)
+questions (Position row column) h = absurd (true≢false h)
+questions LabelsEmpty h = absurd (true≢false h)
+questions (IconS n) h = absurd (true≢false h)
+questions (IconU n) h = absurd (true≢false h)
+questions (IconF n) h = absurd (true≢false h)
+questions (IconR n) h = absurd (true≢false h)
+questions (IconP n) h = absurd (true≢false h)
+questions (IconW n) h = absurd (true≢false h)
+questions (Private n) h = absurd (true≢false h)
+questions (Handsfree n) h = absurd (true≢false h)
+questions (HandsfreeOfNote n) h = absurd (true≢false h)
+questions (Mute n) h = absurd (true≢false h)
+questions (KeyTimes time1 time2) h = absurd (true≢false h)
+questions (Buzzer n) h = absurd (true≢false h)
+questions (Light n) h = absurd (true≢false h)
+questions LightOn h = absurd (true≢false h)
+questions LightAutoStart h = absurd (true≢false h)
+questions LightAuto h = absurd (true≢false h)
+questions DefaultDuration h = absurd (true≢false h)
+questions KeypadSet h = absurd (true≢false h)
+questions KeypadCleared h = absurd (true≢false h)
+questions (Contrast n) h = absurd (true≢false h)
+questions ContrastAsked h = inl refl
+questions HookAsked h = inr (inl refl)
+questions VersionAsked h = inr (inr refl)
+questions ClearLine h = absurd (true≢false h)
+questions (Inverse n) h = absurd (true≢false h)
+
+-- A QUESTION CHANGES NOTHING,
+pub question-same : (command : Command) (c : Core) → isSilence (answerFor command) ≡ false → carryOut (plain command) c ≡ c
+unfolding carryOut
+question-same command c h =
+    ⊎-elim (λ e. rw e) (⊎-elim (λ e. rw e) (λ e. rw e)) (questions command h)
+
+-- so whatever is answered has changed nothing,
+pub answered-same : (c : Core) (found : Option Order) → isSilence (answerTo found) ≡ false → obeyOrder c found ≡ c
+answered-same c none h = refl
+answered-same c (some (plain command)) h = question-same command c h
+answered-same c (some (label side codes)) h = absurd (true≢false h)
+answered-same c (some (draw row columns)) h = absurd (true≢false h)
+
+-- and no other frame of the grammar is answered.
+pub three-questions : (o : Order) (c : Core) → isSilence (answerTo (some o)) ≡ false → (o ≡ plain ContrastAsked) ⊎ (o ≡ plain HookAsked) ⊎ (o ≡ plain VersionAsked)
+three-questions (plain command) c h =
+    ⊎-elim (λ e. inl (ap plain e)) (⊎-elim (λ e. inr (inl (ap plain e))) (λ e. inr (inr (ap plain e)))) (questions command h)
+three-questions (label side codes) c h = absurd (true≢false h)
+three-questions (draw row columns) c h = absurd (true≢false h)
+
+-- A question has no number to be out of range: what is passed over is not answered.
+silence-of : (answer : Answer) → isSilence answer ≡ true → answer ≡ Silence
+silence-of Silence h = refl
+silence-of QuestionMark h = absurd (true≢false (sym h))
+silence-of Answers.Contrast h = absurd (true≢false (sym h))
+silence-of Answers.Hook h = absurd (true≢false (sym h))
+silence-of Answers.Version h = absurd (true≢false (sym h))
+
+pub passed-over-silent : (o : Order) (mode : ℕ) → inRangeInMode mode o ≡ false → answerTo (some o) ≡ Silence
+passed-over-silent (plain command) mode h =
+    by-test (isSilence (answerFor command)) (λ e. silence-of (answerFor command) e)
+    (λ e. ⊎-elim (λ q. absurd (true≢false (rw q at h))) (⊎-elim (λ q. absurd (true≢false (rw q at h))) (λ q. absurd (true≢false (rw q at h)))) (questions command e))
+passed-over-silent (label side codes) mode h = refl
+passed-over-silent (draw row columns) mode h = refl
