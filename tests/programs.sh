@@ -37,7 +37,7 @@ length=$(wc -c <$stream)
 
 # ./run: its own words
 names=$(cd crates && printf '%s\n' */src/main.rt | cut -d / -f 1)
-readers='drive list_screen show_screen write_frame'
+readers='count_room drive list_screen show_screen write_frame'
 without_progress() { # what was said on standard error, but for how far the proofs are, which a slow machine is told
     grep -Ev '^run: (proving|waiting)' "$work/err"
 }
@@ -90,6 +90,8 @@ ends "./run list_screen FILE" 0 '' ./run list_screen $stream
 same "./run list_screen FILE prints the fields" crates/list_screen/stdout <"$work/out"
 ends "./run show_screen FILE" 0 '' ./run show_screen crates/show_screen/stdin
 same "./run show_screen FILE draws the screen" crates/show_screen/stdout <"$work/out"
+ends "./run count_room FILE" 0 '' ./run count_room crates/count_room/stdin
+same "./run count_room FILE prints the room" crates/count_room/stdout <"$work/out"
 ends "./run write_frame FILE" 0 '' ./run write_frame examples/menu.words
 same "./run write_frame FILE writes the frames" examples/menu.stream <"$work/out"
 ends "./run drive FILE" 0 '' ./run drive crates/drive/stdin
@@ -201,7 +203,7 @@ for tool in bash dirname rt; do ln -s "$(command -v $tool)" "$work/no_cargo/$too
 0 passed, 1 failed"
 
 # what is stored
-for name in list_screen write_frame show_screen; do
+for name in list_screen write_frame show_screen count_room; do
     ./run $name <crates/$name/stdin 2>/dev/null | same "./run $name writes what is stored" crates/$name/stdout
 done
 ./run jetty >"$work/jetty"
@@ -258,6 +260,27 @@ printf '\eIK1Keep' | program list_screen | same "list_screen: a frame left open 
 { printf '\eIK1'; head -c 300 /dev/zero | tr '\0' 'x'; } | program list_screen |
     same "list_screen: an overlong frame left open has no answer yet" "$work/power_on"
 { cat $stream; printf '\eIK1Older'; } | program list_screen | same "list_screen: an open tail leaves what was heard before it" $whole
+
+# count_room: its bound is the number of ESC bytes, and answers reach it
+program count_room </dev/null | says "count_room: empty input needs no room" "ROOM 0"
+printf 'no frame\r\n' | program count_room | says "count_room: text needs no room" "ROOM 0"
+printf '\e\e\r' | program count_room | says "count_room: ESC, ESC, CR" "ROOM 2"
+printf '\eIK1Keep\r\eIK1Ke' | program count_room | says "count_room: good frames and one left open are counted too" "ROOM 2"
+for ((at = 1; at <= length; at++)); do
+    tail -c +$at $stream | head -c 1
+    sleep 0.02
+done | program count_room | says "count_room: one byte at a time changes nothing" "ROOM $(tr -dc '\033' <$stream | wc -c)"
+for count in 0 1 2 4095 4096 4097 50000; do
+    { head -c $count /dev/zero | tr '\0' '\033'; printf '\r'; } >"$work/escapes"
+    program count_room "$work/escapes" | says "count_room: ESC $count times and CR" "ROOM $count"
+    program list_screen "$work/escapes" | head -n 1 | says "count_room: ESC $count times and CR reach the bound" "REPLIES $count"
+done
+head -c 5000000 /dev/zero | tr '\0' '\033' | program count_room | says "count_room: a long input" "ROOM 5000000"
+for counted in examples/*.stream; do
+    room=$(program count_room "$counted")
+    marks=$(program list_screen "$counted" | head -n 1)
+    [ "${marks#REPLIES }" -le "${room#ROOM }" ] && echo within || echo "$marks $room"
+done | sort -u | says "count_room: no example is answered more often" within
 
 # write_frame, and its frames read back
 cat >"$work/script" <<'WORDS'

@@ -3,7 +3,7 @@
 -- silence, and neither changes text, icon, label, picture or setting." Statements first; each call's own clause is told by these
 -- definitions. Assumes nothing.
 use Prim.Native.Nat.{ℕ, suc, _<_, _≤_}
-use mathlib.Core.Path.{_≡_, refl}
+use mathlib.Core.Path.{_≡_, refl, ap}
 use mathlib.Core.Bool.{Bool, true, false, cond, not, _||_}
 use mathlib.Core.List.{List, [], _∷_}
 use lib.Dec.{ltb}
@@ -30,6 +30,9 @@ use Rattle.seconds.specs.Seconds.{passed, lightPassed}
 use Rattle.seconds.specs.Laws.{second-done, second-refused, light-done, light-refused}
 use Rattle.hook.specs.Hook.{hooked}
 use Rattle.hook.specs.Laws.{hook-refused, hook-done}
+use Rattle.answer_room.specs.declared.RoomNeeded.{RoomNeeded}
+use Rattle.answer_room.specs.Needed.{roomNeeded}
+use Rattle.answer_room.specs.Laws.{room-refused, room-counted}
 use Rattle.seen_panels.specs.declared.Phase.{Phase}
 use Rattle.seen_panels.specs.declared.SmsPanel.the-variants as Sms
 use Rattle.seen_panels.specs.declared.VolumePanel.the-variants as Sound
@@ -70,6 +73,9 @@ pub record Demand1 : Type 0 where
   -- The hook call: 1 and the same record, else 0.
   pub hook-refuses : (r : Record) (on : Bool) → inRange r ≡ false → (paperNumber (hooked r on .number) ≡ 1) × (hooked r on .after ≡ r)
   pub hook-sets : (r : Record) (on : Bool) → inRange r ≡ true → paperNumber (hooked r on .number) ≡ 0
+  -- The count of the room that answers can need: 1 and nothing counted, else 0.
+  pub room-refuses : (r : Record) (bytes : List ℕ) → inRange r ≡ false → roomNeeded r bytes ≡ record { number = numbered 1; bytes = 0 }
+  pub room-counts : (r : Record) (bytes : List ℕ) → inRange r ≡ true → paperNumber (roomNeeded r bytes .number) ≡ 0
   -- The questions of what is seen: 1, then 4 for a row above 6, else 0; and where one is refused it tells nothing.
   pub row-number-is : (r : Record) (row : ℕ) (phase : Phase) → paperNumber (rowSeen r row phase .number) ≡ cond (not (inRange r)) 1 (cond (ltb 6 row) 4 0)
   pub row-refuses : (r : Record) (row : ℕ) (phase : Phase)
@@ -127,6 +133,8 @@ demand1 =
       light-passes = λ b h. light-done b h .0;
       hook-refuses = hook-refused;
       hook-sets = λ r on h. hook-done r on h .0;
+      room-refuses = room-refused;
+      room-counts = λ r bytes h. ap (λ (n : RoomNeeded). paperNumber (n .number)) (room-counted r bytes h);
       row-number-is = row-number;
       row-refuses = row-refused;
       column-number-is = column-number;

@@ -52,6 +52,7 @@ use Rattle.writer_ranges.specs.Fitting.{isLabel, isRow}
 use Rattle.writer.specs.Writing.{bodyOf, labelBody, rowBody}
 use Rattle.writer.specs.ReadBack.{AfterZero, command-reads-back, label-reads-back, command-written, label-written, row-written}
 use Rattle.demands.specs.HeldKeys.{HeldKeys, held-keys}
+use Rattle.demands.specs.Room.{AnswerRoom, answer-room}
 use Rattle.demands.specs.Frames.{said, answerOn, wholeFrame, withCore, closed-obeyed, good-whole}
 use Prim.Native.Char.{code}
 use mathlib.Core.Option.{some}
@@ -85,6 +86,9 @@ pub record Demand2 : Type 0 where
   pub version-answer : (c : Core) → answerOn c (plain VersionAsked) ≡ (escape ∷ ascii "&VHA209 V.01.01 11.07.2006") ++ carriageReturn ∷ lineFeed ∷ []
   pub no-other-answer : (o : Order) (c : Core) → isSilence (answerTo (some o)) ≡ false → (o ≡ plain ContrastAsked) ⊎ (o ≡ plain HookAsked) ⊎ (o ≡ plain VersionAsked)
   pub question-changes-nothing : (command : Command) (c : Core) → isSilence (answerFor command) ≡ false → carryOut (plain command) c ≡ c
+  -- How much room answers need (request T-09): where no frame is a question, a call writes at most as many question marks as ESC bytes
+  -- are offered, and one more if a frame was open. It is reached. Picture data takes at most two bytes per column.
+  pub room-for-answers : AnswerRoom
   -- A hook call sets the hook and nothing else.
   pub hook-set : (r : Record) (on : Bool) → inRange r ≡ true → hooked r on .after ≡ hung r on
   -- And no other effect. A field that document 01's table does not name for the order is as it was.
@@ -157,6 +161,7 @@ demand2 =
       version-answer = λ c. refl;
       no-other-answer = three-questions;
       question-changes-nothing = question-same;
+      room-for-answers = answer-room;
       hook-set = λ r on h. hook-done r on h .1;
       no-other = stays;
       no-other-row = other-rows-stay;

@@ -26,14 +26,14 @@ use Rattle.effect.specs.Questions.{passed-over-silent}
 use mathlib.Core.Option.{some}
 use Rattle.turns.specs.Taking.{Taken, silently}
 use Rattle.turns.specs.Room.{Ran, Stops, run-stops, only-one, room-for-all}
-use Rattle.parting.specs.Rules.{Body, closed, done, unfinished, then, Parting, ends, waits, goes-on, Frame, noFrame, keep, limit, inLimit, Stands, none-stands}
+use Rattle.parting.specs.Rules.{Body, closed, Parted, done, unfinished, then, Parting, ends, waits, goes-on, Frame, noFrame, keep, limit, inLimit, Stands, none-stands}
 use Rattle.parting.specs.Meaning.{Answered, State, with, close, act, taking}
 use Rattle.parting.specs.Reading.{step, reading}
 use Rattle.parting.specs.Stream.{stream}
 use Rattle.parting.specs.Room.{run}
 use Rattle.stream.specs.Stream.{handset, obeyFrame, keptFrame, frameIn, stateOf, recordOf, writtenOver}
 use Rattle.stream.specs.Frames.{body-of}
-use Rattle.stream.specs.Demand.{HandedBack, fedBack, ranBack, back-is-run, record-same}
+use Rattle.stream.specs.Demand.{HandedBack, fedBack, partsTaken, ranBack, back-is-run, record-same}
 use Rattle.writer.specs.Plain.{spells-within}
 
 -- THE PART ------------------------------------------------------------------------------------------------------------
@@ -83,6 +83,16 @@ module _ (c : Core) (frame : List ℕ) where
   closed-asked bad = by-test (inLimit frame) (λ e. rw (e, bad-frame frame .1 bad)) (λ e. rw e)
 
 -- THE CALL ------------------------------------------------------------------------------------------------------------
+
+-- With room for all answers a call uses all bytes and has taken all parts.
+pub all-taken : (r : Record) → inRange r ≡ true → {before : List ℕ} → Stands (stateOf r .frame) before → (bytes lent : List ℕ) {parted : Parted} → Parting (before ++ bytes) parted
+    → length (taking handset (coreOf r) parted .answers) ≤ length lent → fedBack r bytes lent ≡ partsTaken r parted (length bytes) lent
+all-taken r good stands bytes lent p fits =
+    let read = stream handset (stateOf r) bytes stands p in
+    let ran = room-for-all (step handset) (stateOf r) bytes (length lent) (subst (λ (t : Taken (State Core)). length (t .answers) ≤ length lent) (sym read) fits) in
+    back-is-run r bytes lent good
+    ∙ ap (λ (t : Ran (State Core)). ranBack (r .held) t lent) ran
+    ∙ ap (λ (t : Taken (State Core)). ranBack (r .held) (record { state = t .state; used = length bytes; answers = t .answers }) lent) read
 
 -- ESC, the frame, CR
 abbrev pub wholeFrame : List ℕ → List ℕ

@@ -25,17 +25,13 @@ use Rattle.effect.specs.Core.{Core, coreOf, onSettings}
 use Rattle.effect.specs.Effect.{effect, carryOut, storeText}
 use Rattle.answer.specs.Answers.{answerBytes}
 use Rattle.effect.specs.Obey.{obeyOrder, answerTo}
-use Rattle.turns.specs.Taking.{Taken}
-use Rattle.turns.specs.Room.{Ran, room-for-all}
 use Rattle.parting.specs.Rules.{Parted, Parting, Stands}
-use Rattle.parting.specs.Meaning.{Answered, State, with, taking}
+use Rattle.parting.specs.Meaning.{Answered, with, taking}
 use Rattle.parting.specs.Frames.{EachClosed}
 use Rattle.parting.specs.Alike.{AnsweredAlike, KeepsAgreeing, TakenAlike, alike}
-use Rattle.parting.specs.Reading.{step}
-use Rattle.parting.specs.Stream.{stream}
-use Rattle.parting.specs.Room.{run}
 use Rattle.stream.specs.Stream.{handset, obeyFrame, frameIn, stateOf}
-use Rattle.stream.specs.Demand.{HandedBack, fedBack, takenFrom, ranBack, back-is-run}
+use Rattle.stream.specs.Demand.{HandedBack, fedBack, takenFrom, partsTaken, ranBack}
+use Rattle.demands.specs.Frames.{all-taken}
 
 -- a record, and what a stream can change of it, with another Time2 and nothing else changed
 abbrev pub otherTime2 : ℕ → Record → Record
@@ -136,15 +132,8 @@ module _ (n : ℕ) where
 
   module _ (r : Record) (good : inRange r ≡ true) (good′ : inRange (otherTime2 n r) ≡ true) {before : List ℕ} (stands : Stands (stateOf r .frame) before)
       (bytes lent : List ℕ) {parted : Parted} (p : Parting (before ++ bytes) parted) where
-    -- With room for all answers a call has taken all parts.
-    took : (q : Record) → inRange q ≡ true → q .frame ≡ r .frame → length (taking handset (coreOf q) parted .answers) ≤ length lent
-        → fedBack q bytes lent ≡ (let t = taking handset (coreOf q) parted in ranBack (q .held) (record { state = t .state; used = length bytes; answers = t .answers }) lent)
-    took q in-range same fits =
-        let read = stream handset (stateOf q) bytes (subst (λ (f : KeptFrame). Stands (frameIn (f .state) (f .len) (f .bytes)) before) (sym same) stands) p in
-        let ran = room-for-all (step handset) (stateOf q) bytes (length lent) (subst (λ (t : Taken (State Core)). length (t .answers) ≤ length lent) (sym read) fits) in
-        back-is-run q bytes lent in-range
-        ∙ ap (λ (t : Ran (State Core)). ranBack (q .held) t lent) ran
-        ∙ ap (λ (t : Taken (State Core)). ranBack (q .held) (record { state = t .state; used = length bytes; answers = t .answers }) lent) read
+    took : (q : Record) → inRange q ≡ true → q .frame ≡ r .frame → length (taking handset (coreOf q) parted .answers) ≤ length lent → fedBack q bytes lent ≡ partsTaken q parted (length bytes) lent
+    took q in-range same fits = all-taken q in-range (subst (λ (f : KeptFrame). Stands (frameIn (f .state) (f .len) (f .bytes)) before) (sym same) stands) bytes lent p fits
 
     apart : EachClosed SetsNoTimes parted → length (takenFrom r parted .answers) ≤ length lent
         → (let back = fedBack r bytes lent in

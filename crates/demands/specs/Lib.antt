@@ -3,6 +3,7 @@ pub mod Demand1
 pub mod Demand2
 pub mod Demand3
 pub mod HeldKeys
+pub mod Room
 pub mod Tie
 pub mod Unique
 pub mod Table

@@ -27,6 +27,8 @@ use Rattle.hook.specs.Hook.{hooked}
 use Rattle.stream_places.specs.Places.{emptied}
 use Rattle.stream.specs.declared.Fed.{Fed}
 use Rattle.stream.specs.Stream.{together, lentOf, fedOf, answersAfter}
+use Rattle.parting.specs.Count.{escapes}
+use Rattle.answer_room.specs.Needed.{roomNeeded}
 use Rattle.lists.specs.Every.{every}
 use Rattle.key_entry.specs.Rules.{listed, keyed}
 use Rattle.key_log.specs.Log.{outcome, handedBack, bufferAfter}
@@ -107,6 +109,10 @@ use Rattle.stream_by_value.proofs.feed as Feed
 use Rattle.stream_by_value.proofs.feed.Reads as FeedReads
 use Rattle.measure.specs.Mark.{markOf}
 use Rattle.measure.specs.Calls.{fedInCalls, answersInCalls, goodOnes}
+use Rattle.answer_room.proofs.escapes_in as EscapesIn
+use Rattle.answer_room.proofs.escapes_in.Reads as EscapesInReads
+use Rattle.answer_room.proofs.room_needed as RoomNeededFor
+use Rattle.answer_room.proofs.room_needed.Reads as RoomNeededForReads
 use Rattle.measure.proofs.measure_one_call as OneCall
 use Rattle.measure.proofs.measure_one_call.Reads as OneCallReads
 use Rattle.measure.proofs.measure_short_calls as ShortCalls
@@ -322,6 +328,14 @@ pub feed-says : SaysBoth Feed.ended FeedReads.ensures
     (λ κs a q e. q ≡ fedOf (a .0) (now (a .1 .0)) (length (now (a .1 .1 .0))))
     (λ κs a q e. now (e .1 .1 .0) ≡ answersAfter (a .0) (now (a .1 .0)) (now (a .1 .1 .0)))
 feed-says κs a q e w = refl
+
+-- answer_room::escapes_in
+pub escapes-in-says : Says EscapesIn.ended EscapesInReads.ensures (λ κs a q e. q ≡ escapes (now (a .0)))
+escapes-in-says κs a q e w = refl
+
+-- answer_room::room_needed
+pub room-needed-says : Says RoomNeededFor.ended RoomNeededForReads.ensures (λ κs a q e. q ≡ roomNeeded (a .0) (now (a .1 .0)))
+room-needed-says κs a q e w = refl
 
 -- key_entry::all_listed
 pub all-listed-says : Says AllListed.ended AllListedReads.ensures (λ κs a q e. q ≡ every listed (now (a .0)))

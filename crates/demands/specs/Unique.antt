@@ -77,6 +77,10 @@ use Rattle.stream_by_value.proofs.whole as Whole
 use Rattle.stream_by_value.proofs.whole.Reads as WholeReads
 use Rattle.stream_by_value.proofs.feed as Feed
 use Rattle.stream_by_value.proofs.feed.Reads as FeedReads
+use Rattle.answer_room.proofs.escapes_in as EscapesIn
+use Rattle.answer_room.proofs.escapes_in.Reads as EscapesInReads
+use Rattle.answer_room.proofs.room_needed as RoomNeededFor
+use Rattle.answer_room.proofs.room_needed.Reads as RoomNeededForReads
 use Rattle.measure.proofs.measure_one_call as OneCall
 use Rattle.measure.proofs.measure_one_call.Reads as OneCallReads
 use Rattle.measure.proofs.measure_short_calls as ShortCalls
@@ -261,6 +265,14 @@ whole-one κs a q q′ e e′ p p′ = two-equal p p′
 -- stream_by_value::feed
 pub feed-one : OneEnd Feed.ended (List ℕ) FeedReads.Learnt (λ κs e. now (e .1 .1 .0))
 feed-one κs a q q′ e e′ p p′ = (two-equal (p .0) (p′ .0), two-equal (p .1) (p′ .1))
+
+-- answer_room::escapes_in
+pub escapes-in-one : OneResult EscapesIn.ended EscapesInReads.Learnt
+escapes-in-one κs a q q′ e e′ p p′ = two-equal p p′
+
+-- answer_room::room_needed
+pub room-needed-one : OneResult RoomNeededFor.ended RoomNeededForReads.Learnt
+room-needed-one κs a q q′ e e′ p p′ = two-equal p p′
 
 -- key_entry::all_listed
 pub all-listed-one : OneResult AllListed.ended AllListedReads.Learnt

@@ -12,6 +12,7 @@
 //   S FIELD PLACE VALUE         sets a place of a field to any value, in range or not; FIELD is one byte
 //   R                           whether the record is in range
 //   F ROOM BYTES                the stream call, with no bytes or more
+//   N BYTES                     the room that a stream call on these bytes can need
 //   K ROOM COUNT TICKS EDGES    the key log call; COUNT says how many ticks, a number each, and the rest are edges, a byte each.
 //                               There may be more of one than of the other
 //   C                           a second passes, on the record
@@ -35,6 +36,7 @@
 //   P, O and S       the letter and 00
 //   R                R 01 in range, R 00 not
 //   C and H          the letter and NUMBER
+//   N                N NUMBER BOUND, two bytes
 //   F, K, W, T, G    the letter NUMBER USED WRITTEN, USED 0 for the writers; then "buffer" and all that was lent, as it stands
 //                    after the call
 //   B                B NUMBER; then a line "backlight" as in the record
@@ -129,6 +131,8 @@ const LARGEST_BYTE: u16 = 255;
 
 // The bytes of the longest line: a room and the most of a stream.
 const MOST_BYTES: usize = 4098;
+
+const MOST_STREAM: usize = 4096;
 
 // Past every count of bytes.
 const NO_BYTES: usize = 0xFFFF_FFFF_FFFF_FFFF;
@@ -690,6 +694,7 @@ fn is_call(letter: u8, args: &[u8]) -> bool {
     match letter {
         b'S' => is_setting(args),
         b'F' => has_room(args, 2, MOST_BYTES),
+        b'N' => args.len() <= MOST_STREAM,
         b'K' => has_room(args, 4, MOST_BYTES) & is_log(args),
         b'Q' => (args.len() == 2) & (byte_at(args, 1) <= 1),
         b'U' => (args.len() == 3) & (byte_at(args, 2) <= 1),
@@ -792,6 +797,13 @@ fn range_call(r: Record) {
     say(b"R", &[record_ranges::in_range(r) as u8]);
 }
 
+fn room_call(r: Record, bytes: &[u8]) {
+    let needed = answer_room::room_needed(r, bytes);
+    let number = needed.number;
+    let n = record::paper_number(number);
+    say(b"N", &[n, high(needed.bytes), low(needed.bytes)]);
+}
+
 // The entry in place, on a copy.
 fn second_of(b: Backlight) -> LightPassed
     ensures { λ q. ⌜ q ≡ lightPassed b ⌝ }
@@ -868,6 +880,7 @@ fn writer_call(letter: u8, args: &[u8], buffer: &mut [u8]) {
 fn question(r: Record, letter: u8, args: &[u8], buffer: &mut [u8]) {
     match letter {
         b'R' => range_call(r),
+        b'N' => room_call(r, args),
         b'B' => light_call(r.settings.backlight),
         b'M' => say_sms(seen::sms_seen(r, phase_of(byte_at(args, 0)))),
         b'V' => say_volume(seen::volume_seen(r)),

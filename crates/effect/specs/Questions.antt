@@ -77,14 +77,15 @@ three-questions (plain command) c h =
 three-questions (label side codes) c h = absurd (true≢false h)
 three-questions (draw row columns) c h = absurd (true≢false h)
 
--- A question has no number to be out of range: what is passed over is not answered.
-silence-of : (answer : Answer) → isSilence answer ≡ true → answer ≡ Silence
+-- An answer that is no answer is silence.
+pub silence-of : (answer : Answer) → isSilence answer ≡ true → answer ≡ Silence
 silence-of Silence h = refl
 silence-of QuestionMark h = absurd (true≢false (sym h))
 silence-of Answers.Contrast h = absurd (true≢false (sym h))
 silence-of Answers.Hook h = absurd (true≢false (sym h))
 silence-of Answers.Version h = absurd (true≢false (sym h))
 
+-- A question has no number to be out of range: what is passed over is not answered.
 pub passed-over-silent : (o : Order) (mode : ℕ) → inRangeInMode mode o ≡ false → answerTo (some o) ≡ Silence
 passed-over-silent (plain command) mode h =
     by-test (isSilence (answerFor command)) (λ e. silence-of (answerFor command) e)

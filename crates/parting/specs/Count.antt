@@ -5,11 +5,11 @@ use mathlib.Core.Path.{_≡_, refl, ap}
 use mathlib.Core.Bool.{cond}
 use mathlib.Core.List.{List, [], _∷_, _++_}
 use lib.Dec.{eqb}
-use lib.ListN.{length, length-append, take, drop, take-append-drop}
+use lib.ListN.{length, length-append}
 use borrow.Author.Tests.{ne-eqb}
 use Rattle.lists.specs.Codes.{escape}
 use Rattle.lists.specs.Tests.{either-way}
-use Rattle.turns.specs.Room.{run-stops}
+use Rattle.turns.specs.Room.{answers-begin}
 use Rattle.parting.specs.Rules.{Body, empty, collect, Part, text, skipped, closed, abandoned, bytesOf, Parted, done, unfinished, then, Parting, ends, waits, goes-on, Frame, noFrame, openFrame, overlong, inLimit, Stands, none-stands, open-stands, overlong-stands}
 use Rattle.parting.specs.Meaning.{Answered, Meaning, State, Taken, close, act, taking}
 use Rattle.parting.specs.Reading.{step, reading}
@@ -100,16 +100,10 @@ module _ (M : Meaning) (These : List ℕ → Type 0) (one : OneAnswer M These) w
         stands-escapes standing,
       )
 
-  -- And so is a call, of the ESC bytes offered: the count can be made before the call.
+  -- And so is a call, by the stream that it is offered and whatever the room: the count can be made before the call.
   pub call-answers-at-most : (state : State (M .Core)) {before : List ℕ} (bytes : List ℕ) (room : ℕ) {parted : Parted} → Stands (state .frame) before
-      → Parting (before ++ take (run M state bytes room .used) bytes) parted → EachClosed These parted
+      → Parting (before ++ bytes) parted → EachClosed These parted
       → length (run M state bytes room .answers) ≤ waiting (state .frame) + escapes bytes
   call-answers-at-most state bytes room standing p t =
-      let n : ℕ = run M state bytes room .used in
-      omega (
-        arith,
-        ap (λ (x : Taken (M .Core)). length (x .answers)) (run-stops (step M) state bytes room .does),
-        answers-at-most state (take n bytes) standing p t,
-        escapes-append (take n bytes) (drop n bytes),
-        ap escapes (take-append-drop n bytes),
-      )
+      let begun = answers-begin (step M) state bytes room in
+      omega (arith, answers-at-most state bytes standing p t, ap length (begun .1), length-append (run M state bytes room .answers) (begun .0))

@@ -9,7 +9,7 @@ use mathlib.Core.Bool.{Bool, true, false, cond}
 use mathlib.Core.List.{List, [], _∷_, _++_, append-nil}
 use lib.Dec.{leb}
 use lib.Seq.{take-add, take-length}
-use lib.ListN.{length, length-append, length-drop, take, drop}
+use lib.ListN.{length, length-append, length-drop, take, drop, take-append-drop}
 use borrow.Author.Tests.{leb-true, leb-false}
 use Rattle.lists.specs.Tests.{either-way}
 use Rattle.turns.specs.Taking.{Taken, answering, reading, cut-anywhere, reading-keeps}
@@ -154,6 +154,17 @@ module _ {State Entry : Type 0} (step : State → Entry → Taken State) where
   room-for-all state entries room h =
       only-one (run-stops state entries room)
       (record { within = omega arith; does = ap (reading step state) (sym (take-length entries)); fits = h; stops = inl refl })
+
+  -- What a call answers is what the answers to all entries begin with.
+  pub answers-begin : (state : State) (entries : List Entry) (room : ℕ) → (rest : List ℕ) × (reading step state entries .answers ≡ run step state entries room .answers ++ rest)
+  answers-begin state entries room =
+      let n : ℕ = run step state entries room .used in
+      let rest : List ℕ = reading step (reading step state (take n entries) .state) (drop n entries) .answers in (
+        rest,
+        ap (λ (l : List Entry). reading step state l .answers) (sym (take-append-drop n entries))
+            ∙ ap (λ (t : Taken State). t .answers) (cut-anywhere step state (take n entries) (drop n entries))
+            ∙ ap (λ (t : Taken State). t .answers ++ rest) (sym (run-stops state entries room .does)),
+      )
 
   -- A fact of the state that every step keeps is kept by a call.
   pub run-keeps : (Fact : State → Type 0) → ((state : State) (entry : Entry) → Fact state → Fact (step state entry .state))

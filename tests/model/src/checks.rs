@@ -804,6 +804,38 @@ fn stop_for_room() {
 }
 
 #[test]
+fn bound_of_the_answers() {
+    let mut record = power_on();
+    for (bytes, bound) in [
+        (&b""[..], 0),
+        (b"\r", 0),
+        (b"text\r\n[0;1H\x1A\x1C\x9B", 0),
+        (b"\x1B", 1),
+        (b"\x1B\r", 1),
+        (b"\x1B\x1B\r", 2),
+        (b"\x1BID0\r\n\x1BIK1Keep\r\n", 2),
+        (b"\x1B&V\r", 1),
+        (&[ESC; 4096], 4096),
+    ] {
+        for (state, more) in [(0, 0), (1, 1), (2, 1)] {
+            record.frame.state = state;
+            assert_eq!(stream::bound(&record, bytes), (0, bound + more));
+        }
+    }
+    // An open frame that is empty, full and overlong.
+    record.frame.state = 0;
+    for count in [0, 1, 249, 250, 251, 300] {
+        let mut record = record.clone();
+        let bytes = [&[ESC][..], &vec![b'x'; count]].concat();
+        assert_eq!(feed(&mut record, &bytes), b"");
+        assert_eq!(stream::bound(&record, b""), (0, 1));
+        assert_eq!(stream::bound(&record, b"\r"), (0, 1));
+        assert_eq!(feed(&mut record, b"\r"), b"?");
+        assert_eq!(stream::bound(&record, b"\r"), (0, 0));
+    }
+}
+
+#[test]
 fn the_two_halves_of_a_label() {
     let mut record = power_on();
     feed(&mut record, b"\x1BIK1Keep\r\n");
@@ -1067,6 +1099,8 @@ fn refused(record: &Record) {
         keys::call(&mut after, &[1], &[0, 19], &mut room),
     ];
     assert_eq!(calls, [(1, 0, 0); 4]);
+    assert_eq!(stream::bound(&after, b""), (1, 0));
+    assert_eq!(stream::bound(&after, b"\x1B\x1B\r"), (1, 0));
     assert_eq!(script::second(&mut after), 1);
     for on in [true, false] {
         assert_eq!(script::hook(&mut after, on), 1);
@@ -1594,6 +1628,29 @@ fn script_lines() {
     ] {
         assert_eq!(ask(line), wanted, "{line}");
     }
+    // The bound: a question about the record, which is out of range here.
+    assert_eq!(ask("N"), "N 010000\n");
+    assert_eq!(ask("N 1B1B0D"), "N 010000\n");
+    ask("P");
+    for (line, wanted) in [
+        ("N", "N 000000\n"),
+        ("N ", "N 000000\n"),
+        ("N 0D", "N 000000\n"),
+        ("N 1b1B0D", "N 000002\n"),
+        ("N 012D1B", "N 000001\n"),
+        (&format!("N {}", "1B".repeat(4096)), "N 001000\n"),
+        (&format!("N {}", "1B".repeat(255)), "N 0000FF\n"),
+    ] {
+        assert_eq!(ask(line), wanted, "{line}");
+    }
+    ask("F 00001B51");
+    assert_eq!(ask("N 0D"), "N 000001\n");
+    assert_eq!(ask("N 1B0D"), "N 000002\n");
+    assert!(ask("F 0000").contains("\nframe 0101\nbytes 5100"));
+    ask(&format!("F 0000{}", "30".repeat(250)));
+    assert_eq!(ask("N"), "N 000001\n");
+    assert_eq!(ask(&format!("N {}", "1B".repeat(4096))), "N 001001\n");
+    assert!(ask("F 0000").contains("\nframe 0200\nbytes 0000"));
     let held = "K 000400030000007800F000FFFF";
     ask("O ");
     assert!(ask(held).starts_with("K 0000030002\nbuffer CCEC1118\n"));
@@ -1607,6 +1664,7 @@ fn script_lines() {
     for (head, byte, most) in [
         ("F 0000", "41", 4096),
         ("F 012C", "41", 0),
+        ("N ", "1B", 4096),
         ("K 00000400", "00", 2048 + 1024),
         ("K 00000000", "FF", 1024),
         ("K 00000001", "00", 2),
@@ -1628,6 +1686,14 @@ fn script_lines() {
     ask("P");
     for line in [
         &full("F 0000", "41", 4097),
+        &full("N ", "1B", 4097),
+        &full("N ", "41", 40_000),
+        "n 1B",
+        "N 1",
+        "N 1B1",
+        "N  1B",
+        "N1B",
+        "N 1B ",
         &full("K 00000400", "00", 2048 + 1025),
         &full("K 00000401", "00", 2050),
         &full("K 00000000", "FF", 1025),
@@ -1714,7 +1780,7 @@ fn lines_of_calls_read_back() {
 #[test]
 fn kinds_are_kept() {
     for kinds in [
-        "F", "PSRF", "O", "OK", "K", "W", "TG", "QUMV", "CB", "H", "FH", "SH",
+        "F", "PSRF", "O", "OK", "K", "W", "TG", "QUMV", "CB", "H", "FH", "SH", "N", "FN", "SN",
     ] {
         let calls = generate::calls(5, 300, kinds);
         assert_eq!(calls.len(), 300);

@@ -60,6 +60,7 @@ pub fn wanted() -> Vec<String> {
     }
     for (letter, numbers) in [
         ('F', &[0, 1][..]),
+        ('N', &[0, 1]),
         ('K', &[0, 1, 4, 5]),
         ('C', &[0, 1]),
         ('H', &[0, 1]),
@@ -77,7 +78,7 @@ pub fn wanted() -> Vec<String> {
     }
     for field in REFUSABLE {
         let name = FIELD_NAMES[usize::from(field)];
-        for letter in ['R', 'F', 'K', 'C', 'H', 'Q', 'U', 'M', 'V'] {
+        for letter in ['R', 'F', 'N', 'K', 'C', 'H', 'Q', 'U', 'M', 'V'] {
             names.push(format!("refused {letter} for {name} alone"));
         }
     }
@@ -114,6 +115,7 @@ pub fn wanted() -> Vec<String> {
     names.extend(wanted_columns());
     names.extend(wanted_large());
     names.extend(wanted_questions());
+    names.extend(wanted_bounds());
     names.extend(wanted_marks());
     for power in ["power-on", "former power-on"] {
         for before in ["from itself", "from the other", "in range", "out of range"] {
@@ -403,6 +405,78 @@ fn wanted_questions() -> Vec<String> {
     names
 }
 
+/// What is open when the bound is asked for, and what is offered.
+const FRAMES: [&str; 3] = ["no frame", "an open frame", "an overlong frame"];
+const OFFERED: [&str; 8] = [
+    "no bytes",
+    "4,096 bytes without ESC",
+    "bytes without ESC",
+    "4,096 ESC",
+    "ESC alone",
+    "one ESC",
+    "256 ESC or more",
+    "some ESC",
+];
+
+/// The room that answers can need.
+fn wanted_bounds() -> Vec<String> {
+    let mut names = vec![];
+    for frame in FRAMES {
+        for offered in OFFERED {
+            names.push(format!("bound with {frame} and {offered}"));
+        }
+        for offered in ["no bytes", "bytes without ESC", "ESC alone", "some ESC"] {
+            names.push(format!("refused N with {frame} and {offered}"));
+        }
+        for how in ["reached", "not reached", "passed by questions"] {
+            names.push(format!("bound {how} with {frame}"));
+        }
+        for byte in [0x1A, 0x1C, 0x0B, 0x3B, 0x5B, 0x9B, CR] {
+            names.push(format!("bound with {frame}, {byte:02X} and no ESC"));
+        }
+        for what in [
+            "the bound, all used",
+            "one less than the bound, all used",
+            "one less than the bound, stopped",
+        ] {
+            names.push(format!("room of {what}, with {frame}"));
+        }
+    }
+    for bound in [0, 1, 2, 3, 10, 254, 255, 256, 257, 4096, 4097] {
+        names.push(format!("bound {bound}"));
+    }
+    for name in [
+        "bound with an open frame of 250 bytes",
+        "room of the bound, stopped by a question",
+        "line N with 4097 bytes",
+        "line N with 32767 bytes",
+    ] {
+        names.push(name.to_string());
+    }
+    names
+}
+
+/// What is offered, as the list has it.
+fn offered(bytes: &[u8]) -> &'static str {
+    let escapes = bytes.iter().filter(|&&byte| byte == ESC).count();
+    OFFERED[match (bytes.len(), escapes) {
+        (0, _) => 0,
+        (4096, 0) => 1,
+        (_, 0) => 2,
+        (4096, 4096) => 3,
+        (length, escapes) if length == escapes => 4,
+        (_, 1) => 5,
+        (_, 256..) => 6,
+        _ => 7,
+    }]
+}
+
+/// What is open, as the list has it.
+fn frame_name(record: &Record) -> &'static str {
+    let state = usize::from(record.frame.state);
+    FRAMES.get(state).copied().unwrap_or("no state")
+}
+
 /// The marks, and the clearing of a line.
 fn wanted_marks() -> Vec<String> {
     let mut names = vec![];
@@ -557,7 +631,7 @@ impl Cover {
             Answer::InRange(yes) => Some(u8::from(*yes)),
             Answer::Counts { number, .. } | Answer::Written { number, .. } => Some(*number),
             Answer::Number(n) | Answer::Thin(n, _) | Answer::Row(n, _) => Some(*n),
-            Answer::Column(n, _) => Some(*n),
+            Answer::Column(n, _) | Answer::Bound(n, _) => Some(*n),
             Answer::Sms(n, _) | Answer::Volume(n, _, _) => Some(*n),
             Answer::Done | Answer::What | Answer::Silence => None,
         };
@@ -617,6 +691,9 @@ impl Cover {
                 },
             ) => {
                 self.see_stream(before, usize::from(*room), bytes, *used);
+            }
+            (Call::Bound { bytes }, Answer::Bound(number, bound)) => {
+                self.see_bound(before, bytes, *number, *bound);
             }
             (
                 Call::Keys { room, ticks, edges },
@@ -715,7 +792,49 @@ impl Cover {
         }
     }
 
+    fn see_bound(&mut self, before: &Record, bytes: &[u8], number: u8, bound: usize) {
+        let (frame, offered) = (frame_name(before), offered(bytes));
+        if number != 0 {
+            self.add(format!("refused N with {frame} and {offered}"));
+            return;
+        }
+        self.add(format!("bound with {frame} and {offered}"));
+        self.add(format!("bound {bound}"));
+        if !bytes.contains(&ESC) {
+            for byte in 0..=255 {
+                if bytes.contains(&byte) {
+                    self.add(format!("bound with {frame}, {byte:02X} and no ESC"));
+                }
+            }
+        }
+        if (before.frame.state, before.frame.length) == (1, 250) {
+            self.add("bound with an open frame of 250 bytes");
+        }
+        let answers = stream::answers(before, bytes);
+        let needed: usize = answers.iter().map(|(_, answer)| answer.len()).sum();
+        let how = match needed.cmp(&bound) {
+            std::cmp::Ordering::Less => "not reached",
+            std::cmp::Ordering::Equal => "reached",
+            std::cmp::Ordering::Greater => "passed by questions",
+        };
+        self.add(format!("bound {how} with {frame}"));
+    }
+
     fn see_stream(&mut self, before: &Record, room: usize, bytes: &[u8], used: usize) {
+        let (_, bound) = stream::bound(before, bytes);
+        let frame = frame_name(before);
+        let all = used == bytes.len();
+        match (bound.checked_sub(room), all) {
+            (Some(0), true) => self.add(format!("room of the bound, all used, with {frame}")),
+            (Some(0), false) => self.add("room of the bound, stopped by a question"),
+            (Some(1), _) => {
+                let how = if all { "all used" } else { "stopped" };
+                self.add(format!(
+                    "room of one less than the bound, {how}, with {frame}"
+                ));
+            }
+            _ => (),
+        }
         self.add(format!(
             "column {} in range in mode {}",
             before.column, before.mode
@@ -1214,6 +1333,7 @@ impl Cover {
         }
         match (letter, &bytes[..]) {
             (b'H', bytes) => self.add(format!("line H with {} bytes", bytes.len())),
+            (b'N', bytes) => self.add(format!("line N with {} bytes", bytes.len())),
             (b'W', &[_, _, number, _, _, _, _]) => {
                 self.add(format!("line W with command {number}"));
             }

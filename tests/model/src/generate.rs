@@ -11,7 +11,7 @@ use crate::seen::{layout, PHASES};
 use crate::{stream, writers};
 
 /// The letters of all calls; X stands for lines that can't be taken.
-pub const KINDS: &str = "POSRFKCHBQUMVWTGX";
+pub const KINDS: &str = "POSRFNKCHBQUMVWTGX";
 
 /// Values around the ends of the ranges.
 const EDGES: [u16; 47] = [
@@ -118,7 +118,8 @@ impl Generator {
     }
 
     fn episode(&mut self) {
-        match self.rng.below(132) {
+        match self.rng.below(138) {
+            132..=137 => self.bounds(),
             100..=107 => self.asking(),
             108..=113 => self.look_at_marks(),
             114..=120 => self.clear_line(),
@@ -238,12 +239,58 @@ impl Generator {
             _ => all,
         };
         let bytes = self.pending[..cut].to_vec();
-        let room = match near {
+        let mut room = match near {
             true => self.room_near(&bytes),
             false => self.room(),
         };
+        if self.rng.one_in(12) {
+            if let Some(bound) = self.bound_call(&bytes) {
+                room = self.rng.pick(&[room, bound.min(300)]);
+            }
+        }
         if let Some(Answer::Counts { used, .. }) = self.emit(Call::Stream { room, bytes }) {
             self.pending.drain(..used);
+        }
+    }
+
+    // The room that answers can need.
+
+    /// Asks for the bound; gives it, where there is one.
+    fn bound_call(&mut self, bytes: &[u8]) -> Option<u16> {
+        let bytes = bytes.to_vec();
+        match self.emit(Call::Bound { bytes }) {
+            Some(Answer::Bound(0, bound)) => Some(bound as u16),
+            _ => None,
+        }
+    }
+
+    /// No frame, an open or an overlong one, and bytes for which the bound is
+    /// asked. Then they are offered, often with a room about that bound.
+    fn bounds(&mut self) {
+        let long = self.rng.pick(&[249, 250, 251, 251, 251, 260]);
+        let opening = match self.rng.below(9) {
+            0 => vec![],
+            1 | 2 => vec![CR],
+            3 => vec![ESC],
+            4 => [&[ESC][..], &text_run(&mut self.rng)].concat(),
+            _ => [&[ESC][..], &vec![b'0'; long]].concat(),
+        };
+        if !opening.is_empty() {
+            let (room, bytes) = (30, opening);
+            self.emit(Call::Stream { room, bytes });
+        }
+        for _ in 0..self.rng.between(1, 4) {
+            let bytes = offered(&mut self.rng);
+            let Some(bound) = self.bound_call(&bytes) else {
+                continue;
+            };
+            if self.rng.one_in(3) {
+                let any = self.room();
+                let below = bound.saturating_sub(1);
+                let room = self.rng.pick(&[bound, bound, below, bound + 1, any]);
+                let room = room.min(300);
+                self.emit(Call::Stream { room, bytes });
+            }
         }
     }
 
@@ -1022,8 +1069,12 @@ impl Generator {
             touched.extend(self.spoil(field));
         }
         for _ in 0..self.rng.between(2, 6) {
-            match self.rng.below(14) {
+            match self.rng.below(16) {
                 12 | 13 => self.hook_call(),
+                14 | 15 => {
+                    let bytes = offered(&mut self.rng);
+                    self.bound_call(&bytes);
+                }
                 0 => {
                     self.emit(Call::InRange);
                 }
@@ -1726,6 +1777,44 @@ fn noise(rng: &mut Rng) -> Vec<u8> {
         .collect()
 }
 
+/// Bytes for which the bound is asked: many ESC, few or none.
+fn offered(rng: &mut Rng) -> Vec<u8> {
+    let count = rng.pick(&[1, 1, 2, 3, 10, 60, 253, 254, 255, 256, 257, 300]);
+    let pieces = rng.between(1, 5);
+    match rng.below(14) {
+        0 => vec![],
+        1 => vec![ESC; count],
+        2 => [&vec![ESC; count][..], &[CR]].concat(),
+        3 => b"\x1B\r".repeat(count),
+        // Signs that differ from ESC in a bit or by one, and no ESC.
+        4 => (0..count.min(60))
+            .map(|_| rng.pick(b"\x1A\x1C\x1F\x19\x13\x0B\x3B\x5B\x9B\x00\x0D\xFF"))
+            .collect(),
+        5 => text_run(rng),
+        6 => (0..rng.between(1, 200))
+            .map(|_| match rng.below(2) {
+                0 => ESC,
+                _ => rng.byte(),
+            })
+            .collect(),
+        7 => {
+            // As many bytes as a line takes.
+            let most = crate::script::BYTES;
+            match rng.below(6) {
+                0 => vec![ESC; most],
+                1 => [&vec![ESC; most - 1][..], &[CR]].concat(),
+                2 => vec![b'A'; most],
+                _ => vec![ESC],
+            }
+        }
+        8 => torn(rng),
+        9 => noise(rng),
+        10 => asked(rng, pieces),
+        11 => sender(rng, pieces),
+        _ => stream_of(rng, pieces),
+    }
+}
+
 /// Very short frames of the signs of the grammar.
 fn short_frame(rng: &mut Rng) -> Vec<u8> {
     let first = rng.pick(b"IIIII&[G");
@@ -1882,7 +1971,7 @@ fn sender(rng: &mut Rng, pieces: usize) -> Vec<u8> {
 
 /// A line that can't be taken, or an empty one.
 fn misfit(rng: &mut Rng) -> Vec<u8> {
-    const LINES: [&str; 71] = [
+    const LINES: [&str; 83] = [
         "",
         " ",
         "Z",
@@ -1934,6 +2023,18 @@ fn misfit(rng: &mut Rng) -> Vec<u8> {
         "f 000300",
         "F 0x0300",
         "F 0003-0",
+        "n",
+        "n 1B",
+        "N 1",
+        "N 1B0",
+        "N 1b1g",
+        "N  1B",
+        "N 1B ",
+        "N 1B 1B",
+        "N1B",
+        "N\t1B",
+        "N 0x1B",
+        "NN",
         "K",
         "K 0003",
         "K 000300",
@@ -1956,8 +2057,13 @@ fn misfit(rng: &mut Rng) -> Vec<u8> {
         "T 001E0241",
     ];
     let stream = |count: usize| format!("F 000A{}", "41".repeat(count));
-    match rng.below(21) {
+    match rng.below(22) {
         20 => no_field(rng).into_bytes(),
+        21 => {
+            let count = rng.pick(&[4097, 4097, 4098, 8191, 32_767, 40_000]);
+            let byte = rng.pick(&["1B", "41"]);
+            format!("N {}", byte.repeat(count)).into_bytes()
+        }
         18 => no_hook(rng).into_bytes(),
         19 => no_command(rng).into_bytes(),
         0 => stream(4097).into_bytes(),
@@ -2028,8 +2134,11 @@ fn no_field(rng: &mut Rng) -> String {
 /// The line of a good call with one sign too few, too many or another, if it
 /// can't be taken then.
 fn damaged(rng: &mut Rng) -> Option<Vec<u8>> {
-    let call = match rng.below(8) {
+    let call = match rng.below(9) {
         7 => Call::Hook { on: rng.byte() },
+        8 => Call::Bound {
+            bytes: vec![rng.pick(&[ESC, b'A']); 3],
+        },
         0 => Call::Set {
             field: 1,
             place: 0,

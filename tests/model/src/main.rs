@@ -1,6 +1,6 @@
 //! A second, independent program of the handset's rules, made from the papers
 //! alone, and a tester that holds another program against it. Of the change
-//! requests it has T-01 to T-05.
+//! requests it has T-01 to T-05 and T-09.
 //!
 //! The model is written plainly, to be read beside the paper: `record`,
 //! `ranges` (a list of rules), `grammar` (a table of shapes), `effect`,
@@ -24,7 +24,7 @@
 //!   reach; exit status 1 if something isn't reached.
 //!
 //! KINDS is a list of call letters, for instance `PSRF`; without it all
-//! (`POSRFKCHBQUMVWTGX`, where X stands for lines that can't be taken).
+//! (`POSRFNKCHBQUMVWTGX`, where X stands for lines that can't be taken).
 
 mod compare;
 mod cover;

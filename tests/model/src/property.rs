@@ -4,7 +4,7 @@ use std::collections::BTreeMap;
 
 use crate::effect::{self, LONGEST};
 use crate::generate::{asked, close_bodies, random_record, stream_of, MODES, OVERLAYS};
-use crate::grammar::{readings, spelt, Command, Spelt};
+use crate::grammar::{readings, spelt, Command, Spelt, QUESTIONS};
 use crate::keys;
 use crate::ranges::in_range;
 use crate::record::*;
@@ -122,6 +122,173 @@ pub fn stops(seed: u64) -> Result<(), String> {
         lent[..said.len()].copy_from_slice(said);
         if counts != (0, used, said.len()) || &record != wanted || buffer != lent {
             return Err(format!("seed {seed}: room {room}: {counts:?}"));
+        }
+    }
+    Ok(())
+}
+
+/// The same stream, but each question that it closes gets one sign more, so
+/// that it asks nothing.
+fn without_questions(start: &Record, bytes: &[u8]) -> Vec<u8> {
+    let before = stream::standing(&start.frame).len();
+    let mut out = vec![];
+    let mut from = 0;
+    for (part, behind) in stream::parts_of_call(start, bytes) {
+        let Part::Closed(body) = part else { continue };
+        if stream::good(&body).is_some_and(|good| QUESTIONS.contains(&good.command)) {
+            let end = behind - 1 - before;
+            out.extend(&bytes[from..end]);
+            out.push(b'!');
+            from = end;
+        }
+    }
+    out.extend(&bytes[from..]);
+    out
+}
+
+/// With any room a call writes no more than the bound, and all of it are
+/// question marks; with the bound as its room it uses all. What was written
+/// and the bound of what is left are no more than the bound. Questions too
+/// get no more answers than it says, though longer ones.
+pub fn bound_holds(seed: u64) -> Result<(), String> {
+    let mut rng = Rng::new(seed ^ 0xB09);
+    let mut start = random_record(seed);
+    match rng.below(6) {
+        0 => start.frame = NO_FRAME,
+        1 => {
+            start.frame = NO_FRAME;
+            start.frame.state = 2;
+        }
+        2 => {
+            start.frame = NO_FRAME;
+            start.frame.state = 1;
+        }
+        _ => (),
+    }
+    let pieces = rng.between(1, 12);
+    let with = match rng.one_in(3) {
+        true => asked(&mut rng, pieces),
+        false => stream_of(&mut rng, pieces),
+    };
+    let answers = stream::answers(&start, &with).len();
+    if stream::bound(&start, &with).1 < answers {
+        return Err(format!("seed {seed}: {answers} answers"));
+    }
+    let bytes = without_questions(&start, &with);
+    let (number, bound) = stream::bound(&start, &bytes);
+    let escapes = bytes.split(|&byte| byte == ESC).count() - 1;
+    let open = usize::from(start.frame != NO_FRAME);
+    if (number, bound) != (0, escapes + open) {
+        return Err(format!("seed {seed}: bound {bound}"));
+    }
+    let more = bound + 1 + rng.below(300);
+    for room in (0..=bound.min(40)).chain([bound.saturating_sub(1), bound, more]) {
+        let mut record = start.clone();
+        let mut buffer = vec![7; room];
+        let (number, used, written) = stream::call(&mut record, &bytes, &mut buffer);
+        let marks = buffer[..written].iter().all(|&byte| byte == QUESTION);
+        if number != 0 || written > bound || !marks {
+            return Err(format!("seed {seed}: {written} bytes with room {room}"));
+        }
+        if room >= bound && used < bytes.len() {
+            return Err(format!("seed {seed}: room {room} is too small"));
+        }
+        if written + stream::bound(&record, &bytes[used..]).1 > bound {
+            return Err(format!("seed {seed}: the bound rises with room {room}"));
+        }
+    }
+    Ok(())
+}
+
+/// The bound is reached, whatever stands in the record: by ESC n times and CR,
+/// and without an ESC by the CR of a frame that is bad. One place less is too
+/// small a room then.
+pub fn bound_reached(seed: u64) -> Result<(), String> {
+    let mut rng = Rng::new(seed ^ 0xB0A);
+    let any = random_record(seed);
+    let mut states = vec![any];
+    for state in 0..3 {
+        let mut record = states[0].clone();
+        record.frame = NO_FRAME;
+        record.frame.state = state;
+        states.push(record);
+    }
+    for start in &states {
+        let open = usize::from(start.frame.state != 0);
+        for n in [0, 1, 2, 3, rng.between(4, 254), 255, 256, rng.below(4096)] {
+            let mut bytes = [&vec![ESC; n][..], &[CR]].concat();
+            if n == 0 && start.frame.length > 0 {
+                // Whatever frame is open, so many bytes more make it bad.
+                bytes.splice(0..0, [b'!'; FRAME + 1]);
+            }
+            let (number, bound) = stream::bound(start, &bytes);
+            if (number, bound) != (0, n + open) {
+                return Err(format!("seed {seed}: bound {bound} for {n} and {open}"));
+            }
+            for room in [bound, bound + 5] {
+                let mut record = start.clone();
+                let mut buffer = vec![7; room];
+                let counts = stream::call(&mut record, &bytes, &mut buffer);
+                if counts != (0, bytes.len(), bound) || buffer[..bound] != vec![QUESTION; bound] {
+                    return Err(format!("seed {seed}: {counts:?} for {n} and {open}"));
+                }
+            }
+            if let Some(room) = bound.checked_sub(1) {
+                let mut record = start.clone();
+                let (_, used, written) = stream::call(&mut record, &bytes, &mut vec![7; room]);
+                if (used, written) != (bytes.len() - 1, room) {
+                    return Err(format!("seed {seed}: {used} used with room {room}"));
+                }
+            }
+        }
+    }
+    Ok(())
+}
+
+/// A record out of range has no bound: the number is 1.
+pub fn bound_refused(seed: u64) -> Result<(), String> {
+    let mut rng = Rng::new(seed ^ 0xB0B);
+    let mut record = random_record(seed);
+    let bytes = stream_of(&mut rng, 4);
+    match rng.below(5) {
+        0 => record.mode = 2,
+        1 => record.frame.state = 3,
+        2 => record.contrast = 21,
+        3 => record.picture[6 * COLUMNS + rng.below(COLUMNS)] = 32,
+        _ => record.time1 = 3,
+    }
+    for bytes in [&bytes[..], b"", b"\x1B"] {
+        if stream::bound(&record, bytes) != (1, 0) {
+            return Err(format!("seed {seed}: a record out of range has a bound"));
+        }
+    }
+    Ok(())
+}
+
+/// Good data of k columns has at most 2k bytes, and 2k where every column
+/// stands by itself.
+pub fn picture_data_short(seed: u64) -> Result<(), String> {
+    let mut rng = Rng::new(seed ^ 0xB0C);
+    let runs = rng.pick(&[0, 2, 3]);
+    for _ in 0..20 {
+        let (mut data, mut columns) = (vec![], 0);
+        for _ in 0..rng.between(1, 50) {
+            if runs > 0 && rng.one_in(runs) {
+                let letter = rng.between(0, 24);
+                data.push(b'a' + letter as u8);
+                columns += letter + 1;
+            }
+            data.extend(format!("{:02X}", rng.byte()).bytes());
+            columns += 1;
+        }
+        let body = [&b"Gr0,"[..], &data, b"z"].concat();
+        let read = spelt(&body).map(|good| good.codes.len());
+        if read != (columns <= COLUMNS).then_some(columns) {
+            return Err(format!("seed {seed}: {columns} columns, read {read:?}"));
+        }
+        if data.len() > 2 * columns || (runs == 0 && data.len() != 2 * columns) {
+            let bytes = data.len();
+            return Err(format!("seed {seed}: {bytes} bytes for {columns} columns"));
         }
     }
     Ok(())
@@ -949,10 +1116,14 @@ pub const ONCE: [(&str, Once); 3] = [
 ];
 
 /// All checks that take a seed.
-pub const CHECKS: [(&str, Check); 20] = [
+pub const CHECKS: [(&str, Check); 24] = [
     ("cutting a stream elsewhere changes nothing", cutting),
     ("a cut at any place changes nothing", cut_anywhere),
     ("a call stops where an answer does not fit", stops),
+    ("a call writes no more than the bound", bound_holds),
+    ("the bound is reached", bound_reached),
+    ("a record out of range has no bound", bound_refused),
+    ("a column takes two bytes at most", picture_data_short),
     ("a question is answered whole or not at all", whole_answers),
     ("questions change nothing", questions_change_nothing),
     ("contrast, hook and marks have their own frames", own_frames),

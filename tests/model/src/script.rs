@@ -30,6 +30,10 @@ pub enum Call {
         room: u16,
         bytes: Vec<u8>,
     },
+    /// The room that a stream call with these bytes can need.
+    Bound {
+        bytes: Vec<u8>,
+    },
     Keys {
         room: u16,
         ticks: Vec<u16>,
@@ -85,6 +89,7 @@ pub enum Answer {
         written: usize,
         buffer: Vec<u8>,
     },
+    Bound(u8, usize),
     Number(u8),
     Thin(u8, Backlight),
     Row(u8, Owner),
@@ -160,6 +165,9 @@ fn with_bytes(letter: u8, bytes: &[u8]) -> Option<Call> {
         (b'U', &[row, column, last]) => {
             phase(last).map(|phase| Call::Column { row, column, phase })
         }
+        (b'N', bytes) => (bytes.len() <= BYTES).then(|| Call::Bound {
+            bytes: bytes.to_vec(),
+        }),
         (_, &[high, low, ref rest @ ..]) => {
             let room = u16::from_be_bytes([high, low]);
             (room <= ROOM).then(|| with_room(letter, room, rest))?
@@ -239,6 +247,7 @@ pub fn line(call: &Call) -> Vec<u8> {
         ]
         .concat(),
         Call::Stream { room, bytes } => [&room.to_be_bytes()[..], bytes].concat(),
+        Call::Bound { bytes } => bytes.clone(),
         Call::Keys { room, ticks, edges } => {
             let count = ticks.len() as u16;
             let ticks: Vec<u8> = ticks.iter().flat_map(|tick| tick.to_be_bytes()).collect();
@@ -347,6 +356,10 @@ pub fn perform(record: &mut Record, call: &Call) -> Answer {
         Call::Stream { room, bytes } => {
             let mut buffer = lent(*room);
             counts(stream::call(record, bytes, &mut buffer), buffer)
+        }
+        Call::Bound { bytes } => {
+            let (number, bound) = stream::bound(record, bytes);
+            Answer::Bound(number, bound)
         }
         Call::Keys { room, ticks, edges } => {
             let mut buffer = lent(*room);
@@ -559,6 +572,7 @@ pub fn letter(call: &Call) -> char {
         Call::Set { .. } => 'S',
         Call::InRange => 'R',
         Call::Stream { .. } => 'F',
+        Call::Bound { .. } => 'N',
         Call::Keys { .. } => 'K',
         Call::Second => 'C',
         Call::Hook { .. } => 'H',
@@ -586,6 +600,10 @@ pub fn print(out: &mut Vec<u8>, call: &Call, answer: &Answer, record: &Record) {
             written,
             buffer,
         } => put_lent(out, &letter, *number, *used, *written, buffer),
+        Answer::Bound(number, bound) => {
+            let [high, low] = (*bound as u16).to_be_bytes();
+            put(out, &letter, &[*number, high, low]);
+        }
         Answer::Number(number) => put(out, &letter, &[*number]),
         Answer::Thin(number, light) => {
             put(out, &letter, &[*number]);

@@ -136,6 +136,21 @@ pub fn used(record: &Record, bytes: &[u8], room: usize) -> usize {
         .map_or(bytes.len(), |(place, _)| place)
 }
 
+/// The room that a call on this record and these bytes can need, where it
+/// closes no question: the number and the bound. Each answer is that of a
+/// frame, and a frame is opened by an ESC that is offered, or was open before.
+pub fn bound(record: &Record, bytes: &[u8]) -> (u8, usize) {
+    if !in_range(record) {
+        return (1, 0);
+    }
+    let offered = bytes.iter().filter(|&&byte| byte == ESC).count();
+    let before = match record.frame.state {
+        0 => 0,
+        _ => 1, // open or overlong
+    };
+    (0, offered + before)
+}
+
 /// The parts of a call: the open frame and the used bytes.
 pub fn parts_of_call(record: &Record, used: &[u8]) -> Vec<Placed> {
     parting(&[&standing(&record.frame), used].concat())

@@ -1,0 +1,58 @@
+// How much room for answers a stream call can need, told before it is made: by the ESC bytes that are offered and the frame that is
+// open. It holds where no frame is a question.
+ghost use mathlib.Core.Path.{_≡_};
+ghost use Rattle.parting.specs.Count.{escapes};
+ghost use Rattle.answer_room.specs.Needed.{roomNeeded};
+use record::Number;
+use record::Record;
+use record_ranges::in_range;
+
+const ESCAPE: u8 = 0x1B;
+
+const NO_FRAME: u8 = 0;
+
+pub struct RoomNeeded {
+    pub number: Number,
+    pub bytes: usize,
+}
+
+// How many ESC bytes there are: what comes in pieces is counted in pieces.
+pub fn escapes_in(bytes: &[u8]) -> usize
+    ensures same { λ n. ⌜ n ≡ escapes (now (bytes .entry)) ⌝ }
+{
+    let mut n = 0;
+    let mut i = 0;
+    while i < bytes.len() {
+        let b = bytes[i];
+        if b == ESCAPE {
+            n += 1;
+        }
+        i += 1;
+    }
+    n
+}
+
+// The room that a call on this record and these bytes can need.
+pub fn room_needed(r: Record, bytes: &[u8]) -> RoomNeeded
+    ensures same { λ q. ⌜ q ≡ roomNeeded r (now (bytes .entry)) ⌝ }
+{
+    let ok = in_range(r);
+    if !ok {
+        return RoomNeeded {
+            number: Number::FieldOutOfRange,
+            bytes: 0,
+        };
+    }
+    let frame = r.frame;
+    let n = escapes_in(bytes);
+    if frame.state == NO_FRAME {
+        return RoomNeeded {
+            number: Number::Done,
+            bytes: n,
+        };
+    }
+    RoomNeeded {
+        number: Number::Done,
+        bytes: n + 1,
+    }
+}
