@@ -25,6 +25,7 @@ use Rattle.record.specs.declared.Record.{Record}
 use Rattle.answer.specs.Answers.{answerBytes, isSilence, countAfter, bufferAfter as saidAfter, heads}
 use Rattle.hook.specs.Hook.{hooked}
 use Rattle.stream_places.specs.Places.{emptied}
+use Rattle.parts.specs.Parts.{partAt}
 use Rattle.stream.specs.declared.Fed.{Fed}
 use Rattle.stream.specs.Stream.{together, lentOf, fedOf, answersAfter}
 use Rattle.parting.specs.Count.{escapes}
@@ -101,6 +102,8 @@ use Rattle.hook.proofs.hook as HookCall
 use Rattle.hook.proofs.hook.Reads as HookCallReads
 use Rattle.stream_places.proofs.empty_from as EmptyFrom
 use Rattle.stream_places.proofs.empty_from.Reads as EmptyFromReads
+use Rattle.parts.proofs.part_at as PartAtPlace
+use Rattle.parts.proofs.part_at.Reads as PartAtPlaceReads
 use Rattle.stream.proofs.feed_lent as FeedLent
 use Rattle.stream.proofs.feed_lent.Reads as FeedLentReads
 use Rattle.stream_by_value.proofs.whole as Whole
@@ -303,6 +306,10 @@ hook-says κs a q e w = refl
 -- stream_places::empty_from
 pub empty-from-says : Says EmptyFrom.ended EmptyFromReads.ensures (λ κs a q e. now (e .0) ≡ emptied (now (a .0)) (a .1 .0))
 empty-from-says κs a q e w = refl
+
+-- parts::part_at
+pub part-at-says : Says PartAtPlace.ended PartAtPlaceReads.ensures (λ κs a q e. q ≡ partAt (now (a .0)) (a .1 .0))
+part-at-says κs a q e w = refl
 
 -- stream::feed_lent: the same call, of the record that the small fields and the lent arrays make
 abbrev given : (κs : Lfts (FeedLent.ended .signature .lifetimes)) → ArgsD (FeedLent.ended .signature) κs → Record

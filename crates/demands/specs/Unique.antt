@@ -71,6 +71,8 @@ use Rattle.hook.proofs.hook as HookCall
 use Rattle.hook.proofs.hook.Reads as HookCallReads
 use Rattle.stream_places.proofs.empty_from as EmptyFrom
 use Rattle.stream_places.proofs.empty_from.Reads as EmptyFromReads
+use Rattle.parts.proofs.part_at as PartAtPlace
+use Rattle.parts.proofs.part_at.Reads as PartAtPlaceReads
 use Rattle.stream.proofs.feed_lent as FeedLent
 use Rattle.stream.proofs.feed_lent.Reads as FeedLentReads
 use Rattle.stream_by_value.proofs.whole as Whole
@@ -250,6 +252,10 @@ hook-one κs a q q′ e e′ p p′ = two-equal p p′
 -- stream_places::empty_from
 pub empty-from-one : OneEnd EmptyFrom.ended (List ℕ) EmptyFromReads.Learnt (λ κs e. now (e .0))
 empty-from-one κs a q q′ e e′ p p′ = (refl, two-equal p p′)
+
+-- parts::part_at
+pub part-at-one : OneResult PartAtPlace.ended PartAtPlaceReads.Learnt
+part-at-one κs a q q′ e e′ p p′ = two-equal p p′
 
 -- stream::feed_lent: text, picture, the frame's bytes and the answers
 pub feed-lent-one : OneEnd FeedLent.ended (List ℕ × List ℕ × List ℕ × List ℕ) FeedLentReads.Learnt (λ κs e. (now (e .1 .0), now (e .1 .1 .0), now (e .1 .1 .1 .0), now (e .1 .1 .1 .1 .1 .0)))
