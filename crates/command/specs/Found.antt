@@ -5,7 +5,7 @@ use native.Mathlib.Omega.{arith}
 use mathlib.Core.Bool.{Bool, true, false, _&&_}
 use mathlib.Core.List.{List, [], _∷_}
 use mathlib.Core.Option.{Option, none, some}
-use mathlib.Core.Path.{_≡_, refl, _∙_}
+use mathlib.Core.Path.{_≡_, refl, sym, ap, _∙_}
 use lib.Dec.{eqb, leb}
 use lib.ListN.{length, drop}
 use borrow.Author.Tests.{eqb-true, leb-true}
@@ -19,6 +19,7 @@ use Rattle.command.specs.Facts.{LabelText, read-label, label-length}
 use Rattle.command.specs.Reading.{endsWith, butLast, readOf, opensPicture, rowWith, noPicture, rowAndData, drawnRow, pictureOf, orderRead, orderDrawn, orderOf}
 use Rattle.command.specs.Sound.{cond-if, sound}
 use Rattle.command.specs.declared.Side.{Side}
+use Rattle.command.specs.declared.Reading.{Reading}
 use Rattle.command.specs.declared.Reading.the-variants.{Bad, Label}
 use Rattle.command.specs.declared.PictureFrame.{PictureFrame}
 
@@ -30,6 +31,14 @@ order-drawn f e = rw e
 pub order-read : (f : List ℕ) → opensPicture f ≡ false → orderOf f ≡ orderRead (readOf f) (drop 3 f)
 unfolding orderOf
 order-read f e = rw e
+
+-- The order by what a caller was told: whether the frame opens as a picture, and what was read.
+module _ (f : List ℕ) {opens : Bool} (o : opens ≡ opensPicture f) where
+  pub drawn-order : {drawn : PictureFrame} → opens ≡ true → drawn ≡ pictureOf f → orderOf f ≡ orderDrawn drawn
+  drawn-order t e = order-drawn f (sym o ∙ t) ∙ ap orderDrawn (sym e)
+
+  pub read-order : {reading r : Reading} → opens ≡ false → reading ≡ readOf f → reading ≡ r → orderOf f ≡ orderRead r (drop 3 f)
+  read-order t q e = order-read f (sym o ∙ t) ∙ ap (λ (x : Reading). orderRead x (drop 3 f)) (sym q ∙ e)
 
 -- A frame that opens as a picture is bad to read_command.
 pub picture-no-command : (f : List ℕ) → opensPicture f ≡ true → readOf f ≡ Bad

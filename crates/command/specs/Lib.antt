@@ -1,6 +1,7 @@
 pub mod Order
 pub mod Grammar
 pub mod InRange
+pub mod Judged
 pub mod Reading
 pub mod Complete
 pub mod Sound

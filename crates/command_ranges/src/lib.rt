@@ -1,9 +1,11 @@
 // Whether a command's numbers are in range: document 01's second column, which stands in command's specs/InRange.antt.
 ghost use mathlib.Core.Path.{_≡_};
 ghost use mathlib.Core.Bool.{_||_};
+ghost use mathlib.Core.List.{[], _∷_};
 ghost use Rattle.record.specs.Range.{modeInRange, iconUInRange, time1InRange, time2InRange, contrastInRange};
-ghost use Rattle.command.specs.InRange.{isOverlay, isLight, rowsNamed, commandInRange};
+ghost use Rattle.command.specs.InRange.{isOverlay, isLight, rowsNamed, firstOut, numbersOf, commandInRange};
 use command::Command;
+use numeral::Numeral;
 
 // The text mode of large digits.
 const LARGE: u8 = 10;
@@ -94,43 +96,83 @@ pub fn rows_named(mode: u8) -> u8
     record::rows(mode)
 }
 
-// Whether a command's numbers are in range where a cursor frame or a mark can name so many rows.
+// One number: it, if it is out of range.
+fn unless(in_range: bool, n: u16) -> Numeral
+    ensures same { λ r. ⌜ r ≡ firstOut ((n, in_range) ∷ []) ⌝ }
+{
+    if in_range {
+        return Numeral::None;
+    }
+    Numeral::Value(n)
+}
+
+// Two numbers: the first of them that is out of range.
+fn unless_both(first_in: bool, m: u16, second_in: bool, n: u16) -> Numeral
+    ensures same { λ r. ⌜ r ≡ firstOut ((m, first_in) ∷ (n, second_in) ∷ []) ⌝ }
+{
+    if first_in {
+        return unless(second_in, n);
+    }
+    Numeral::Value(m)
+}
+
+// The first number of a command that is out of range where a cursor frame or a mark can name so many rows; none where all are in range.
+pub fn number_out(c: Command, rows: u8) -> Numeral
+    ensures same { λ r. ⌜ r ≡ firstOut (numbersOf rows c) ⌝ }
+{
+    match c {
+        Command::DisplayOff => Numeral::None,
+        Command::DisplayOn => Numeral::None,
+        Command::Mode(n) => unless(is_mode(n), n),
+        Command::CursorShown => Numeral::None,
+        Command::CursorHidden => Numeral::None,
+        Command::Clear => Numeral::None,
+        Command::Position(row, column) => unless_both(
+            row < rows as u16,
+            row,
+            column <= COLUMN,
+            column,
+        ),
+        Command::LabelsEmpty => Numeral::None,
+        Command::IconS(n) => unless(n <= FLAG, n),
+        Command::IconU(n) => unless(is_icon_u(n), n),
+        Command::IconF(n) => unless(n <= ICON_F, n),
+        Command::IconR(n) => unless(n <= FLAG, n),
+        Command::IconP(n) => unless(n <= ICON_P, n),
+        Command::IconW(n) => unless(n <= ICON_W, n),
+        Command::Private(n) => unless(n <= LEVEL, n),
+        Command::Handsfree(n) => unless(n <= LEVEL, n),
+        Command::HandsfreeOfNote(n) => unless(n <= LEVEL, n),
+        Command::Mute(n) => unless(n <= FLAG, n),
+        Command::KeyTimes(time1, time2) => unless_both(
+            is_time1(time1),
+            time1,
+            is_time2(time2),
+            time2,
+        ),
+        Command::Buzzer(n) => unless(n <= BUZZER, n),
+        Command::Light(n) => unless(is_light(n), n),
+        Command::LightOn => Numeral::None,
+        Command::LightAutoStart => Numeral::None,
+        Command::LightAuto => Numeral::None,
+        Command::DefaultDuration => Numeral::None,
+        Command::KeypadSet => Numeral::None,
+        Command::KeypadCleared => Numeral::None,
+        Command::Contrast(n) => unless(is_contrast(n), n),
+        Command::ContrastAsked => Numeral::None,
+        Command::HookAsked => Numeral::None,
+        Command::VersionAsked => Numeral::None,
+        Command::ClearLine => Numeral::None,
+        Command::Inverse(n) => unless(n <= rows as u16, n),
+    }
+}
+
+// Whether all of them are in range.
 pub fn in_range(c: Command, rows: u8) -> bool
     ensures same { λ r. ⌜ r ≡ commandInRange rows c ⌝ }
 {
-    match c {
-        Command::DisplayOff => true,
-        Command::DisplayOn => true,
-        Command::Mode(n) => is_mode(n),
-        Command::CursorShown => true,
-        Command::CursorHidden => true,
-        Command::Clear => true,
-        Command::Position(row, column) => (row < rows as u16) & (column <= COLUMN),
-        Command::LabelsEmpty => true,
-        Command::IconS(n) => n <= FLAG,
-        Command::IconU(n) => is_icon_u(n),
-        Command::IconF(n) => n <= ICON_F,
-        Command::IconR(n) => n <= FLAG,
-        Command::IconP(n) => n <= ICON_P,
-        Command::IconW(n) => n <= ICON_W,
-        Command::Private(n) => n <= LEVEL,
-        Command::Handsfree(n) => n <= LEVEL,
-        Command::HandsfreeOfNote(n) => n <= LEVEL,
-        Command::Mute(n) => n <= FLAG,
-        Command::KeyTimes(time1, time2) => is_time1(time1) & is_time2(time2),
-        Command::Buzzer(n) => n <= BUZZER,
-        Command::Light(n) => is_light(n),
-        Command::LightOn => true,
-        Command::LightAutoStart => true,
-        Command::LightAuto => true,
-        Command::DefaultDuration => true,
-        Command::KeypadSet => true,
-        Command::KeypadCleared => true,
-        Command::Contrast(n) => is_contrast(n),
-        Command::ContrastAsked => true,
-        Command::HookAsked => true,
-        Command::VersionAsked => true,
-        Command::ClearLine => true,
-        Command::Inverse(n) => n <= rows as u16,
+    match number_out(c, rows) {
+        Numeral::None => true,
+        Numeral::Value(n) => false,
     }
 }

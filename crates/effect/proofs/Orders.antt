@@ -4,14 +4,13 @@ use mathlib.Core.Bool.{Bool, true, false, cond}
 use mathlib.Core.List.{List}
 use mathlib.Core.Option.{Option, none, some}
 use mathlib.Core.Path.{_≡_, refl, sym, ap, _∙_}
-use lib.ListN.{take, drop}
+use lib.ListN.{take}
 use borrow.Author.Tests.{eq-eqb, ne-eqb}
 use Rattle.command.specs.Order.{Order, draw}
 use Rattle.command.specs.InRange.{isPictureRow, rowsNamed, commandInRange}
 use Rattle.command.specs.declared.Command.{Command}
-use Rattle.command.specs.Reading.{readOf, opensPicture, pictureOf, orderRead, orderOf}
-use Rattle.command.specs.Found.{order-drawn, order-read}
-use Rattle.command.specs.declared.Reading.{Reading}
+use Rattle.command.specs.Reading.{opensPicture, pictureOf, orderOf}
+use Rattle.command.specs.Found.{drawn-order}
 use Rattle.command.specs.declared.PictureFrame.{PictureFrame}
 use Rattle.effect.specs.declared.Obeyed.{Obeyed}
 use Rattle.effect.specs.Core.{Core, onPicture}
@@ -22,16 +21,14 @@ pub obeys : {f : List ℕ} {before after : Core} {obeyed : Obeyed} {found : Opti
     → orderOf f ≡ found → obeyed .answer ≡ answerTo found → after ≡ obeyOrder before found → Obeys f before obeyed after
 obeys {before = before} e g s = record { answer = g ∙ ap answerTo (sym e); same = s ∙ ap (obeyOrder before) (sym e) }
 
+-- a picture frame that was read: without columns it is bad
 module _ (f : List ℕ) {opens : Bool} (o : opens ≡ opensPicture f) where
   pub no-drawing : (p : PictureFrame) → opens ≡ true → p ≡ pictureOf f → p .columns .len ≡ 0 → orderOf f ≡ none
-  no-drawing p t e z = order-drawn f (sym o ∙ t) ∙ rw (← e, eq-eqb (p .columns .len) 0 z)
+  no-drawing p t e z = drawn-order f o t e ∙ rw (eq-eqb (p .columns .len) 0 z)
 
   pub a-drawing : (p : PictureFrame) → opens ≡ true → p ≡ pictureOf f → (p .columns .len ≡ 0 → ⊥)
       → orderOf f ≡ some (draw (p .row) (take (p .columns .len) (p .columns .bytes)))
-  a-drawing p t e z = order-drawn f (sym o ∙ t) ∙ rw (← e, ne-eqb (p .columns .len) 0 z)
-
-  pub a-reading : {found r : Reading} → opens ≡ false → found ≡ readOf f → found ≡ r → orderOf f ≡ orderRead r (drop 3 f)
-  a-reading t q e = order-read f (sym o ∙ t) ∙ ap (λ (x : Reading). orderRead x (drop 3 f)) (sym q ∙ e)
+  a-drawing p t e z = drawn-order f o t e ∙ rw (ne-eqb (p .columns .len) 0 z)
 
 -- what was asked of the ranges, in the text mode's rows
 pub judged : {rows : ℕ} {ok : Bool} (mode : ℕ) (c : Command) (b : Bool) → rows ≡ rowsNamed mode → ok ≡ commandInRange rows c → ok ≡ b → commandInRange (rowsNamed mode) c ≡ b

@@ -1,9 +1,9 @@
 -- Each reading of the frame gives its order, and what was done carries it out. Assumes nothing.
 use mathlib.Core.Path.{refl, sym, _∙_}
 use Rattle.effect.specs.Effect.{carryOut}
-use Rattle.command.specs.Found.{label-found, picture-fits}
+use Rattle.command.specs.Found.{read-order, label-found, picture-fits}
 use Rattle.effect.specs.Obey.{core}
-use Rattle.effect.proofs.Orders.{obeys, no-drawing, a-drawing, a-reading, row-drawn}
+use Rattle.effect.proofs.Orders.{obeys, no-drawing, a-drawing, row-drawn}
 use borrow.Author.Needs.{needs}
 use Rattle.effect.proofs.obey.Statement.{statement}
 use Rattle.effect.proofs.obey.Tie as tie
@@ -49,14 +49,14 @@ answer-for-requires : tie.Need-answer-for-requires
 answer-for-requires c κs = search needs
 
 returns-3 : tie.Need-returns-3
-returns-3 c = obeys (a-reading (c .before .before .before .before .before .before .args .frame .now) (c .before .before .before .before .opens-picture .ensures) (c .before .before .before .if1 .left) (c .before .before .read-command .ensures) (c .enum-told .given .1)) refl refl
+returns-3 c = obeys (read-order (c .before .before .before .before .before .before .args .frame .now) (c .before .before .before .before .opens-picture .ensures) (c .before .before .before .if1 .left) (c .before .before .read-command .ensures) (c .enum-told .given .1)) refl refl
 
 returns-4 : tie.Need-returns-4
-returns-4 c = obeys (a-reading (c .before .before .before .before .before .before .before .before .before .before .args .frame .now) (c .before .before .before .before .before .before .before .before .opens-picture .ensures) (c .before .before .before .before .before .before .before .if1 .left) (c .before .before .before .before .before .before .read-command .ensures) (c .before .before .before .before .reading .given .1)) (c .answer-for .ensures) (c .before .obey-command .ensures (c .before .before .before .before .before .before .before .before .before .before .args .picture .now))
+returns-4 c = obeys (read-order (c .before .before .before .before .before .before .before .before .before .before .args .frame .now) (c .before .before .before .before .before .before .before .before .opens-picture .ensures) (c .before .before .before .before .before .before .before .if1 .left) (c .before .before .before .before .before .before .read-command .ensures) (c .before .before .before .before .reading .given .1)) (c .answer-for .ensures) (c .before .obey-command .ensures (c .before .before .before .before .before .before .before .before .before .before .args .picture .now))
 
 returns-5 : tie.Need-returns-5
 unfolding carryOut
-returns-5 c = obeys (a-reading (c .before .before .before .before .before .before .before .before .args .frame .now) (c .before .before .before .before .before .before .opens-picture .ensures) (c .before .before .before .before .before .if1 .left) (c .before .before .before .before .read-command .ensures) (c .before .before .reading2 .given .1)) refl (c .obey-label .ensures (c .before .before .before .before .before .before .before .before .args .text .now) (c .before .before .before .before .before .before .before .before .args .picture .now))
+returns-5 c = obeys (read-order (c .before .before .before .before .before .before .before .before .args .frame .now) (c .before .before .before .before .before .before .opens-picture .ensures) (c .before .before .before .before .before .if1 .left) (c .before .before .before .before .read-command .ensures) (c .before .before .reading2 .given .1)) refl (c .obey-label .ensures (c .before .before .before .before .before .before .before .before .args .text .now) (c .before .before .before .before .before .before .before .before .args .picture .now))
 
 pub obey-spec : {M : Type 1} → statement M
 obey-spec =
