@@ -1,5 +1,6 @@
 //! Times the handset's stream call against a plain Rust reader of the same language and against the terminal parsers that are
-//! installed, on the same work, in one run. `./bench` builds and runs it; nothing here is part of the gate.
+//! installed, on the same work, in one run; and going over a stream's parts against that call. `./bench` builds and runs it;
+//! nothing here is part of the gate.
 //! Each figure is the best of many; the candidates take turns, so that a slow moment of the machine meets them all.
 
 mod plain;
@@ -19,6 +20,7 @@ extern "C" {
     fn measure_one_call(bytes: *const u8, len: usize, answers: *mut u8, room: usize) -> u64;
     fn measure_short_calls(bytes: *const u8, len: usize, answers: *mut u8, room: usize) -> u64;
     fn measure_range_checks(bytes: *const u8, len: usize) -> u64;
+    fn count_parts(bytes: *const u8, len: usize) -> usize;
 }
 
 const CALL: usize = 64;
@@ -47,6 +49,14 @@ fn ours(bytes: &[u8], answers: &mut [u8]) -> u64 {
 
 fn ours_short(bytes: &[u8], answers: &mut [u8]) -> u64 {
     unsafe { measure_short_calls(bytes.as_ptr(), bytes.len(), answers.as_mut_ptr(), answers.len()) }
+}
+
+fn ours_parts(bytes: &[u8]) -> u64 {
+    unsafe { count_parts(bytes.as_ptr(), bytes.len()) as u64 }
+}
+
+fn plain_parts(bytes: &[u8]) -> u64 {
+    plain::Parts(bytes).count() as u64
 }
 
 type Feed = fn(&mut Handset, &[u8], &mut [u8]) -> plain::Fed;
@@ -107,7 +117,7 @@ fn report(candidates: &[Candidate]) {
 
 fn same(what: &str, expected: u64, found: u64) {
     if expected != found {
-        eprintln!("bench: {what}: the readers left different records ({expected}, {found})");
+        eprintln!("bench: {what}: the readers differ ({expected}, {found})");
         std::process::exit(1);
     }
 }
@@ -179,6 +189,24 @@ fn main() {
     ];
     race(&mut all, rounds);
     report(&all);
+    drop(all);
+
+    // The longer stream is cut anywhere, so it may end in a tail.
+    let twice = streams::mixed_of(2 * stream.len());
+    let parts = plain_parts(stream);
+    same("parts", parts, ours_parts(stream));
+    same("parts of a stream of double length", plain_parts(&twice), ours_parts(&twice));
+    println!("\nThe mixed stream part by part, each asked for where the one before ends: {parts} parts");
+    let mut all = vec![
+        Candidate::new("ours", stream.len(), || ours_parts(stream)),
+        Candidate::new("plain Rust", stream.len(), || plain_parts(stream)),
+        Candidate::new("the stream call, ours, one call", stream.len(), || ours(stream, b)),
+        Candidate::new("ours, a stream of double length", twice.len(), || ours_parts(&twice)),
+    ];
+    race(&mut all, rounds);
+    report(&all[..3]);
+    let [parts, call, longer] = [all[0].best, all[2].best, all[3].best];
+    println!("  parts: {:.3} ms, {:.2} of the stream call; at double length {:.2} times as long", parts / 1e6, parts / call, longer / parts);
     drop(all);
 
     println!("\nGrowth with length: the mixed stream, one call");

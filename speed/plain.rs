@@ -584,3 +584,39 @@ impl Handset {
         (&d.text[..LINE], [&d.labels[0].codes[..d.labels[0].len], &d.labels[1].codes[..d.labels[1].len]], d.icons[4])
     }
 }
+
+/// A part of a stream, with its byte or its body; the body of a frame lies behind its ESC.
+#[allow(dead_code)]
+pub enum Part<'a> {
+    Text(u8),
+    Skipped(u8),
+    Closed(&'a [u8]),
+    Abandoned(&'a [u8]),
+    Tail(&'a [u8]),
+}
+
+/// The parts of a stream, one after the other.
+pub struct Parts<'a>(pub &'a [u8]);
+
+impl<'a> Iterator for Parts<'a> {
+    type Item = Part<'a>;
+
+    fn next(&mut self) -> Option<Part<'a>> {
+        let (&first, behind) = self.0.split_first()?;
+        if first != ESCAPE {
+            self.0 = behind;
+            return Some(if first < 0x20 { Part::Skipped(first) } else { Part::Text(first) });
+        }
+        let Some(end) = behind.iter().position(|&b| b == ESCAPE || b == CARRIAGE_RETURN) else {
+            self.0 = &[];
+            return Some(Part::Tail(behind));
+        };
+        let (body, rest) = behind.split_at(end);
+        if rest[0] == ESCAPE {
+            self.0 = rest;
+            return Some(Part::Abandoned(body));
+        }
+        self.0 = &rest[1..];
+        Some(Part::Closed(body))
+    }
+}

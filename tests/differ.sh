@@ -2,6 +2,7 @@
 # Holds the driver against the model: a second program of document 01, in another language, written from the paper alone
 # (tests/model). Both answer the same random scripts, and every line of the answers must agree. Before that the model's own
 # tests are run. The last line has the counts: each test of the model and each script is one.
+# Last the program explain: what it sums up of random streams is what the model counts by its own parting and grammar.
 # usage: tests/differ.sh [SCRIPTS [CALLS]]     (also by SCRIPTS= and CALLS=; 100 scripts of 2,000 calls if nothing is said)
 set -u
 cd "$(dirname "$0")/.." || exit 2
@@ -52,4 +53,32 @@ if [[ $(tail -n 1 "$log") =~ ^([0-9]+)\ passed,\ ([0-9]+)\ failed$ ]]; then
 else
     give_up "differ: the comparison did not end"
 fi
+
+# Streams of all kinds: the bytes of the stream calls of a random script, one after the other.
+[ -f target/bin/explain ] || rt check explain || give_up "differ: explain was not built"
+explain=("${program[@]:0:$((${#program[@]} - 1))}" "$PWD/target/bin/explain")
+model=target/model/release/tests
+streams=$(mktemp -d) || exit 2
+trap 'rm -rf "$log" "$streams"' EXIT
+counted() { # STREAM: the last line of explain, put together from the model's lists
+    "$model" parts <"$1" >"$streams/parts"
+    "$model" verdicts <"$1" >"$streams/verdicts"
+    local kind text skipped closed abandoned obeyed over bad tail
+    for kind in text skipped closed abandoned; do declare "$kind=$(grep -c " $kind " "$streams/parts")"; done
+    obeyed=$(grep -c ' obeyed$' "$streams/verdicts") over=$(grep -c ' passed over ' "$streams/verdicts") bad=$(grep -c ' bad$' "$streams/verdicts")
+    tail=$(sed -n 's/^\([0-9]*\) tail .*/tail at \1/p' "$streams/parts")
+    echo "text bytes $text, skipped bytes $skipped, closed frames $closed (obeyed $obeyed, passed over $over, bad $bad), abandoned frames $abandoned," \
+        "answers $("$model" list <"$1" | sed -n 's/^REPLIES //p'), ${tail:-no tail}"
+}
+for ((seed = 0; seed < 40; seed++)); do
+    "$model" make $seed 60 F | sed -n 's/^F ....//p' | tr -d '\n' | while IFS= read -r -n 2 byte; do printf "\\x$byte"; done >"$streams/stream"
+    told=$("${explain[@]}" <"$streams/stream" | tail -n 1 | sed 's/^ *[0-9]*  end      //')
+    if [ "$told" = "$(counted "$streams/stream")" ]; then
+        passed=$((passed + 1))
+    else
+        failed=$((failed + 1))
+        echo "explain differs on the stream of seed $seed: $told"
+        counted "$streams/stream"
+    fi
+done
 finish

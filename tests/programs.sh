@@ -37,7 +37,7 @@ length=$(wc -c <$stream)
 
 # ./run: its own words
 names=$(cd crates && printf '%s\n' */src/main.rt | cut -d / -f 1)
-readers='count_room drive list_screen show_screen write_frame'
+readers='count_room drive explain list_screen show_screen write_frame'
 without_progress() { # what was said on standard error, but for how far the proofs are, which a slow machine is told
     grep -Ev '^run: (proving|waiting)' "$work/err"
 }
@@ -71,6 +71,7 @@ for name in $names; do
     file=''
     case " $readers " in *" $name "*) file=' [FILE]' ;; esac
     [ $name != show_screen ] || file=" [--pause]$file"
+    [ $name != explain ] || file=" [--all]$file"
     ends "./run $name --help has status 0 and complains of nothing" 0 '' ./run $name --help
     head -n 1 "$work/out" | says "./run $name --help begins with its usage" "usage: ./run $name$file"
     program $name --help </dev/null | same "./run $name --help is what the program itself says" "$work/out"
@@ -90,6 +91,8 @@ ends "./run list_screen FILE" 0 '' ./run list_screen $stream
 same "./run list_screen FILE prints the fields" crates/list_screen/stdout <"$work/out"
 ends "./run show_screen FILE" 0 '' ./run show_screen crates/show_screen/stdin
 same "./run show_screen FILE draws the screen" crates/show_screen/stdout <"$work/out"
+ends "./run explain FILE" 0 '' ./run explain crates/explain/stdin
+same "./run explain FILE tells the parts" crates/explain/stdout <"$work/out"
 ends "./run count_room FILE" 0 '' ./run count_room crates/count_room/stdin
 same "./run count_room FILE prints the room" crates/count_room/stdout <"$work/out"
 ends "./run write_frame FILE" 0 '' ./run write_frame examples/menu.words
@@ -203,7 +206,7 @@ for tool in bash dirname rt; do ln -s "$(command -v $tool)" "$work/no_cargo/$too
 0 passed, 1 failed"
 
 # what is stored
-for name in list_screen write_frame show_screen count_room; do
+for name in list_screen write_frame show_screen count_room explain; do
     ./run $name <crates/$name/stdin 2>/dev/null | same "./run $name writes what is stored" crates/$name/stdout
 done
 ./run jetty >"$work/jetty"
@@ -260,6 +263,52 @@ printf '\eIK1Keep' | program list_screen | same "list_screen: a frame left open 
 { printf '\eIK1'; head -c 300 /dev/zero | tr '\0' 'x'; } | program list_screen |
     same "list_screen: an overlong frame left open has no answer yet" "$work/power_on"
 { cat $stream; printf '\eIK1Older'; } | program list_screen | same "list_screen: an open tail leaves what was heard before it" $whole
+
+# explain: the first stream of document 01 with two frames more and half of one
+cat >"$work/told" <<'PARTS'
+        0  frame    ID0        mode 0, no overlay, position 0,0: nothing changed
+        6  frame    [1;2H      position 0,0 to 1,2
+       14  text     Meter      row 1, columns 2 to 6
+       21  frame    IK1Keep    left label [] to [Keep]
+       31  frame    Q          bad: answered ?
+       34  frame    IP20       passed over: icon P takes 0 to 19
+       40  tail     IK1Ke      still open: nothing done yet
+       46  end      text bytes 5, skipped bytes 5, closed frames 5 (obeyed 3, passed over 1, bad 1), abandoned frames 0, answers 1, tail at 40
+PARTS
+{ head -c 34 $stream; printf '\eIP20\r\eIK1Ke'; } >"$work/halved"
+program explain "$work/halved" | same "explain: document 01's stream, a frame out of range and half a frame" "$work/told"
+for ((at = 1; at <= 46; at++)); do
+    tail -c +$at "$work/halved" | head -c 1
+    sleep 0.02
+done | program explain | same "explain: one byte at a time changes nothing" "$work/told"
+program explain --all "$work/halved" | grep '^ *[0-9]*  skipped' |
+    says "explain --all: line ends have a line" "        5  skipped  <0A>       nothing done
+       13  skipped  <0A>       nothing done
+       19  skipped  <0D><0A>   nothing done
+       30  skipped  <0A>       nothing done"
+program explain </dev/null | says "explain: an empty stream" \
+    "        0  end      text bytes 0, skipped bytes 0, closed frames 0 (obeyed 0, passed over 0, bad 0), abandoned frames 0, answers 0, no tail"
+
+# explain: parts that are longer than what it holds
+forty=$(head -c 40 /dev/zero | tr '\0' x)
+for count in 250 251 4093 4094 4095 4096 100000; do
+    { printf '\e'; head -c $count /dev/zero | tr '\0' x; printf '\r\eIK1Keep\r'; } | program explain | sed -n 2p |
+        says "explain: the part behind a frame of $count bytes" "$(printf '%9d' $((count + 2)))  frame    IK1Keep    left label [] to [Keep]"
+done
+{ printf '\e'; head -c 100000 /dev/zero | tr '\0' x; printf '\r'; } | program explain | head -n 1 |
+    says "explain: a frame of 100000 bytes" "        0  frame    $forty..  bad: 100000 bytes, more than 250: answered ?"
+{ printf '\e'; head -c 100000 /dev/zero | tr '\0' x; printf '\e'; } | program explain | head -n 1 |
+    says "explain: one that is abandoned" "        0  frame    $forty..  abandoned by the ESC at 100001: 100000 bytes, more than 250: answered ?"
+{ printf '\e'; head -c 100000 /dev/zero | tr '\0' x; } | program explain | head -n 1 |
+    says "explain: one that is left open" "        0  tail     $forty..  still open: 100000 bytes, more than 250: nothing done yet"
+{ head -c 5000000 /dev/zero | tr '\0' x; printf '\a\eID5\r'; } | program explain |
+    says "explain: five million codes of text are one run" "        0  text     $forty..  row 0, columns 0 to 15, 4999984 codes dropped
+  5000000  skipped  <07>       nothing done
+  5000001  frame    ID5        mode 0 to 5, position 0,16 to 0,0
+  5000006  end      text bytes 5000000, skipped bytes 1, closed frames 1 (obeyed 1, passed over 0, bad 0), abandoned frames 0, answers 0, no tail"
+yes $'\r' | head -c 100000 | program explain | wc -l | says "explain: line ends without end have no line" 1
+{ yes $'\r' | head -c 100000; printf '\a'; } | program explain | head -n 1 |
+    says "explain: unless another skipped byte stands behind them" "        0  skipped  $(for i in {1..20}; do printf '<0D><0A>'; done)..  nothing done"
 
 # count_room: its bound is the number of ESC bytes, and answers reach it
 program count_room </dev/null | says "count_room: empty input needs no room" "ROOM 0"

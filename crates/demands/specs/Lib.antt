@@ -1,4 +1,5 @@
 pub mod Frames
+pub mod Verdict
 pub mod Demand1
 pub mod Demand2
 pub mod Demand3

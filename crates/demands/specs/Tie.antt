@@ -17,8 +17,9 @@ use Rattle.record_fields.specs.Fields.{withField}
 use Rattle.numeral.specs.Numeral as Numerals
 use Rattle.picture.specs.Reading.{columnsRead}
 use Rattle.picture.specs.Writing.{dataWritten}
-use Rattle.command.specs.InRange.{rowsNamed, commandInRange, mostRows}
+use Rattle.command.specs.InRange.{rowsNamed, firstOut, numbersOf, commandInRange, mostRows}
 use Rattle.command.specs.Reading.{readOf, opensPicture, pictureOf}
+use Rattle.verdict.specs.Verdict.{verdictOf}
 use Rattle.effect_modes.specs.Modes.{toMode, atLevel}
 use Rattle.effect.specs.Obey.{Obeys, core}
 use Rattle.record.specs.declared.Record.{Record}
@@ -26,6 +27,7 @@ use Rattle.answer.specs.Answers.{answerBytes, isSilence, countAfter, bufferAfte
 use Rattle.hook.specs.Hook.{hooked}
 use Rattle.stream_places.specs.Places.{emptied}
 use Rattle.parts.specs.Parts.{partAt}
+use Rattle.parts.specs.Laws.{partsOf}
 use Rattle.stream.specs.declared.Fed.{Fed}
 use Rattle.stream.specs.Stream.{together, lentOf, fedOf, answersAfter}
 use Rattle.parting.specs.Count.{escapes}
@@ -78,6 +80,8 @@ use Rattle.picture_writer.proofs.write_data as WriteData
 use Rattle.picture_writer.proofs.write_data.Reads as WriteDataReads
 use Rattle.command_ranges.proofs.rows_named as RowsNamed
 use Rattle.command_ranges.proofs.rows_named.Reads as RowsNamedReads
+use Rattle.command_ranges.proofs.number_out as NumberOut
+use Rattle.command_ranges.proofs.number_out.Reads as NumberOutReads
 use Rattle.command_ranges.proofs.in_range as CommandInRange
 use Rattle.command_ranges.proofs.in_range.Reads as CommandInRangeReads
 use Rattle.command.proofs.read_command as ReadCommand
@@ -86,6 +90,8 @@ use Rattle.picture_frame.proofs.opens_picture as OpensPicture
 use Rattle.picture_frame.proofs.opens_picture.Reads as OpensPictureReads
 use Rattle.picture_frame.proofs.read_picture as ReadPicture
 use Rattle.picture_frame.proofs.read_picture.Reads as ReadPictureReads
+use Rattle.verdict.proofs.judge as Judge
+use Rattle.verdict.proofs.judge.Reads as JudgeReads
 use Rattle.effect_modes.proofs.to_mode as ToMode
 use Rattle.effect_modes.proofs.to_mode.Reads as ToModeReads
 use Rattle.effect_modes.proofs.at_level as AtLevel
@@ -122,6 +128,8 @@ use Rattle.measure.proofs.measure_short_calls as ShortCalls
 use Rattle.measure.proofs.measure_short_calls.Reads as ShortCallsReads
 use Rattle.measure.proofs.measure_range_checks as RangeChecks
 use Rattle.measure.proofs.measure_range_checks.Reads as RangeChecksReads
+use Rattle.measure.proofs.count_parts as CountParts
+use Rattle.measure.proofs.count_parts.Reads as CountPartsReads
 use Rattle.key_entry.proofs.all_listed as AllListed
 use Rattle.key_entry.proofs.all_listed.Reads as AllListedReads
 use Rattle.key_entry.proofs.take_entry as TakeEntry
@@ -257,6 +265,10 @@ write-data-says κs a q e w = refl
 pub rows-named-says : Says RowsNamed.ended RowsNamedReads.ensures (λ κs a q e. q ≡ rowsNamed (a .0))
 rows-named-says κs a q e w = refl
 
+-- command_ranges::number_out
+pub number-out-says : Says NumberOut.ended NumberOutReads.ensures (λ κs a q e. q ≡ firstOut (numbersOf (a .1 .0) (a .0)))
+number-out-says κs a q e w = refl
+
 -- command_ranges::in_range
 pub command-in-range-says : Says CommandInRange.ended CommandInRangeReads.ensures (λ κs a q e. q ≡ commandInRange (a .1 .0) (a .0))
 command-in-range-says κs a q e w = refl
@@ -272,6 +284,10 @@ opens-picture-says κs a q e w = refl
 -- picture_frame::read_picture
 pub read-picture-says : Says ReadPicture.ended ReadPictureReads.ensures (λ κs a q e. q ≡ pictureOf (now (a .0)))
 read-picture-says κs a q e w = refl
+
+-- verdict::judge
+pub judge-says : Says Judge.ended JudgeReads.ensures (λ κs a q e. q ≡ verdictOf (a .0) (now (a .1 .0)))
+judge-says κs a q e w = refl
 
 -- effect_modes::to_mode
 pub to-mode-says : Says ToMode.ended ToModeReads.ensures (λ κs a q e. q ≡ toMode (a .0) (a .1 .0))
@@ -433,3 +449,7 @@ short-calls-says κs a q e w = refl
 -- measure::measure_range_checks
 pub range-checks-says : Says RangeChecks.ended RangeChecksReads.ensures (λ κs a q e. q ≡ goodOnes powerOn (now (a .0)))
 range-checks-says κs a q e w = refl
+
+-- measure::count_parts
+pub count-parts-says : Says CountParts.ended CountPartsReads.ensures (λ κs a q e. q ≡ length (partsOf (now (a .0))))
+count-parts-says κs a q e w = refl

@@ -47,6 +47,8 @@ use Rattle.picture_writer.proofs.write_data as WriteData
 use Rattle.picture_writer.proofs.write_data.Reads as WriteDataReads
 use Rattle.command_ranges.proofs.rows_named as RowsNamed
 use Rattle.command_ranges.proofs.rows_named.Reads as RowsNamedReads
+use Rattle.command_ranges.proofs.number_out as NumberOut
+use Rattle.command_ranges.proofs.number_out.Reads as NumberOutReads
 use Rattle.command_ranges.proofs.in_range as CommandInRange
 use Rattle.command_ranges.proofs.in_range.Reads as CommandInRangeReads
 use Rattle.command.proofs.read_command as ReadCommand
@@ -55,6 +57,8 @@ use Rattle.picture_frame.proofs.opens_picture as OpensPicture
 use Rattle.picture_frame.proofs.opens_picture.Reads as OpensPictureReads
 use Rattle.picture_frame.proofs.read_picture as ReadPicture
 use Rattle.picture_frame.proofs.read_picture.Reads as ReadPictureReads
+use Rattle.verdict.proofs.judge as Judge
+use Rattle.verdict.proofs.judge.Reads as JudgeReads
 use Rattle.effect_modes.proofs.to_mode as ToMode
 use Rattle.effect_modes.proofs.to_mode.Reads as ToModeReads
 use Rattle.effect_modes.proofs.at_level as AtLevel
@@ -89,6 +93,8 @@ use Rattle.measure.proofs.measure_short_calls as ShortCalls
 use Rattle.measure.proofs.measure_short_calls.Reads as ShortCallsReads
 use Rattle.measure.proofs.measure_range_checks as RangeChecks
 use Rattle.measure.proofs.measure_range_checks.Reads as RangeChecksReads
+use Rattle.measure.proofs.count_parts as CountParts
+use Rattle.measure.proofs.count_parts.Reads as CountPartsReads
 use Rattle.key_entry.proofs.all_listed as AllListed
 use Rattle.key_entry.proofs.all_listed.Reads as AllListedReads
 use Rattle.key_entry.proofs.take_entry as TakeEntry
@@ -217,6 +223,10 @@ write-data-one κs a q q′ e e′ p p′ = two-equal p p′
 pub rows-named-one : OneResult RowsNamed.ended RowsNamedReads.Learnt
 rows-named-one κs a q q′ e e′ p p′ = two-equal p p′
 
+-- command_ranges::number_out
+pub number-out-one : OneResult NumberOut.ended NumberOutReads.Learnt
+number-out-one κs a q q′ e e′ p p′ = two-equal p p′
+
 -- command_ranges::in_range
 pub command-in-range-one : OneResult CommandInRange.ended CommandInRangeReads.Learnt
 command-in-range-one κs a q q′ e e′ p p′ = two-equal p p′
@@ -232,6 +242,10 @@ opens-picture-one κs a q q′ e e′ p p′ = two-equal p p′
 -- picture_frame::read_picture
 pub read-picture-one : OneResult ReadPicture.ended ReadPictureReads.Learnt
 read-picture-one κs a q q′ e e′ p p′ = two-equal p p′
+
+-- verdict::judge
+pub judge-one : OneResult Judge.ended JudgeReads.Learnt
+judge-one κs a q q′ e e′ p p′ = two-equal p p′
 
 -- answer::is_silence
 pub is-silence-one : OneResult IsSilence.ended IsSilenceReads.Learnt
@@ -374,3 +388,7 @@ short-calls-one κs a q q′ e e′ p p′ = (two-equal (p .0) (p′ .0), two-eq
 -- measure::measure_range_checks
 pub range-checks-one : OneResult RangeChecks.ended RangeChecksReads.Learnt
 range-checks-one κs a q q′ e e′ p p′ = two-equal p p′
+
+-- measure::count_parts
+pub count-parts-one : OneResult CountParts.ended CountPartsReads.Learnt
+count-parts-one κs a q q′ e e′ p p′ = two-equal p p′

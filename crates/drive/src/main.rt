@@ -13,6 +13,8 @@
 //   R                           whether the record is in range
 //   F ROOM BYTES                the stream call, with no bytes or more
 //   N BYTES                     the room that a stream call on these bytes can need
+//   D PLACE BYTES               the parts of a stream from a place on, one after the other; PLACE may be any
+//   J MODE BYTES                the verdict of a frame; MODE is one byte, any, and the frame has any bytes at all
 //   K ROOM COUNT TICKS EDGES    the key log call; COUNT says how many ticks, a number each, and the rest are edges, a byte each.
 //                               There may be more of one than of the other
 //   C                           a second passes, on the record
@@ -37,6 +39,9 @@
 //   R                R 01 in range, R 00 not
 //   C and H          the letter and NUMBER
 //   N                N NUMBER BOUND, two bytes
+//   D                D alone; then for each part a line "part KIND END BODY BODY_END": KIND 1 text, 2 skipped, 3 closed, 4
+//                    abandoned, 5 the tail; the others are places, two bytes each. The last has KIND 0: there is none
+//   J                J VERDICT NUMBER: 0 bad, 1 passed over, 2 obeyed; NUMBER, two bytes, is the first out of range, else 0
 //   F, K, W, T, G    the letter NUMBER USED WRITTEN, USED 0 for the writers; then "buffer" and all that was lent, as it stands
 //                    after the call
 //   B                B NUMBER; then a line "backlight" as in the record
@@ -90,6 +95,8 @@ ghost use lib.ListN.{length};
 ghost use Rattle.seconds.specs.Seconds.{lightPassed};
 use command::Command;
 use command::Side;
+use parts::Kind;
+use parts::PartAt;
 use program::Input;
 use record::Backlight;
 use record::Held;
@@ -115,6 +122,7 @@ use seen::SmsPanel;
 use seen::SmsSeen;
 use seen::VolumePanel;
 use seen::VolumeSeen;
+use verdict::Verdict;
 use writer::Written;
 
 const BLANK: u8 = b' ';
@@ -695,6 +703,8 @@ fn is_call(letter: u8, args: &[u8]) -> bool {
         b'S' => is_setting(args),
         b'F' => has_room(args, 2, MOST_BYTES),
         b'N' => args.len() <= MOST_STREAM,
+        b'D' => (2 <= args.len()) & (args.len() <= MOST_BYTES),
+        b'J' => (1 <= args.len()) & (args.len() <= 1 + MOST_STREAM),
         b'K' => has_room(args, 4, MOST_BYTES) & is_log(args),
         b'Q' => (args.len() == 2) & (byte_at(args, 1) <= 1),
         b'U' => (args.len() == 3) & (byte_at(args, 2) <= 1),
@@ -804,6 +814,54 @@ fn room_call(r: Record, bytes: &[u8]) {
     say(b"N", &[n, high(needed.bytes), low(needed.bytes)]);
 }
 
+fn kind_number(kind: Kind) -> u8 {
+    match kind {
+        Kind::None => 0,
+        Kind::Text => 1,
+        Kind::Skipped => 2,
+        Kind::Closed => 3,
+        Kind::Abandoned => 4,
+        Kind::Tail => 5,
+    }
+}
+
+fn say_part(p: PartAt) {
+    let kind = p.kind;
+    let places = [
+        kind_number(kind),
+        high(p.end),
+        low(p.end),
+        high(p.body),
+        low(p.body),
+        high(p.body_end),
+        low(p.body_end),
+    ];
+    say(b"part", &places);
+}
+
+// Each is asked for where the one before it ends; there are no more parts than bytes, and one line where there is none.
+fn parts_call(bytes: &[u8], place: usize) {
+    say(b"D", b"");
+    let mut at = place;
+    for i in 0..MOST_BYTES {
+        let p = parts::part_at(bytes, at);
+        say_part(p);
+        let kind = p.kind;
+        if kind_number(kind) == 0 {
+            return;
+        }
+        at = p.end;
+    }
+}
+
+fn judge_call(mode: u8, frame: &[u8]) {
+    match verdict::judge(mode, frame) {
+        Verdict::Bad => say(b"J", &[0, 0, 0]),
+        Verdict::PassedOver(n) => say(b"J", &[1, (n / 256) as u8, (n % 256) as u8]),
+        Verdict::Obeyed => say(b"J", &[2, 0, 0]),
+    }
+}
+
 // The entry in place, on a copy.
 fn second_of(b: Backlight) -> LightPassed
     ensures { λ q. ⌜ q ≡ lightPassed b ⌝ }
@@ -881,6 +939,8 @@ fn question(r: Record, letter: u8, args: &[u8], buffer: &mut [u8]) {
     match letter {
         b'R' => range_call(r),
         b'N' => room_call(r, args),
+        b'D' => parts_call(after(args, 2), number_at(args, 0, 1) as usize),
+        b'J' => judge_call(byte_at(args, 0), after(args, 1)),
         b'B' => light_call(r.settings.backlight),
         b'M' => say_sms(seen::sms_seen(r, phase_of(byte_at(args, 0)))),
         b'V' => say_volume(seen::volume_seen(r)),

@@ -3,12 +3,15 @@ use Prim.Native.Nat.{ℕ, zero, suc, _+_, _-_, _≤_, _<_}
 use native.Mathlib.Omega.{arith}
 use native.Mathlib.Numerals.{add-one}
 use mathlib.Core.Path.{_≡_, refl, sym, ap, _∙_}
-use mathlib.Core.Bool.{cond}
+use mathlib.Core.Bool.{Bool, true, false, cond}
 use mathlib.Core.List.{List, _∷_}
 use lib.ListN.{length, getD, take, drop}
 use lib.Seq.{drop-cons, drop-length, drop-drop}
 use Rattle.record.specs.declared.Record.{Record}
 use Rattle.record.specs.Range.{inRange}
+use Rattle.parts.specs.declared.PartAt.{PartAt}
+use Rattle.parts.specs.Parts.{partAt}
+use Rattle.parts.specs.Laws.{Found, isNone, partsFrom, partsOf, more-finds-no-more, progress}
 use Rattle.stream.specs.declared.Fed.{Fed}
 use Rattle.stream.specs.declared.FedLent.{FedLent}
 use Rattle.stream.specs.Stream.{lentOf, lent-back, fedOf, answersAfter}
@@ -57,3 +60,35 @@ pub call-end : (left : ℕ) (b : Between) → left ≤ 0 → inOrder left b ≡ 
 unfolding inOrder
 call-end zero b h = refl
 call-end (suc n) b h = absurd (omega (arith, h))
+
+-- how many parts there are from a place on
+abbrev pub partsLeft : List ℕ → ℕ → ℕ
+partsLeft bytes at = length (partsFrom (length bytes - at) bytes at)
+
+pub part-first : (bytes : List ℕ) → 0 + partsLeft bytes 0 ≡ length (partsOf bytes)
+part-first bytes = omega (arith, ap (λ (n : ℕ). length (partsFrom n bytes 0)) {x = length bytes - 0} {y = length bytes} (omega arith))
+
+-- a part was told: the next place lies further on, and from there on there is one part fewer
+pub record Counted (bytes : List ℕ) (at : ℕ) (told : PartAt) : Type 0 where
+  pub further : at < told .end
+  pub within : told .end ≤ length bytes
+  pub fewer : partsLeft bytes at ≡ partsLeft bytes (told .end) + 1
+
+pub part-on : (bytes : List ℕ) (at : ℕ) {told : PartAt} {none : Bool} → told ≡ partAt bytes at → none ≡ isNone (told .kind) → none ≡ false → Counted bytes at told
+unfolding partsFrom
+part-on bytes at {told} e n f =
+    let some : isNone (partAt bytes at .kind) ≡ false = rw (← e, ← n) f in
+    let on = progress bytes at some in
+    let most = length bytes - at - 1 in
+    let fewer : partsLeft bytes at ≡ partsLeft bytes (partAt bytes at .end) + 1 =
+    ap (λ (n : ℕ). length (partsFrom n bytes at)) {x = length bytes - at} {y = suc most} (omega arith)
+    ∙ rw (some, add-one) (ap (λ (found : List Found). suc (length found)) (more-finds-no-more most bytes (partAt bytes at .end) (omega arith))) in
+    rw e (record { further = on .further; within = on .within; fewer = fewer })
+
+none-from : (most : ℕ) (bytes : List ℕ) (at : ℕ) → isNone (partAt bytes at .kind) ≡ true → length (partsFrom most bytes at) ≡ 0
+unfolding partsFrom
+none-from zero bytes at none = refl
+none-from (suc most) bytes at none = rw none
+
+pub part-end : (bytes : List ℕ) (at : ℕ) {told : PartAt} {none : Bool} → told ≡ partAt bytes at → none ≡ isNone (told .kind) → none ≡ true → partsLeft bytes at ≡ 0
+part-end bytes at e n t = none-from (length bytes - at) bytes at (rw (← e, ← n) t)

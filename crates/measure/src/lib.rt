@@ -1,13 +1,16 @@
-// What ./bench times: the stream call in one call and in calls of 64 bytes, and the range check. Each hands back one number that
-// is taken from most of what was done, so that the timed work can't be left out, and so that two readers can be compared by it.
+// What ./bench times: the stream call in one call and in calls of 64 bytes, the range check, and going over a stream's parts. Each
+// hands back one number that is taken from most of what was done, so that the timed work can't be left out, and so that two readers
+// can be compared by it. Of the parts it is how many there are: where each ends can't be left out, its kind and its body can.
 ghost use mathlib.Core.Path.{_≡_};
 ghost use mathlib.Core.Bool.{cond};
 ghost use Prim.Native.Nat.{_≤_, _<_};
 ghost use lib.ListN.{length};
 ghost use Rattle.record.specs.PowerOn.{powerOn};
+ghost use Rattle.parts.specs.Laws.{isNone, partsOf};
 ghost use Rattle.stream.specs.Stream.{fedOf, answersAfter};
 ghost use Rattle.measure.specs.Mark.{prime, mixed, marked, small, markOf};
 ghost use Rattle.measure.specs.Calls.{fedFrom, fedInCalls, answersInCalls, goodOnes};
+use parts::Kind;
 use record::Record;
 use record::Settings;
 use stream::Fed;
@@ -177,4 +180,36 @@ pub extern "C" fn measure_range_checks(s: &[u8]) -> u64
         i += 1;
     }
     good
+}
+
+fn is_none(kind: Kind) -> bool
+    ensures { λ b. ⌜ b ≡ isNone kind ⌝ }
+{
+    match kind {
+        Kind::None => true,
+        Kind::Text => false,
+        Kind::Skipped => false,
+        Kind::Closed => false,
+        Kind::Abandoned => false,
+        Kind::Tail => false,
+    }
+}
+
+// How many parts a stream has, its tail with them: each is asked for where the one before ends, until none is there.
+#[no_mangle]
+pub extern "C" fn count_parts(bytes: &[u8]) -> usize
+    ensures same { λ n. ⌜ n ≡ length (partsOf (now (bytes .entry))) ⌝ }
+{
+    let mut count = 0;
+    let mut at = 0;
+    loop {
+        let part = parts::part_at(bytes, at);
+        let kind = part.kind;
+        if is_none(kind) {
+            return count;
+        }
+        let end = part.end;
+        count += 1;
+        at = end;
+    }
 }

@@ -122,6 +122,13 @@ all-parts {bytes} p = parts-from p (length bytes) bytes 0 refl (omega arith)
 pub all-parts-cut : (bytes : List ℕ) → partsOf bytes ≡ map foundOf (places 0 (cut outside bytes)) ++ tailFound (tailPlace 0 (cut outside bytes)) (cut outside bytes)
 all-parts-cut bytes = all-parts (exists bytes outside tt)
 
+-- As many as there are bytes left is enough to find all: who asks for more finds no more.
+pub more-finds-no-more : (most : ℕ) (bytes : List ℕ) (place : ℕ) → length bytes - place ≤ most → partsFrom most bytes place ≡ partsFrom (length bytes - place) bytes place
+more-finds-no-more most bytes place enough =
+    let p = exists (drop place bytes) outside tt in
+    parts-from p most bytes place refl (omega (arith, length-drop place bytes))
+    ∙ sym (parts-from p (length bytes - place) bytes place refl (omega (arith, length-drop place bytes)))
+
 -- the tail alone
 abbrev pub tailOf : Parted → Parted
 tailOf done = done

@@ -3,6 +3,7 @@
 use crate::cover;
 use crate::effect::LONGEST;
 use crate::grammar::{spelt, Command};
+use crate::places::{self, part_at, parts_from, verdict, Found, Kind, Verdict};
 use crate::record::*;
 use crate::script::{self, Answer, Call};
 use crate::seen::{self, Bar, Column, Half, Owner, Phase, PHASES};
@@ -1445,6 +1446,282 @@ fn writers_write() {
     assert_eq!(writers::picture(6, &[31], &mut [0; 10]), (0, 10));
 }
 
+// Parts and verdicts.
+
+/// The parts of a stream from a place on: their kinds and ends.
+fn kinds_and_ends(stream: &[u8], place: usize) -> Vec<(Kind, usize)> {
+    let parts = parts_from(stream, place);
+    parts.iter().map(|part| (part.kind, part.end)).collect()
+}
+
+#[test]
+fn parts_and_their_places() {
+    use Kind::{Abandoned, Closed, Skipped, Tail, Text};
+    let found = |kind, end, body, body_end| Found {
+        kind,
+        end,
+        body,
+        body_end,
+    };
+    // A closed frame has its CR in it, the LF behind it is a part of its own.
+    let stream = b"\x1BQ\r\nA";
+    assert_eq!(
+        parts_from(stream, 0),
+        [
+            found(Closed, 3, 1, 2),
+            found(Skipped, 4, 4, 4),
+            found(Text, 5, 5, 5),
+            found(Kind::None, 5, 5, 5),
+        ]
+    );
+    // From the middle of it no frame is open.
+    assert_eq!(part_at(stream, 1), found(Text, 2, 2, 2));
+    assert_eq!(part_at(stream, 2), found(Skipped, 3, 3, 3));
+    // At the end and past it there is no part.
+    for (stream, place) in [(&stream[..], 5), (stream, 6), (stream, 65_535), (b"", 0)] {
+        let none = found(Kind::None, place, place, place);
+        assert_eq!(parts_from(stream, place), [none]);
+    }
+    // ESC abandons a frame and opens the next, which has that ESC.
+    let stream = b"\x1BIK1Old\x1BIK1New\r\x1BIK";
+    assert_eq!(
+        parts_from(stream, 0),
+        [
+            found(Abandoned, 7, 1, 7),
+            found(Closed, 15, 8, 14),
+            found(Tail, 18, 16, 18),
+            found(Kind::None, 18, 18, 18),
+        ]
+    );
+    assert_eq!(
+        kinds_and_ends(b"\x1B\x1B\x1B\r\x1B", 0),
+        [
+            (Abandoned, 1),
+            (Abandoned, 2),
+            (Closed, 4),
+            (Tail, 5),
+            (Kind::None, 5)
+        ]
+    );
+    // Text is 0x20 to 0xFF; the other codes but ESC are skipped.
+    for code in 0..=255 {
+        let wanted = match code {
+            0x1B => Tail,
+            0x20..=0xFF => Text,
+            _ => Skipped,
+        };
+        assert_eq!(kinds_and_ends(&[code], 0), [(wanted, 1), (Kind::None, 1)]);
+        // Inside a frame all but ESC and CR are collected.
+        let inside = [ESC, b'I', code, CR];
+        let (kind, end) = match code {
+            0x1B => (Abandoned, 2),
+            0x0D => (Closed, 3),
+            _ => (Closed, 4),
+        };
+        assert_eq!(kinds_and_ends(&inside, 0)[0], (kind, end), "{code}");
+    }
+    // A frame may be of any length here.
+    for length in [0, 249, 250, 251, 300, 4000] {
+        for (end, kind, behind) in [
+            (&[CR][..], Closed, 1),
+            (&[ESC], Abandoned, 0),
+            (&[], Tail, 0),
+        ] {
+            let stream = [b"ab\x1B", &vec![b'0'; length][..], end].concat();
+            let wanted = found(kind, 3 + length + behind, 3, 3 + length);
+            assert_eq!(part_at(&stream, 2), wanted);
+        }
+    }
+}
+
+#[test]
+fn verdicts() {
+    use Verdict::{Bad, Obeyed, PassedOver};
+    let judge = |mode: u8, body: &str| verdict(body.as_bytes(), script::rows_of_verdict(mode));
+    for mode in 0..=255 {
+        for body in [
+            "IDD",
+            "IDE",
+            "ID0",
+            "ID6",
+            "ID10",
+            "ID18",
+            "&C",
+            "&D",
+            "&#",
+            "&V",
+            "[K",
+            "IK0",
+            "IK1",
+            "IK1Keep",
+            "IK21234567",
+            "IS1",
+            "IU255",
+            "IF6",
+            "IR0",
+            "IP19",
+            "IW3",
+            "IL10",
+            "IJ0",
+            "II10",
+            "IM1",
+            "IT4;0",
+            "IT50;50",
+            "IB255",
+            "IE0",
+            "IE255",
+            "IEE",
+            "IEA",
+            "IES",
+            "IER",
+            "IEe",
+            "IEr",
+            "IA",
+            "IA1",
+            "IA20",
+            "IH",
+            "IZ0",
+            "Gr6,FFz",
+        ] {
+            assert_eq!(judge(mode, body), Obeyed, "{body} in mode {mode}");
+        }
+        for (body, number) in [
+            ("ID2", 2),
+            ("ID19", 19),
+            ("ID999", 999),
+            ("IS2", 2),
+            ("IU254", 254),
+            ("IF7", 7),
+            ("IR2", 2),
+            ("IP20", 20),
+            ("IW4", 4),
+            ("IL11", 11),
+            ("IJ11", 11),
+            ("II256", 256),
+            ("IM2", 2),
+            ("IB256", 256),
+            ("IE256", 256),
+            ("IA0", 0),
+            ("IA21", 21),
+            ("IZ6", 6),
+            ("Gr7,00z", 7),
+            ("Gr9,00z", 9),
+            // The first of two, in the order of the frame.
+            ("IT3;4", 3),
+            ("IT4;3", 3),
+            ("IT51;1", 51),
+            ("IT0;0", 0),
+            ("IT12;51", 51),
+            ("[5;0H", 5),
+            ("[5;16H", 5),
+        ] {
+            assert_eq!(judge(mode, body), PassedOver(number), "{body} in {mode}");
+        }
+        for body in [
+            "",
+            "Q",
+            "IP05",
+            "IP0001",
+            "IP",
+            "IK",
+            "IK112345678",
+            "IK00",
+            "ID 0",
+            "&c",
+            "[0;16",
+            "[01;2H",
+            "IT4",
+            "Gr0,00",
+            "Gr7,0z",
+            "Gr10,00z",
+            "IV4",
+            "IX",
+            "INIT",
+            "ID0\n",
+            "IDM0",
+            "ID0\r",
+            "\x1BID0",
+            "IK1\x1B",
+            "IK1a\rb",
+        ] {
+            assert_eq!(judge(mode, body), Bad, "{body:?} in mode {mode}");
+        }
+    }
+    // Rows by the mode: of the cursor from 0 on, of the marks from 1 on.
+    for (mode, rows) in [
+        (0, 4),
+        (1, 4),
+        (5, 5),
+        (6, 5),
+        (2, 5),
+        (7, 5),
+        (11, 5),
+        (255, 5),
+    ] {
+        for n in 0..10 {
+            let over = |wrong: bool| if wrong { PassedOver(n) } else { Obeyed };
+            assert_eq!(judge(mode, &format!("[{n};0H")), over(n >= rows));
+            assert_eq!(judge(mode, &format!("IZ{n}")), over(n > rows));
+        }
+        assert_eq!(judge(mode, "[0;15H"), Obeyed);
+        assert_eq!(judge(mode, "[3;16H"), PassedOver(16));
+    }
+    // In mode 10 a frame can name no row: the row is out of range, also 0.
+    assert_eq!(judge(10, "[0;0H"), PassedOver(0));
+    assert_eq!(judge(10, "[0;16H"), PassedOver(0));
+    assert_eq!(judge(10, "[3;99H"), PassedOver(3));
+    assert_eq!(judge(10, "IZ0"), Obeyed);
+    assert_eq!(judge(10, "IZ1"), PassedOver(1));
+    // The longest good frame, and too many columns, with any row.
+    let picture = |row: u8, columns: usize| format!("Gr{row},{}z", "00".repeat(columns));
+    assert_eq!(picture(0, 96).len(), 197);
+    assert_eq!(judge(0, &picture(0, 96)), Obeyed);
+    assert_eq!(judge(0, &picture(7, 96)), PassedOver(7));
+    assert_eq!(judge(0, &picture(7, 97)), Bad);
+    for length in [247, 248, 4093] {
+        assert_eq!(judge(0, &format!("IK1{}", "0".repeat(length))), Bad);
+    }
+}
+
+#[test]
+fn listings_of_a_stream() {
+    let stream = b"\x1BID5\r\n\x1B[4;1H\rA\x1BIP20\r\x1BI\x1BID0\r\x1B[4;1H\r\x1BQ\r\x1BIK1";
+    assert_eq!(
+        places::list_parts(stream),
+        "\
+0 closed 5
+5 skipped 6
+6 closed 13
+13 text 14
+14 closed 20
+20 abandoned 22
+22 closed 27
+27 closed 34
+34 closed 37
+37 tail 41
+"
+    );
+    // The row is one of the mode that the frames before it have set.
+    assert_eq!(
+        places::list_verdicts(stream),
+        "\
+0 obeyed
+6 obeyed
+14 passed over 20
+22 obeyed
+27 passed over 4
+34 bad
+"
+    );
+    for list in [places::list_parts, places::list_verdicts] {
+        assert_eq!(list(b""), "");
+    }
+    let long = [&[ESC], &[b'0'; 251][..], &[CR]].concat();
+    assert_eq!(places::list_parts(&long), "0 closed 253\n");
+    assert_eq!(places::list_verdicts(&long), "0 bad\n");
+    assert_eq!(places::list_verdicts(b"A\x1B&V\r"), "1 obeyed\n");
+}
+
 // Scripts.
 
 #[test]
@@ -1651,6 +1928,46 @@ fn script_lines() {
     assert_eq!(ask("N"), "N 000001\n");
     assert_eq!(ask(&format!("N {}", "1B".repeat(4096))), "N 001001\n");
     assert!(ask("F 0000").contains("\nframe 0200\nbytes 0000"));
+    // Parts and verdicts: the record is no part of them, and does not follow.
+    ask("S 0100000002");
+    for (line, wanted) in [
+        (
+            "D 00001B510D0A41",
+            "D\npart 03000300010002\npart 02000400040004\n\
+            part 01000500050005\npart 00000500050005\n",
+        ),
+        (
+            "D 00011b510D0a41",
+            "D\npart 01000200020002\npart 02000300030003\npart 02000400040004\n\
+            part 01000500050005\npart 00000500050005\n",
+        ),
+        (
+            "D 00001B491B49",
+            "D\npart 04000200010002\npart 05000400030004\npart 00000400040004\n",
+        ),
+        ("D 0000", "D\npart 00000000000000\n"),
+        ("D 000241", "D\npart 00000200020002\n"),
+        ("D FFFF41", "D\npart 00FFFFFFFFFFFF\n"),
+        ("J 00", "J 000000\n"),
+        ("J 00494430", "J 020000\n"),
+        ("J 05494432", "J 010002\n"),
+        ("J 00495030", "J 020000\n"),
+        ("J 0049503030", "J 000000\n"),
+        ("J 004942393939", "J 0103E7\n"),
+        ("J 005B343B3048", "J 010004\n"),
+        ("J 055b343b3048", "J 020000\n"),
+        ("J 0A5B303B3048", "J 010000\n"),
+        ("J FF5B343B3048", "J 020000\n"),
+        ("J FF5B353B3048", "J 010005\n"),
+        ("J 002656", "J 020000\n"),
+    ] {
+        assert_eq!(ask(line), wanted, "{line}");
+    }
+    let frame = format!("D 00001B{}0D", "41".repeat(4094));
+    let wanted = "D\npart 03100000010FFF\npart 00100010001000\n";
+    assert_eq!(ask(&frame), wanted);
+    assert_eq!(ask("R"), "R 00\n");
+    ask("P");
     let held = "K 000400030000007800F000FFFF";
     ask("O ");
     assert!(ask(held).starts_with("K 0000030002\nbuffer CCEC1118\n"));
@@ -1665,6 +1982,11 @@ fn script_lines() {
         ("F 0000", "41", 4096),
         ("F 012C", "41", 0),
         ("N ", "1B", 4096),
+        ("D 0000", "41", 4096),
+        ("D FFFF", "41", 4096),
+        ("D ", "00", 2),
+        ("J 00", "41", 4096),
+        ("J ", "FF", 1),
         ("K 00000400", "00", 2048 + 1024),
         ("K 00000000", "FF", 1024),
         ("K 00000001", "00", 2),
@@ -1694,6 +2016,25 @@ fn script_lines() {
         "N  1B",
         "N1B",
         "N 1B ",
+        &full("D 0000", "41", 4097),
+        &full("D FFFF", "1B", 40_000),
+        "D",
+        "D ",
+        "D 00",
+        "D 000",
+        "D 00004",
+        "D 0000 41",
+        "D0000",
+        "d 0000",
+        &full("J 00", "41", 4097),
+        &full("J FF", "41", 40_000),
+        "J",
+        "J ",
+        "J 0",
+        "J 004",
+        "J 00 41",
+        "J00",
+        "j 00",
         &full("K 00000400", "00", 2048 + 1025),
         &full("K 00000401", "00", 2050),
         &full("K 00000000", "FF", 1025),
@@ -1781,6 +2122,7 @@ fn lines_of_calls_read_back() {
 fn kinds_are_kept() {
     for kinds in [
         "F", "PSRF", "O", "OK", "K", "W", "TG", "QUMV", "CB", "H", "FH", "SH", "N", "FN", "SN",
+        "D", "J", "DJ", "SD",
     ] {
         let calls = generate::calls(5, 300, kinds);
         assert_eq!(calls.len(), 300);

@@ -8,6 +8,7 @@ use crate::generate::{
 };
 use crate::grammar::{count_of_numbers, spelt, Command, Spelt, QUESTIONS, SHAPES};
 use crate::keys::{self, KEYS};
+use crate::places::{Found, Kind, Verdict};
 use crate::ranges::faults;
 use crate::record::*;
 use crate::script::{cell, command, letter, words, Answer, Call, COMMANDS, FIELDS};
@@ -116,6 +117,8 @@ pub fn wanted() -> Vec<String> {
     names.extend(wanted_large());
     names.extend(wanted_questions());
     names.extend(wanted_bounds());
+    names.extend(wanted_parts());
+    names.extend(wanted_verdicts());
     names.extend(wanted_marks());
     for power in ["power-on", "former power-on"] {
         for before in ["from itself", "from the other", "in range", "out of range"] {
@@ -477,6 +480,152 @@ fn frame_name(record: &Record) -> &'static str {
     FRAMES.get(state).copied().unwrap_or("no state")
 }
 
+/// The kinds of parts that a stream has.
+const PARTS: [Kind; 5] = [
+    Kind::Text,
+    Kind::Skipped,
+    Kind::Closed,
+    Kind::Abandoned,
+    Kind::Tail,
+];
+
+/// The parts of a stream by their places.
+fn wanted_parts() -> Vec<String> {
+    let mut names = vec![];
+    for kind in PARTS {
+        let word = kind.word();
+        names.push(format!("part {word} at place 0"));
+        names.push(format!("part {word} asked for at a later place"));
+        names.push(format!("part {word} that ends at 256 or later"));
+        names.push(format!("part {word} behind place 300, asked for there"));
+        let next: &[Kind] = match kind {
+            Kind::Tail => &[Kind::None],
+            // The ESC that abandons a frame opens the next.
+            Kind::Abandoned => &PARTS[2..],
+            _ => &[&[Kind::None][..], &PARTS].concat(),
+        };
+        for next in next {
+            names.push(format!("part {word}, then {}", next.word()));
+        }
+    }
+    for kind in [Kind::Closed, Kind::Abandoned, Kind::Tail] {
+        for length in [0, 1, 249, 250, 251, 252] {
+            names.push(format!("part {} of {length} bytes", kind.word()));
+        }
+        names.push(format!("parts from within a frame {}", kind.word()));
+        names.push(format!("part {} with a good frame in it", kind.word()));
+    }
+    for code in [0x00, LF, CR, 0x1A, 0x1C, 0x1F] {
+        names.push(format!("part skipped {code:02X}"));
+    }
+    for code in [0x20, 0x7F, 0x80, 0xFF] {
+        names.push(format!("part text {code:02X}"));
+    }
+    for length in [0, 1, 4095, 4096] {
+        names.push(format!("parts of {length} bytes"));
+    }
+    for name in [
+        "parts of no bytes from a later place",
+        "parts from the end",
+        "parts from one place past the end",
+        "parts from place 65535",
+        "parts from the CR of a frame",
+        "parts from the LF behind a frame",
+        "parts from the ESC that abandons a frame",
+        "parts with the record out of range",
+        "parts with a frame open in the record",
+        "a part that ends at 4096",
+        "more than 256 parts",
+        "line D with 0 bytes",
+        "line D with 1 bytes",
+        "line D with 4099 bytes",
+    ] {
+        names.push(name.to_string());
+    }
+    names
+}
+
+/// The mode of a verdict, as the list has it.
+fn mode_name(mode: u8) -> String {
+    if MODES.contains(&mode) {
+        format!("mode {mode}")
+    } else {
+        "a mode that is none".to_string()
+    }
+}
+
+/// The verdicts of frames.
+fn wanted_verdicts() -> Vec<String> {
+    let mut names = vec![];
+    for mode in [0, 1, 5, 6, LARGE, 255].map(mode_name) {
+        let rows = match mode.as_str() {
+            "mode 0" | "mode 1" => 4,
+            "mode 10" => 0,
+            _ => 5,
+        };
+        for how in ["bad", "passed over", "obeyed"] {
+            names.push(format!("verdict {how} in {mode}"));
+        }
+        for (command, _) in SHAPES {
+            if command != Command::Position || rows > 0 {
+                names.push(format!("verdict of {command:?} obeyed in {mode}"));
+            }
+            if count_of_numbers(command) > 0 {
+                names.push(format!("verdict of {command:?} passed over in {mode}"));
+            }
+        }
+        for row in 0..7 {
+            let how = |good: bool| if good { "obeyed" } else { "passed over" };
+            let cursor = how(row < rows);
+            names.push(format!("verdict of cursor row {row} {cursor} in {mode}"));
+            let mark = how(row <= rows);
+            names.push(format!("verdict of IZ{row} {mark} in {mode}"));
+        }
+    }
+    // Written in capitals these are no command, or another one.
+    let no_capitals = [
+        Command::Clear,
+        Command::KeypadClear,
+        Command::KeypadSet,
+        Command::Picture,
+    ];
+    for (command, _) in SHAPES {
+        names.push(format!("verdict bad of {command:?} and a byte more"));
+        if !no_capitals.contains(&command) {
+            names.push(format!("verdict bad of {command:?} in small letters"));
+        }
+    }
+    for command in number_commands() {
+        names.push(format!("verdict bad of {command:?}, padded"));
+        names.push(format!("verdict with a number above 255 of {command:?}"));
+    }
+    for command in [Command::Position, Command::Times] {
+        for which in ["the first", "the second", "both"] {
+            names.push(format!("verdict of {command:?} for {which} out of range"));
+        }
+    }
+    for form in DAMAGED {
+        names.push(format!("verdict bad of {form:?}"));
+    }
+    for length in [0, 249, 250, 251, 4095, 4096] {
+        names.push(format!("verdict of {length} bytes"));
+    }
+    for byte in [ESC, CR, LF] {
+        names.push(format!("verdict bad with {byte:02X} in the frame"));
+    }
+    for name in [
+        "verdict passed over for the number 0",
+        "verdict passed over for the number 999",
+        "verdict with the record out of range",
+        "verdict in a mode that the record has not",
+        "line J with 0 bytes",
+        "line J with 4098 bytes",
+    ] {
+        names.push(name.to_string());
+    }
+    names
+}
+
 /// The marks, and the clearing of a line.
 fn wanted_marks() -> Vec<String> {
     let mut names = vec![];
@@ -634,6 +783,7 @@ impl Cover {
             Answer::Column(n, _) | Answer::Bound(n, _) => Some(*n),
             Answer::Sms(n, _) | Answer::Volume(n, _, _) => Some(*n),
             Answer::Done | Answer::What | Answer::Silence => None,
+            Answer::Parts(_) | Answer::Verdict(_) => None,
         };
         if let Some(number) = number {
             self.add(format!("answer {letter} {number}"));
@@ -694,6 +844,12 @@ impl Cover {
             }
             (Call::Bound { bytes }, Answer::Bound(number, bound)) => {
                 self.see_bound(before, bytes, *number, *bound);
+            }
+            (Call::Parts { place, bytes }, Answer::Parts(parts)) => {
+                self.see_parts(before, usize::from(*place), bytes, parts);
+            }
+            (Call::Verdict { mode, body }, Answer::Verdict(verdict)) => {
+                self.see_verdict(before, *mode, body, *verdict);
             }
             (
                 Call::Keys { room, ticks, edges },
@@ -818,6 +974,175 @@ impl Cover {
             std::cmp::Ordering::Greater => "passed by questions",
         };
         self.add(format!("bound {how} with {frame}"));
+    }
+
+    /// What a record is like to which a question is put that takes none.
+    fn see_bystander(&mut self, asked: &str, before: &Record) {
+        if !faults(before).is_empty() {
+            self.add(format!("{asked} with the record out of range"));
+        }
+        if before.frame.state == 1 {
+            self.add(format!("{asked} with a frame open in the record"));
+        }
+    }
+
+    fn see_parts(&mut self, before: &Record, place: usize, bytes: &[u8], parts: &[Found]) {
+        self.see_bystander("parts", before);
+        self.see_place(place, bytes);
+        self.add(format!("parts of {} bytes", bytes.len()));
+        if parts.len() > 256 {
+            self.add("more than 256 parts");
+        }
+        let first = parts[0].kind.word();
+        self.add(match place {
+            0 => format!("part {first} at place 0"),
+            _ => format!("part {first} asked for at a later place"),
+        });
+        if place > 300 {
+            self.add(format!("part {first} behind place 300, asked for there"));
+        }
+        for pair in parts.windows(2) {
+            let [word, next] = [pair[0], pair[1]].map(|part| part.kind.word());
+            self.add(format!("part {word}, then {next}"));
+        }
+        for part in parts {
+            let word = part.kind.word();
+            let body = bytes.get(part.body..part.body_end).unwrap_or(&[]);
+            match part.kind {
+                Kind::None => (),
+                Kind::Text | Kind::Skipped => {
+                    self.add(format!("part {word} {:02X}", bytes[part.end - 1]));
+                }
+                _ => {
+                    self.add(format!("part {word} of {} bytes", body.len()));
+                    if stream::good(body).is_some() {
+                        self.add(format!("part {word} with a good frame in it"));
+                    }
+                }
+            }
+            if part.end >= 256 {
+                self.add(format!("part {word} that ends at 256 or later"));
+            }
+            if part.kind != Kind::None && part.end == 4096 {
+                self.add("a part that ends at 4096");
+            }
+        }
+    }
+
+    /// Where a place lies in a stream that is read from its start.
+    fn see_place(&mut self, place: usize, bytes: &[u8]) {
+        if place == bytes.len() {
+            self.add("parts from the end");
+        }
+        if place == bytes.len() + 1 {
+            self.add("parts from one place past the end");
+        }
+        if place == 65_535 {
+            self.add("parts from place 65535");
+        }
+        if bytes.is_empty() && place > 0 {
+            self.add("parts of no bytes from a later place");
+        }
+        let mut from = 0;
+        for (part, behind) in stream::parting(bytes) {
+            let word = match part {
+                Part::Closed(_) => "closed",
+                Part::Abandoned(_) => "abandoned",
+                Part::Tail(_) => "tail",
+                _ => "",
+            };
+            if place > from && place < behind {
+                self.add(format!("parts from within a frame {word}"));
+            }
+            if word == "closed" && place + 1 == behind {
+                self.add("parts from the CR of a frame");
+            }
+            if word == "closed" && place == behind && bytes.get(place) == Some(&LF) {
+                self.add("parts from the LF behind a frame");
+            }
+            if word == "abandoned" && place == behind {
+                self.add("parts from the ESC that abandons a frame");
+            }
+            from = behind;
+        }
+    }
+
+    fn see_verdict(&mut self, before: &Record, mode: u8, body: &[u8], verdict: Verdict) {
+        self.see_bystander("verdict", before);
+        if mode != before.mode {
+            self.add("verdict in a mode that the record has not");
+        }
+        self.add(format!("verdict of {} bytes", body.len()));
+        let mode = mode_name(mode);
+        let how = match verdict {
+            Verdict::Bad => "bad",
+            Verdict::PassedOver(_) => "passed over",
+            Verdict::Obeyed => "obeyed",
+        };
+        self.add(format!("verdict {how} in {mode}"));
+        let Some(good) = stream::good(body) else {
+            self.see_bad_verdict(body);
+            return;
+        };
+        let command = good.command;
+        self.add(format!("verdict of {command:?} {how} in {mode}"));
+        match (command, &good.numbers[..]) {
+            (Command::Position, [row, 0..=15]) => {
+                self.add(format!("verdict of cursor row {row} {how} in {mode}"));
+            }
+            (Command::Inverse, [row]) => {
+                self.add(format!("verdict of IZ{row} {how} in {mode}"));
+            }
+            _ => (),
+        }
+        if let Verdict::PassedOver(number) = verdict {
+            self.add(format!("verdict passed over for the number {number}"));
+            if number > 255 {
+                self.add(format!("verdict with a number above 255 of {command:?}"));
+            }
+        }
+        let wrong = match (command, &good.numbers[..]) {
+            (Command::Position, &[row, column]) => (row > 4, column > 15),
+            (Command::Times, &[one, two]) => (
+                !(4..=50).contains(&one),
+                two != 0 && !(4..=50).contains(&two),
+            ),
+            _ => return,
+        };
+        let which = match wrong {
+            (true, false) => "the first",
+            (false, true) => "the second",
+            (true, true) => "both",
+            (false, false) => return,
+        };
+        self.add(format!("verdict of {command:?} for {which} out of range"));
+    }
+
+    /// A frame outside the grammar, and what it lies close to.
+    fn see_bad_verdict(&mut self, body: &[u8]) {
+        for byte in [ESC, CR, LF] {
+            if body.contains(&byte) {
+                self.add(format!("verdict bad with {byte:02X} in the frame"));
+            }
+        }
+        if let Some(form) = DAMAGED.iter().find(|form| form.as_bytes() == body) {
+            self.add(format!("verdict bad of {form:?}"));
+        }
+        if let Some(less) = body.split_last().and_then(|(_, less)| spelt(less)) {
+            self.add(format!("verdict bad of {:?} and a byte more", less.command));
+        }
+        if let Some(capital) = spelt(&body.to_ascii_uppercase()) {
+            self.add(format!(
+                "verdict bad of {:?} in small letters",
+                capital.command
+            ));
+        }
+        let (plain, zeros, longest) = without_zeros(body);
+        if let Some(plain) = spelt(&plain) {
+            if longest.len() <= 3 && zeros.len() == plain.numbers.len() {
+                self.add(format!("verdict bad of {:?}, padded", plain.command));
+            }
+        }
     }
 
     fn see_stream(&mut self, before: &Record, room: usize, bytes: &[u8], used: usize) {
@@ -1334,6 +1659,8 @@ impl Cover {
         match (letter, &bytes[..]) {
             (b'H', bytes) => self.add(format!("line H with {} bytes", bytes.len())),
             (b'N', bytes) => self.add(format!("line N with {} bytes", bytes.len())),
+            (b'D', bytes) => self.add(format!("line D with {} bytes", bytes.len())),
+            (b'J', bytes) => self.add(format!("line J with {} bytes", bytes.len())),
             (b'W', &[_, _, number, _, _, _, _]) => {
                 self.add(format!("line W with command {number}"));
             }

@@ -11,7 +11,7 @@ use crate::seen::{layout, PHASES};
 use crate::{stream, writers};
 
 /// The letters of all calls; X stands for lines that can't be taken.
-pub const KINDS: &str = "POSRFNKCHBQUMVWTGX";
+pub const KINDS: &str = "POSRFNDJKCHBQUMVWTGX";
 
 /// Values around the ends of the ranges.
 const EDGES: [u16; 47] = [
@@ -118,8 +118,10 @@ impl Generator {
     }
 
     fn episode(&mut self) {
-        match self.rng.below(138) {
+        match self.rng.below(162) {
             132..=137 => self.bounds(),
+            138..=147 => self.parts(),
+            148..=161 => self.verdicts(),
             100..=107 => self.asking(),
             108..=113 => self.look_at_marks(),
             114..=120 => self.clear_line(),
@@ -290,6 +292,36 @@ impl Generator {
                 let room = self.rng.pick(&[bound, bound, below, bound + 1, any]);
                 let room = room.min(300);
                 self.emit(Call::Stream { room, bytes });
+            }
+        }
+    }
+
+    // Parts and verdicts.
+
+    /// A stream whose parts are asked for from some places.
+    fn parts(&mut self) {
+        let bytes = parted(&mut self.rng);
+        for _ in 0..self.rng.between(1, 4) {
+            let place = place_of(&mut self.rng, &bytes);
+            let bytes = bytes.clone();
+            self.emit(Call::Parts { place, bytes });
+        }
+    }
+
+    /// Frames that are judged, each in one mode or in all.
+    fn verdicts(&mut self) {
+        for _ in 0..self.rng.between(1, 5) {
+            let body = judged(&mut self.rng);
+            let none = no_mode(&mut self.rng);
+            let one = self.rng.pick(&MODES);
+            let modes = match self.rng.below(8) {
+                0 => [&MODES[..], &[none]].concat(),
+                1 | 2 => vec![none],
+                _ => vec![one],
+            };
+            for mode in modes {
+                let body = body.clone();
+                self.emit(Call::Verdict { mode, body });
             }
         }
     }
@@ -1069,7 +1101,9 @@ impl Generator {
             touched.extend(self.spoil(field));
         }
         for _ in 0..self.rng.between(2, 6) {
-            match self.rng.below(16) {
+            match self.rng.below(18) {
+                16 => self.parts(),
+                17 => self.verdicts(),
                 12 | 13 => self.hook_call(),
                 14 | 15 => {
                     let bytes = offered(&mut self.rng);
@@ -1462,17 +1496,22 @@ fn any_command(rng: &mut Rng) -> Command {
     }
 }
 
-/// A frame of the grammar, in range (a cursor row perhaps not in the mode).
-fn good_frame(rng: &mut Rng) -> Vec<u8> {
-    let command = any_command(rng);
-    let numbers = good_numbers(rng, command);
-    let rest = match command {
+/// A label's codes or a picture's data for a command.
+fn any_rest(rng: &mut Rng, command: Command) -> Vec<u8> {
+    match command {
         Command::Picture => {
             let columns = columns(rng);
             data(rng, &columns)
         }
         _ => (0..rng.between(0, 7)).map(|_| text_code(rng)).collect(),
-    };
+    }
+}
+
+/// A frame of the grammar, in range (a cursor row perhaps not in the mode).
+fn good_frame(rng: &mut Rng) -> Vec<u8> {
+    let command = any_command(rng);
+    let numbers = good_numbers(rng, command);
+    let rest = any_rest(rng, command);
     let body = body(command, &numbers, &rest);
     let end: &[u8] = if rng.one_in(3) { &[CR] } else { &[CR, LF] };
     [&[ESC], &body[..], end].concat()
@@ -1932,6 +1971,185 @@ pub fn asked(rng: &mut Rng, pieces: usize) -> Vec<u8> {
     out
 }
 
+/// A frame of a length at which something ends, closed, abandoned or left
+/// open.
+fn measured_frame(rng: &mut Rng) -> Vec<u8> {
+    let length = rng.pick(&[0, 0, 1, 2, 249, 250, 251, 252]);
+    let sign = rng.pick(b"0A\x80\n");
+    let end: &[u8] = rng.pick(&[&[CR][..], &[CR, LF], &[CR, CR], &[ESC], &[]]);
+    [&[ESC][..], &vec![sign; length], end].concat()
+}
+
+/// A stream of as many bytes as a line takes, or one less. Most are of few
+/// parts.
+fn full_stream(rng: &mut Rng) -> Vec<u8> {
+    let length = crate::script::BYTES - rng.below(2);
+    let (first, sign, last) = match rng.below(6) {
+        0 => (ESC, ESC, CR),
+        1 => (b'A', b'A', b'A'),
+        2 => (ESC, b'A', b'A'),
+        3 => (ESC, b'A', ESC),
+        _ => (ESC, b'A', CR),
+    };
+    let mut bytes = vec![sign; length];
+    (bytes[0], bytes[length - 1]) = (first, last);
+    bytes
+}
+
+/// A stream to be parted.
+pub fn parted(rng: &mut Rng) -> Vec<u8> {
+    const SIGNS: &[u8] = b"\x1B\x1B\x1B\x1B\r\r\r\nAI\x00\x1A\x1C\x1F\x20\x7F\x80\xFF";
+    let pieces = rng.between(0, 6);
+    let mut bytes: Vec<u8> = match rng.below(24) {
+        0..=6 => (0..rng.below(13)).map(|_| rng.pick(SIGNS)).collect(),
+        7..=12 => (0..rng.between(1, 4))
+            .flat_map(|_| measured_frame(rng))
+            .collect(),
+        13 => torn(rng),
+        14 => noise(rng),
+        15 => [long_frame(rng), piece(rng)].concat(),
+        16 => asked(rng, pieces),
+        17 => sender(rng, pieces),
+        18 if rng.one_in(3) => full_stream(rng),
+        _ => stream_of(rng, pieces),
+    };
+    bytes.truncate(crate::script::BYTES);
+    bytes
+}
+
+/// A place to part a stream from: its start, anywhere in it, about a byte that
+/// opens or ends a frame, its end, and past it.
+fn place_of(rng: &mut Rng, bytes: &[u8]) -> u16 {
+    let length = bytes.len();
+    let ends: Vec<usize> = (0..length)
+        .filter(|&place| [ESC, CR, LF].contains(&bytes[place]))
+        .collect();
+    let place = match rng.below(12) {
+        0..=3 => 0,
+        4..=6 if !ends.is_empty() => (rng.pick(&ends) + rng.below(3)).saturating_sub(1),
+        7 => length - rng.below(4).min(length),
+        8 => length + rng.below(3),
+        9 => rng.pick(&[1, 255, 256, 300, 301, 4095, 4096, 4097, 32_768, 65_535]),
+        _ => rng.below(length + 1),
+    };
+    place as u16
+}
+
+/// A mode that is none.
+fn no_mode(rng: &mut Rng) -> u8 {
+    let any = rng.byte();
+    let mode = rng.pick(&[2, 3, 4, 7, 9, 11, 13, 18, 128, 255, any]);
+    if MODES.contains(&mode) {
+        255
+    } else {
+        mode
+    }
+}
+
+/// The bytes of a frame to be judged.
+pub fn judged(rng: &mut Rng) -> Vec<u8> {
+    match rng.below(32) {
+        0..=5 => one_of_all(rng),
+        6..=11 => out_of_range_body(rng),
+        12 | 13 => {
+            let rows = rng.pick(&[Command::Position, Command::Inverse]);
+            let numbers = [rng.below(8) as u16, rng.below(18) as u16];
+            body(rows, &numbers, &[])
+        }
+        14..=18 => damaged_body(rng),
+        19 | 20 => {
+            let command = rng.pick(&number_commands());
+            padded_body(rng, command)
+        }
+        21 | 22 => rng.pick(&DAMAGED).as_bytes().to_vec(),
+        23 => rng.pick(&PASSED_OVER).as_bytes().to_vec(),
+        24 => inside(&label_frame(rng)),
+        25 => inside(&picture_frame(rng)),
+        26 => inside(&odd_numbers(rng)),
+        27 => inside(&short_frame(rng)),
+        28 => long_body(rng),
+        29 => noise(rng),
+        30 => inside(&foreign(rng)),
+        _ => inside(&near_miss(rng)),
+    }
+}
+
+/// The bytes between the ESC of a stream's first frame and its CR.
+fn inside(stream: &[u8]) -> Vec<u8> {
+    let from = stream.iter().position(|&byte| byte == ESC);
+    let body = &stream[from.map_or(0, |escape| escape + 1)..];
+    body.iter()
+        .copied()
+        .take_while(|&byte| byte != CR)
+        .collect()
+}
+
+/// The bytes of a good frame; all commands are alike.
+fn one_of_all(rng: &mut Rng) -> Vec<u8> {
+    let (command, _) = SHAPES[rng.below(SHAPES.len())];
+    let numbers = good_numbers(rng, command);
+    let rest = any_rest(rng, command);
+    body(command, &numbers, &rest)
+}
+
+/// The bytes of a frame with numbers out of range: one of them, or all.
+fn out_of_range_body(rng: &mut Rng) -> Vec<u8> {
+    let commands = [number_commands(), vec![Command::Picture]].concat();
+    let command = rng.pick(&commands);
+    let mut numbers = good_numbers(rng, command);
+    let (all, one) = (rng.one_in(3), rng.below(numbers.len()));
+    for (place, number) in numbers.iter_mut().enumerate() {
+        if all || place == one {
+            *number = match rng.below(6) {
+                _ if command == Command::Picture => rng.between(7, 9) as u16,
+                0 => rng.between(256, 999) as u16,
+                1 => rng.pick(&[999, 998, 512, 256]),
+                _ => just_above(rng, command, place),
+            };
+        }
+    }
+    let rest = any_rest(rng, command);
+    body(command, &numbers, &rest)
+}
+
+/// The bytes of a good frame, or of one out of range, with a byte too many or
+/// too few, a small letter, or another byte in it.
+fn damaged_body(rng: &mut Rng) -> Vec<u8> {
+    let mut bytes = match rng.one_in(4) {
+        true => out_of_range_body(rng),
+        false => one_of_all(rng),
+    };
+    let place = rng.below(bytes.len());
+    match rng.below(10) {
+        0..=3 => {
+            let sign = bytes[bytes.len() - 1];
+            bytes.push(rng.pick(&[sign, b'0', b' ', b'z', b';', LF, CR, ESC, 0]));
+        }
+        4..=6 => {
+            let front = bytes.len().min(2);
+            bytes[..front].make_ascii_lowercase();
+            if let Some(last @ b'H') = bytes.last_mut() {
+                *last = b'h';
+            }
+        }
+        7 => drop(bytes.remove(place)),
+        8 => bytes.insert(place, rng.pick(&[b' ', b'0', ESC, CR, LF, 0x1F, 0x80])),
+        _ => bytes[place] = rng.byte(),
+    }
+    bytes
+}
+
+/// The bytes of a frame too long, or just not; none at all now and then.
+fn long_body(rng: &mut Rng) -> Vec<u8> {
+    let length = rng.pick(&[0, 249, 250, 250, 251, 251, 252, 300, 4095, 4096]);
+    let mut bytes = rng
+        .pick(&[&b"IK1"[..], b"Gr0,", b"ID0", b"IP", b"[0;0H"])
+        .to_vec();
+    let sign = rng.pick(b"00 A");
+    bytes.resize(length, sign);
+    bytes
+}
+
 fn piece(rng: &mut Rng) -> Vec<u8> {
     match rng.below(52) {
         46.. => asking_frame(rng),
@@ -1971,7 +2189,7 @@ fn sender(rng: &mut Rng, pieces: usize) -> Vec<u8> {
 
 /// A line that can't be taken, or an empty one.
 fn misfit(rng: &mut Rng) -> Vec<u8> {
-    const LINES: [&str; 83] = [
+    const LINES: [&str; 104] = [
         "",
         " ",
         "Z",
@@ -2035,6 +2253,27 @@ fn misfit(rng: &mut Rng) -> Vec<u8> {
         "N\t1B",
         "N 0x1B",
         "NN",
+        "D",
+        "D ",
+        "D 0",
+        "D 00",
+        "D 000",
+        "D 00001",
+        "D 00001B1",
+        "D 0000 1B",
+        "D  00001B",
+        "D 00001B ",
+        "D00001B",
+        "d 00001B",
+        "D 00g01B",
+        "J",
+        "J ",
+        "J 0",
+        "J 004",
+        "J 00 4944",
+        "J  004944",
+        "J004944",
+        "j 004944",
         "K",
         "K 0003",
         "K 000300",
@@ -2057,8 +2296,15 @@ fn misfit(rng: &mut Rng) -> Vec<u8> {
         "T 001E0241",
     ];
     let stream = |count: usize| format!("F 000A{}", "41".repeat(count));
-    match rng.below(22) {
+    match rng.below(25) {
         20 => no_field(rng).into_bytes(),
+        24 => too_few(rng).into_bytes(),
+        22 | 23 => {
+            let count = rng.pick(&[4097, 4097, 4097, 4098, 8191, 32_765, 40_000]);
+            let head = rng.pick(&["D 0000", "D 0000", "J 00", "D FFFF"]);
+            let byte = rng.pick(&["1B", "41"]);
+            format!("{head}{}", byte.repeat(count)).into_bytes()
+        }
         21 => {
             let count = rng.pick(&[4097, 4097, 4098, 8191, 32_767, 40_000]);
             let byte = rng.pick(&["1B", "41"]);
@@ -2110,6 +2356,14 @@ fn no_hook(rng: &mut Rng) -> String {
     }
 }
 
+/// A call of the parts or of a verdict that lacks its place or its mode.
+fn too_few(rng: &mut Rng) -> String {
+    match rng.below(6) {
+        0 | 1 => rng.pick(&["D", "D ", "J", "J "]).to_string(),
+        _ => format!("D {:02X}", rng.byte()),
+    }
+}
+
 /// A command that there isn't: the next one, or a later one.
 fn no_command(rng: &mut Rng) -> String {
     let later = rng.between(usize::from(COMMANDS), 255);
@@ -2134,7 +2388,15 @@ fn no_field(rng: &mut Rng) -> String {
 /// The line of a good call with one sign too few, too many or another, if it
 /// can't be taken then.
 fn damaged(rng: &mut Rng) -> Option<Vec<u8>> {
-    let call = match rng.below(9) {
+    let call = match rng.below(11) {
+        9 => Call::Parts {
+            place: rng.next() as u16,
+            bytes: vec![rng.pick(&[ESC, b'A']); rng.below(4)],
+        },
+        10 => Call::Verdict {
+            mode: rng.byte(),
+            body: b"ID0"[..rng.below(4)].to_vec(),
+        },
         7 => Call::Hook { on: rng.byte() },
         8 => Call::Bound {
             bytes: vec![rng.pick(&[ESC, b'A']); 3],

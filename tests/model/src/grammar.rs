@@ -249,26 +249,40 @@ fn data_ways(mut rest: &[u8]) -> Vec<(Vec<u8>, &[u8])> {
 /// The commands that are answered and change nothing.
 pub const QUESTIONS: [Command; 3] = [AskContrast, AskHook, AskVersion];
 
-/// Whether the numbers of a command are in range, where a frame can name
-/// `rows` rows. The inverse frame numbers them from 1; its 0 names none.
-pub fn numbers_in_range(command: Command, numbers: &[u16], rows: u16) -> bool {
-    let within = |low: u16, high: u16| numbers[0] >= low && numbers[0] <= high;
-    let one_of = |list: &[u16]| list.contains(&numbers[0]);
-    match command {
-        Mode => one_of(&[0, 1, 5, 6, 10, 11, 12, 13, 14, 15, 16, 17, 18]),
-        Position => numbers[0] < rows && numbers[1] < 16,
-        IconS | IconR | Mute => one_of(&[0, 1]),
-        IconU => one_of(&[0, 1, 255]),
-        IconF | Picture => within(0, 6),
-        IconP => within(0, 19),
-        IconW => within(0, 3),
-        Private | HandsfreeJ | HandsfreeI => within(0, 10),
-        Times => crate::ranges::time1(numbers[0]) && crate::ranges::time2(numbers[1]),
-        Buzzer | LightNumber => within(0, 255),
-        Contrast => crate::ranges::contrast(numbers[0]),
-        Inverse => within(0, rows),
+/// Whether the number at this place of a command is in range, where a frame
+/// can name `rows` rows. The inverse frame numbers them from 1; its 0 names
+/// none.
+fn number_in_range(command: Command, place: usize, n: u16, rows: u16) -> bool {
+    match (command, place) {
+        (Mode, _) => [0, 1, 5, 6, 10, 11, 12, 13, 14, 15, 16, 17, 18].contains(&n),
+        (Position, 0) => n < rows,
+        (Position, _) => n < 16,
+        (IconS | IconR | Mute, _) => n <= 1,
+        (IconU, _) => [0, 1, 255].contains(&n),
+        (IconF | Picture, _) => n <= 6,
+        (IconP, _) => n <= 19,
+        (IconW, _) => n <= 3,
+        (Private | HandsfreeJ | HandsfreeI, _) => n <= 10,
+        (Times, 0) => crate::ranges::time1(n),
+        (Times, _) => crate::ranges::time2(n),
+        (Buzzer | LightNumber, _) => n <= 255,
+        (Contrast, _) => crate::ranges::contrast(n),
+        (Inverse, _) => n <= rows,
         _ => true,
     }
+}
+
+/// The first number of a command, in the order of its frame, that is out of
+/// range. None: all are in range.
+pub fn first_out_of_range(command: Command, numbers: &[u16], rows: u16) -> Option<u16> {
+    (0..numbers.len())
+        .find(|&place| !number_in_range(command, place, numbers[place], rows))
+        .map(|place| numbers[place])
+}
+
+/// Whether all numbers of a command are in range.
+pub fn numbers_in_range(command: Command, numbers: &[u16], rows: u16) -> bool {
+    first_out_of_range(command, numbers, rows).is_none()
 }
 
 /// How many numbers a command has.

@@ -4,9 +4,10 @@
 //!
 //! The model is written plainly, to be read beside the paper: `record`,
 //! `ranges` (a list of rules), `grammar` (a table of shapes), `effect`,
-//! `stream` (parts the whole stream first, then takes the parts), `keys` (a
-//! list of rules), `seen`, `writers`. `script` reads and answers scripts: one
-//! call a line. `generate` makes random scripts by a seed.
+//! `stream` (parts the whole stream first, then takes the parts), `places`
+//! (the part at a place, the verdict of a frame), `keys` (a list of rules),
+//! `seen`, `writers`. `script` reads and answers scripts: one call a line.
+//! `generate` makes random scripts by a seed.
 //!
 //! Commands:
 //!
@@ -17,6 +18,11 @@
 //!   B - 1 and compares its answers with the model's. The last line is
 //!   `N passed, M failed`; the exit status is 1 if one failed.
 //! - `tests list < stream`: the listing of the program "list screen".
+//! - `tests parts < stream`: a line `PLACE KIND END` for each part, where KIND
+//!   is `text`, `skipped`, `closed`, `abandoned` or `tail`.
+//! - `tests verdicts < stream`: a line for each closed frame, `PLACE bad`,
+//!   `PLACE passed over NUMBER` (its first number out of range) or
+//!   `PLACE obeyed`, from the power-on record on.
 //! - `tests screens PROGRAM-WORDS... --seeds A..B [--seconds S]`: compares
 //!   that program's listings of random streams.
 //! - `tests property A..B`: checks the model against itself.
@@ -24,7 +30,7 @@
 //!   reach; exit status 1 if something isn't reached.
 //!
 //! KINDS is a list of call letters, for instance `PSRF`; without it all
-//! (`POSRFNKCHBQUMVWTGX`, where X stands for lines that can't be taken).
+//! (`POSRFNDJKCHBQUMVWTGX`, where X stands for lines that can't be taken).
 
 mod compare;
 mod cover;
@@ -32,6 +38,7 @@ mod effect;
 mod generate;
 mod grammar;
 mod keys;
+mod places;
 mod property;
 mod ranges;
 mod record;
@@ -53,6 +60,8 @@ const USAGE: &str = "usage:
   tests answer < script
   tests compare PROGRAM-WORDS... --seeds A..B --calls N [--kinds KINDS] [--seconds S]
   tests list < stream
+  tests parts < stream
+  tests verdicts < stream
   tests screens PROGRAM-WORDS... --seeds A..B [--seconds S]
   tests property A..B
   tests cover A..B [CALLS]";
@@ -131,12 +140,9 @@ fn command(words: &[String]) -> Result<bool, String> {
         ["make", seed, calls] => make(number(seed)?, number(calls)?, generate::KINDS),
         ["make", seed, calls, list] => make(number(seed)?, number(calls)?, &kinds(list)?),
         ["answer"] => answer().map_err(text),
-        ["list"] => {
-            let mut stream = vec![];
-            std::io::stdin().read_to_end(&mut stream).map_err(text)?;
-            print!("{}", seen::listing(&stream));
-            Ok(true)
-        }
+        ["list"] => listing(seen::listing).map_err(text),
+        ["parts"] => listing(places::list_parts).map_err(text),
+        ["verdicts"] => listing(places::list_verdicts).map_err(text),
         ["compare", ref rest @ ..] => {
             let options = options(&owned(rest))?;
             let folder = compare::Folder::new().map_err(text)?;
@@ -181,6 +187,14 @@ fn make(seed: u64, calls: usize, kinds: &str) -> Result<bool, String> {
     std::io::stdout()
         .write_all(&script)
         .map_err(|error| error.to_string())?;
+    Ok(true)
+}
+
+/// Writes what is to be listed of the stream on standard input.
+fn listing(of: fn(&[u8]) -> String) -> std::io::Result<bool> {
+    let mut stream = vec![];
+    std::io::stdin().read_to_end(&mut stream)?;
+    std::io::stdout().write_all(of(&stream).as_bytes())?;
     Ok(true)
 }
 

@@ -3,9 +3,12 @@
 use std::collections::BTreeMap;
 
 use crate::effect::{self, LONGEST};
-use crate::generate::{asked, close_bodies, random_record, stream_of, MODES, OVERLAYS};
+use crate::generate::{
+    asked, close_bodies, judged, parted, random_record, stream_of, MODES, OVERLAYS,
+};
 use crate::grammar::{readings, spelt, Command, Spelt, QUESTIONS};
 use crate::keys;
+use crate::places::{list_parts, list_verdicts, parts_from, verdict, Found, Kind, Verdict};
 use crate::ranges::in_range;
 use crate::record::*;
 use crate::rng::Rng;
@@ -637,6 +640,250 @@ pub fn parts_join(seed: u64) -> Result<(), String> {
     }
 }
 
+/// The part that lies at these places, its bytes taken from the stream.
+fn part_of(bytes: &[u8], place: usize, found: &Found) -> Option<Part> {
+    let body = bytes.get(found.body..found.body_end)?.to_vec();
+    let frame = bytes[place] == ESC && found.body == place + 1;
+    let byte = body.is_empty() && found.end == place + 1 && found.body == found.end;
+    match found.kind {
+        Kind::None => None,
+        Kind::Text => byte.then_some(Part::Text(bytes[place])),
+        Kind::Skipped => byte.then_some(Part::Skipped(bytes[place])),
+        Kind::Closed => (frame && found.end == found.body_end + 1).then_some(Part::Closed(body)),
+        Kind::Abandoned => (frame && found.end == found.body_end).then_some(Part::Abandoned(body)),
+        Kind::Tail => (frame && found.end == found.body_end).then_some(Part::Tail(body)),
+    }
+}
+
+/// From every place the parts follow one another to the end of the stream.
+/// They are those of the parting of the bytes from there on.
+pub fn parts_by_place(seed: u64) -> Result<(), String> {
+    let mut rng = Rng::new(seed ^ 0xD11);
+    let bytes = parted(&mut rng);
+    let past = bytes.len() + 2;
+    let places: Vec<usize> = match past {
+        0..=400 => (0..=past).collect(),
+        _ => (0..40).map(|_| rng.below(past + 1)).collect(),
+    };
+    for place in places {
+        let rest = parting(bytes.get(place..).unwrap_or(&[]));
+        let found = parts_from(&bytes, place);
+        let mut at = place;
+        for ((part, behind), found) in rest.iter().zip(&found) {
+            if part_of(&bytes, at, found).as_ref() != Some(part) || found.end != place + behind {
+                return Err(format!("seed {seed}: from {place} on, {found:?} at {at}"));
+            }
+            at = found.end;
+        }
+        let none = Found {
+            kind: Kind::None,
+            end: at,
+            body: at,
+            body_end: at,
+        };
+        let ended = at == bytes.len().max(place) && found.last() == Some(&none);
+        if found.len() != rest.len() + 1 || !ended {
+            return Err(format!(
+                "seed {seed}: the parts from {place} on end at {at}"
+            ));
+        }
+    }
+    Ok(())
+}
+
+/// Taking the parts by their places, each frame by its verdict, gives what the
+/// stream call gives.
+pub fn parts_make_the_call(seed: u64) -> Result<(), String> {
+    let mut rng = Rng::new(seed ^ 0xD12);
+    let start = random_record(seed);
+    let offered = match rng.one_in(3) {
+        true => parted(&mut rng),
+        false => stream_of(&mut rng, 8),
+    };
+    let bytes = [stream::standing(&start.frame), offered.clone()].concat();
+    let mut record = start.clone();
+    record.frame = NO_FRAME;
+    let mut said = vec![];
+    let mut place = 0;
+    for found in parts_from(&bytes, 0) {
+        let body = &bytes[found.body..found.body_end];
+        match found.kind {
+            Kind::None | Kind::Skipped => (),
+            Kind::Text => effect::text(&mut record, bytes[place]),
+            Kind::Abandoned => said.push(QUESTION),
+            Kind::Tail => drop(stream::take(&mut record, &Part::Tail(body.to_vec()))),
+            Kind::Closed => match (verdict(body, rows_to_name(record.mode)), spelt(body)) {
+                (Verdict::PassedOver(_), Some(_)) => (),
+                (Verdict::Obeyed, Some(good)) => {
+                    said.extend(effect::answer(&record, &good));
+                    effect::take(&mut record, &good);
+                }
+                _ => said.push(QUESTION),
+            },
+        }
+        place = found.end;
+    }
+    if (record, said) == with_room_for_all(&start, &offered) {
+        Ok(())
+    } else {
+        Err(format!("seed {seed}: the parts make another call"))
+    }
+}
+
+/// Two records of one text mode that are unlike in every field which a frame
+/// can change: an obeyed frame that is no question changes one of them at
+/// least.
+fn unlike(mode: u8) -> [Record; 2] {
+    let plain = Record { mode, ..power_on() };
+    let other = Record {
+        display: false,
+        overlay: 11,
+        shown: true,
+        row: u8::from(mode != LARGE),
+        column: 2,
+        text: [b'x'; TEXT_ROWS * CODES],
+        line: [b'x'; LINE],
+        left: label_of(b"x"),
+        right: label_of(b"x"),
+        picture: [1; 7 * COLUMNS],
+        icons: [1; 6],
+        volume: Volume {
+            which: 1,
+            level: 1,
+            mute: true,
+            hidden: false,
+        },
+        time1: 5,
+        time2: 4,
+        buzzer: 1,
+        backlight: Backlight {
+            mode: 2,
+            duration: 2,
+            left: 1,
+            keypad: true,
+        },
+        contrast: 1,
+        hook: false,
+        marks: [true, false, false, false, false],
+        ..plain.clone()
+    };
+    [plain, other]
+}
+
+/// The verdict says what the stream call does to a whole frame.
+pub fn verdict_comes_true(seed: u64) -> Result<(), String> {
+    let mut rng = Rng::new(seed ^ 0xD13);
+    for body in (0..40).map(|_| judged(&mut rng)) {
+        if body.contains(&ESC) || body.contains(&CR) {
+            // No whole frame has such bytes.
+            if verdict(&body, 5) != Verdict::Bad {
+                return Err(format!("seed {seed}: {body:?} is good"));
+            }
+            continue;
+        }
+        let bytes = [&[ESC], &body[..], &[CR]].concat();
+        for mode in MODES {
+            let records = unlike(mode);
+            let [one, other] = records.clone().map(|r| with_room_for_all(&r, &bytes));
+            let same = [one.0, other.0] == records;
+            let marks = [&one.1[..], &other.1].map(|said| said == [QUESTION]);
+            let silent = one.1.is_empty() && other.1.is_empty();
+            let question = [&b"IA"[..], b"IH", b"&V"].contains(&&body[..]);
+            let true_now = match verdict(&body, script::rows_of_verdict(mode)) {
+                Verdict::Bad => same && marks == [true; 2],
+                Verdict::PassedOver(_) => same && silent,
+                Verdict::Obeyed if question => same && one.1.len() > 1 && other.1.len() > 1,
+                Verdict::Obeyed => !same && silent,
+            };
+            if !true_now {
+                return Err(format!("seed {seed}: {body:?} in mode {mode}"));
+            }
+        }
+    }
+    Ok(())
+}
+
+/// Whether a number is in the range that the papers have for these letters
+/// where a frame can name so many rows.
+fn number_fits(letters: &str, n: u16, rows: u16) -> bool {
+    match letters {
+        "ID" => n < 2 || n == 5 || n == 6 || (10..19).contains(&n),
+        "IS" | "IR" | "IM" => n < 2,
+        "IU" => n < 2 || n == 255,
+        "IF" => n < 7,
+        "IP" => n < 20,
+        "IW" => n < 4,
+        "IL" | "IJ" | "II" => n < 11,
+        "IB" | "IE" => n < 256,
+        "IA" => n > 0 && n < 21,
+        "IZ" => n < rows + 1,
+        _ => false,
+    }
+}
+
+/// The verdicts of frames with one number, and with two: the number that is
+/// told is the first out of range.
+pub fn verdicts_of_numbers() -> Result<(), String> {
+    let check = |body: String, mode: u8, wrong: Option<u16>| {
+        let wanted = wrong.map_or(Verdict::Obeyed, Verdict::PassedOver);
+        match verdict(body.as_bytes(), script::rows_of_verdict(mode)) {
+            told if told == wanted => Ok(()),
+            told => Err(format!("{body} in mode {mode}: {told:?}")),
+        }
+    };
+    let letters = [
+        "ID", "IS", "IU", "IF", "IR", "IP", "IW", "IL", "IJ", "II", "IM", "IB", "IE", "IA", "IZ",
+    ];
+    let many: Vec<u16> = (0..60).chain([99, 255, 256, 999]).collect();
+    for (mode, rows) in [(0, 4), (1, 4), (5, 5), (6, 5), (10, 0), (2, 5), (255, 5)] {
+        for letters in letters {
+            for n in 0..1000 {
+                let wrong = (!number_fits(letters, n, rows)).then_some(n);
+                check(format!("{letters}{n}"), mode, wrong)?;
+            }
+        }
+        for row in 0..10 {
+            check(format!("Gr{row},00z"), mode, (row > 6).then_some(row))?;
+        }
+        for (a, b) in many.iter().flat_map(|&a| many.iter().map(move |&b| (a, b))) {
+            let column = (b > 15).then_some(b);
+            let wrong = if a < rows { column } else { Some(a) };
+            check(format!("[{a};{b}H"), mode, wrong)?;
+            let time2 = (b != 0 && !(4..=50).contains(&b)).then_some(b);
+            let wrong = if (4..=50).contains(&a) {
+                time2
+            } else {
+                Some(a)
+            };
+            check(format!("IT{a};{b}"), mode, wrong)?;
+        }
+    }
+    Ok(())
+}
+
+/// The listings of a stream tell of the same frames, and of as many question
+/// marks as the stream call gives.
+pub fn listings(seed: u64) -> Result<(), String> {
+    let mut rng = Rng::new(seed ^ 0xD14);
+    let bytes = stream_of(&mut rng, 20);
+    let (parts, verdicts) = (list_parts(&bytes), list_verdicts(&bytes));
+    let place = |line: &str| line.split(' ').next().map(str::to_string);
+    let closed = parts.lines().filter(|line| line.contains(" closed "));
+    let same = closed.map(place).eq(verdicts.lines().map(place));
+    let bad = verdicts
+        .lines()
+        .filter(|line| line.ends_with(" bad"))
+        .count();
+    let abandoned = parts.lines().filter(|line| line.contains(" abandoned "));
+    let answers = stream::answers(&power_on(), &bytes);
+    let marks = answers.iter().filter(|(_, said)| said[..] == [QUESTION]);
+    if same && bad + abandoned.count() == marks.count() {
+        Ok(())
+    } else {
+        Err(format!("seed {seed}: the listings differ"))
+    }
+}
+
 /// No frame can be read in two ways.
 pub fn one_reading(seed: u64) -> Result<(), String> {
     let mut rng = Rng::new(seed ^ 0x0E1);
@@ -1109,14 +1356,18 @@ type Check = fn(u64) -> Result<(), String>;
 type Once = fn() -> Result<(), String>;
 
 /// All checks that take no seed.
-pub const ONCE: [(&str, Once); 3] = [
+pub const ONCE: [(&str, Once); 4] = [
     ("commands read back", commands_read_back),
+    (
+        "a verdict tells the first number out of range",
+        verdicts_of_numbers,
+    ),
     ("an inverse frame marks a row of the mode", inverse_frames),
     ("two marks are refused", marks_refused),
 ];
 
 /// All checks that take a seed.
-pub const CHECKS: [(&str, Check); 24] = [
+pub const CHECKS: [(&str, Check); 28] = [
     ("cutting a stream elsewhere changes nothing", cutting),
     ("a cut at any place changes nothing", cut_anywhere),
     ("a call stops where an answer does not fit", stops),
@@ -1131,6 +1382,13 @@ pub const CHECKS: [(&str, Check); 24] = [
     ("a line is cleared from the cursor on", lines_cleared),
     ("marks are seen in text rows alone", marks_seen),
     ("the parts are the stream", parts_join),
+    ("from any place the parts go on to the end", parts_by_place),
+    (
+        "the parts by their places make the call",
+        parts_make_the_call,
+    ),
+    ("a verdict comes true", verdict_comes_true),
+    ("the listings tell of the same frames", listings),
     ("a frame has one reading", one_reading),
     ("bad and out-of-range frames change nothing", no_effect),
     ("labels and pictures read back", rows_read_back),

@@ -2,6 +2,7 @@
 
 use crate::grammar::{Command, SHAPES};
 use crate::keys;
+use crate::places::{parts_from, verdict, Found, Verdict};
 use crate::record::*;
 use crate::seen::{self, Bar, Column, Half, Owner, Phase, PHASES};
 use crate::{effect, ranges, stream, writers};
@@ -33,6 +34,16 @@ pub enum Call {
     /// The room that a stream call with these bytes can need.
     Bound {
         bytes: Vec<u8>,
+    },
+    /// The parts of a stream from a place on.
+    Parts {
+        place: u16,
+        bytes: Vec<u8>,
+    },
+    /// The verdict of a frame in a text mode.
+    Verdict {
+        mode: u8,
+        body: Vec<u8>,
     },
     Keys {
         room: u16,
@@ -90,6 +101,8 @@ pub enum Answer {
         buffer: Vec<u8>,
     },
     Bound(u8, usize),
+    Parts(Vec<Found>),
+    Verdict(Verdict),
     Number(u8),
     Thin(u8, Backlight),
     Row(u8, Owner),
@@ -167,6 +180,14 @@ fn with_bytes(letter: u8, bytes: &[u8]) -> Option<Call> {
         }
         (b'N', bytes) => (bytes.len() <= BYTES).then(|| Call::Bound {
             bytes: bytes.to_vec(),
+        }),
+        (b'D', &[high, low, ref bytes @ ..]) => (bytes.len() <= BYTES).then(|| Call::Parts {
+            place: u16::from_be_bytes([high, low]),
+            bytes: bytes.to_vec(),
+        }),
+        (b'J', &[mode, ref body @ ..]) => (body.len() <= BYTES).then(|| Call::Verdict {
+            mode,
+            body: body.to_vec(),
         }),
         (_, &[high, low, ref rest @ ..]) => {
             let room = u16::from_be_bytes([high, low]);
@@ -248,6 +269,8 @@ pub fn line(call: &Call) -> Vec<u8> {
         .concat(),
         Call::Stream { room, bytes } => [&room.to_be_bytes()[..], bytes].concat(),
         Call::Bound { bytes } => bytes.clone(),
+        Call::Parts { place, bytes } => [&place.to_be_bytes()[..], bytes].concat(),
+        Call::Verdict { mode, body } => [&[*mode][..], body].concat(),
         Call::Keys { room, ticks, edges } => {
             let count = ticks.len() as u16;
             let ticks: Vec<u8> = ticks.iter().flat_map(|tick| tick.to_be_bytes()).collect();
@@ -290,6 +313,16 @@ pub fn lent(room: u16) -> Vec<u8> {
 /// The command with this number in a script.
 pub fn command(number: u16) -> Command {
     SHAPES[usize::from(number)].0
+}
+
+/// Rows that a frame can name in the mode of a verdict. A mode that is none
+/// has five: that is the driver's choice, for a number that no record in range
+/// holds.
+pub fn rows_of_verdict(mode: u8) -> u8 {
+    match rows(mode) {
+        Some(_) => rows_to_name(mode),
+        None => TEXT_ROWS as u8,
+    }
 }
 
 /// The thin entry: judges the backlight's own ranges.
@@ -361,6 +394,8 @@ pub fn perform(record: &mut Record, call: &Call) -> Answer {
             let (number, bound) = stream::bound(record, bytes);
             Answer::Bound(number, bound)
         }
+        Call::Parts { place, bytes } => Answer::Parts(parts_from(bytes, usize::from(*place))),
+        Call::Verdict { mode, body } => Answer::Verdict(verdict(body, rows_of_verdict(*mode))),
         Call::Keys { room, ticks, edges } => {
             let mut buffer = lent(*room);
             counts(keys::call(record, ticks, edges, &mut buffer), buffer)
@@ -550,6 +585,25 @@ fn put_column(out: &mut Vec<u8>, column: &Column) {
     }
 }
 
+/// A part: its kind, where the next begins, and where its bytes lie.
+fn put_part(out: &mut Vec<u8>, part: &Found) {
+    let places = [part.end, part.body, part.body_end].map(|place| (place as u16).to_be_bytes());
+    put(
+        out,
+        "part",
+        &[&[part.kind as u8][..], &places.concat()].concat(),
+    );
+}
+
+/// A verdict as its number, and the number out of range.
+fn verdict_numbers(verdict: Verdict) -> (u8, u16) {
+    match verdict {
+        Verdict::Bad => (0, 0),
+        Verdict::PassedOver(number) => (1, number),
+        Verdict::Obeyed => (2, 0),
+    }
+}
+
 /// What a call answers that was lent a buffer.
 fn put_lent(
     out: &mut Vec<u8>,
@@ -573,6 +627,8 @@ pub fn letter(call: &Call) -> char {
         Call::InRange => 'R',
         Call::Stream { .. } => 'F',
         Call::Bound { .. } => 'N',
+        Call::Parts { .. } => 'D',
+        Call::Verdict { .. } => 'J',
         Call::Keys { .. } => 'K',
         Call::Second => 'C',
         Call::Hook { .. } => 'H',
@@ -603,6 +659,15 @@ pub fn print(out: &mut Vec<u8>, call: &Call, answer: &Answer, record: &Record) {
         Answer::Bound(number, bound) => {
             let [high, low] = (*bound as u16).to_be_bytes();
             put(out, &letter, &[*number, high, low]);
+        }
+        Answer::Parts(parts) => {
+            put(out, &letter, &[]);
+            parts.iter().for_each(|part| put_part(out, part));
+        }
+        Answer::Verdict(verdict) => {
+            let (verdict, number) = verdict_numbers(*verdict);
+            let [high, low] = number.to_be_bytes();
+            put(out, &letter, &[verdict, high, low]);
         }
         Answer::Number(number) => put(out, &letter, &[*number]),
         Answer::Thin(number, light) => {
