@@ -8,5 +8,6 @@ pub mod Sound
 pub mod Agree
 pub mod OneSpelling
 pub mod Facts
+pub mod Plain
 pub mod Found
 pub mod Cases

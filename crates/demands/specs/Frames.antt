@@ -34,7 +34,7 @@ use Rattle.parting.specs.Room.{run}
 use Rattle.stream.specs.Stream.{handset, obeyFrame, keptFrame, frameIn, stateOf, recordOf, writtenOver}
 use Rattle.stream.specs.Frames.{body-of}
 use Rattle.stream.specs.Demand.{HandedBack, fedBack, partsTaken, ranBack, back-is-run, record-same}
-use Rattle.writer.specs.Plain.{spells-within}
+use Rattle.command.specs.Plain.{spells-within}
 
 -- THE PART ------------------------------------------------------------------------------------------------------------
 

@@ -2,5 +2,4 @@ pub mod Writing
 pub mod Laws
 pub mod Lines
 pub mod Cases
-pub mod Plain
 pub mod ReadBack

@@ -29,7 +29,7 @@ use Rattle.writer_ranges.specs.Fitting.{isLabel, isRow}
 use Rattle.writer.specs.declared.Written.{Written}
 use Rattle.writer.specs.Writing.{bodyOf, labelBody, rowBody, frameOf, writtenOf, roomAfter}
 use Rattle.writer.specs.Laws.{label-told, row-told, done-told}
-use Rattle.writer.specs.Plain.{first-and-others, spells-within}
+use Rattle.command.specs.Plain.{first-and-others, spells-within}
 
 -- a body reads back as an order: it spells it, its frame's bytes are that closed frame and an LF that is skipped, and it is not long
 pub record ReadsBack (order : Order) (body : List ℕ) : Type 0 where
