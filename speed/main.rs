@@ -21,6 +21,7 @@ extern "C" {
     fn measure_short_calls(bytes: *const u8, len: usize, answers: *mut u8, room: usize) -> u64;
     fn measure_range_checks(bytes: *const u8, len: usize) -> u64;
     fn count_parts(bytes: *const u8, len: usize) -> usize;
+    fn measure_choice(bytes: *const u8, len: usize) -> usize;
 }
 
 const CALL: usize = 64;
@@ -53,6 +54,10 @@ fn ours_short(bytes: &[u8], answers: &mut [u8]) -> u64 {
 
 fn ours_parts(bytes: &[u8]) -> u64 {
     unsafe { count_parts(bytes.as_ptr(), bytes.len()) as u64 }
+}
+
+fn ours_choice(bytes: &[u8]) -> u64 {
+    unsafe { measure_choice(bytes.as_ptr(), bytes.len()) as u64 }
 }
 
 fn plain_parts(bytes: &[u8]) -> u64 {
@@ -207,6 +212,19 @@ fn main() {
     report(&all[..3]);
     let [parts, call, longer] = [all[0].best, all[2].best, all[3].best];
     println!("  parts: {:.3} ms, {:.2} of the stream call; at double length {:.2} times as long", parts / 1e6, parts / call, longer / parts);
+    drop(all);
+
+    let screens = streams::screens(4_000);
+    same("a stream of choice screens breaks no rule", 0, ours_choice(&screens));
+    same("one without its last label breaks one at its end", screens.len() as u64 - 30, ours_choice(&screens[..screens.len() - 30]));
+    println!("\n4,000 choice screens: {} bytes, checked against the shop's rules", screens.len());
+    let mut all = vec![
+        Candidate::new("the choice check", screens.len(), || ours_choice(&screens)),
+        Candidate::new("the stream call, ours, one call", screens.len(), || ours(&screens, b)),
+    ];
+    race(&mut all, rounds);
+    report(&all);
+    println!("  the check: {:.2} bytes a nanosecond, {:.2} of the stream call", screens.len() as f64 / all[0].best, all[0].best / all[1].best);
     drop(all);
 
     println!("\nGrowth with length: the mixed stream, one call");

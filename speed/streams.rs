@@ -107,3 +107,12 @@ pub fn pictures(frames: usize) -> Vec<u8> {
     }
     work.handset
 }
+
+/// Choice screens, each with its labels behind the mode and then text; the last 30 bytes are the right label's frame and the text.
+pub fn screens(count: usize) -> Vec<u8> {
+    let mut stream = b"\x1bID0\r\n".to_vec();
+    for _ in 0..count {
+        stream.extend_from_slice(b"\x1bID5\r\n\x1b[1;0H\r\n\x1bIK1Mine\r\n\x1bIK2Theirs\r\nWhich do we keep?!");
+    }
+    stream
+}

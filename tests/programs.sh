@@ -37,7 +37,7 @@ length=$(wc -c <$stream)
 
 # ./run: its own words
 names=$(cd crates && printf '%s\n' */src/main.rt | cut -d / -f 1)
-readers='count_room drive explain list_screen show_screen write_frame'
+readers='check_choice count_room drive explain list_screen show_screen write_frame'
 without_progress() { # what was said on standard error, but for how far the proofs are, which a slow machine is told
     grep -Ev '^run: (proving|waiting)' "$work/err"
 }
@@ -95,6 +95,8 @@ ends "./run explain FILE" 0 '' ./run explain crates/explain/stdin
 same "./run explain FILE tells the parts" crates/explain/stdout <"$work/out"
 ends "./run count_room FILE" 0 '' ./run count_room crates/count_room/stdin
 same "./run count_room FILE prints the room" crates/count_room/stdout <"$work/out"
+ends "./run check_choice FILE" 0 '' ./run check_choice crates/check_choice/stdin
+same "./run check_choice FILE prints the rule" crates/check_choice/stdout <"$work/out"
 ends "./run write_frame FILE" 0 '' ./run write_frame examples/menu.words
 same "./run write_frame FILE writes the frames" examples/menu.stream <"$work/out"
 ends "./run drive FILE" 0 '' ./run drive crates/drive/stdin
@@ -206,7 +208,7 @@ for tool in bash dirname rt; do ln -s "$(command -v $tool)" "$work/no_cargo/$too
 0 passed, 1 failed"
 
 # what is stored
-for name in list_screen write_frame show_screen count_room explain; do
+for name in list_screen write_frame show_screen count_room check_choice explain; do
     ./run $name <crates/$name/stdin 2>/dev/null | same "./run $name writes what is stored" crates/$name/stdout
 done
 ./run jetty >"$work/jetty"
@@ -330,6 +332,67 @@ for counted in examples/*.stream; do
     marks=$(program list_screen "$counted" | head -n 1)
     [ "${marks#REPLIES }" -le "${room#ROOM }" ] && echo within || echo "$marks $room"
 done | sort -u | says "count_room: no example is answered more often" within
+
+# check_choice: the examples, and each rule in words
+cat >"$work/judged" <<'LINES'
+choice NO 0 1
+choice_rule1 NO 0 1
+choice_rule2 NO 85 2
+choice_rule3 NO 72 3
+choice_rule4 NO 158 4
+choice_screen YES
+depot_digits NO 0 1
+depot_part NO 0 1
+depot_rocker NO 0 1
+menu NO 0 1
+meter NO 31 3
+picture NO 0 1
+LINES
+for judged in examples/*.stream; do
+    echo "$(basename "$judged" .stream) $(program check_choice "$judged" | head -n 1)"
+done | same "check_choice: what it says of each example" "$work/judged"
+program check_choice examples/choice_screen.stream | says "check_choice: of a good stream it says YES and no more" YES
+in_words() { # RULE TEXT: the second line, of which there is no third
+    program check_choice examples/choice_rule$1.stream | tail -n +2 | says "check_choice: rule $1 in words" "$2"
+}
+in_words 1 "The first part must be an obeyed ID0 or ID5: look at what the stream begins with."
+in_words 2 "After each later ID0, ID1, ID5, ID6 or ID10 both labels must be set, and neither empty, before the next text byte, the next IDn \
+or the end: look before this offset for an IK1 or IK2 that is missing, empty or undone by IK0."
+in_words 3 "No '?' may be given: look at this offset for a frame that is misspelt, too long or cut off by another ESC."
+in_words 4 "No frame may be left open: look behind the ESC at this offset for the CR that is missing."
+
+# check_choice: no bytes, a few, input in pieces
+judged() { # the first line of what it says of standard input
+    program check_choice | head -n 1
+}
+judged </dev/null | says "check_choice: an empty stream breaks rule 1 at its first place" "NO 0 1"
+printf '\eID0\r' | judged | says "check_choice: the first screen needs no labels" YES
+printf '\eID0' | judged | says "check_choice: a first frame that is left open breaks rule 1 before rule 4" "NO 0 1"
+printf '\eID0\r\eID5\r' | judged | says "check_choice: labels that are missing at the end" "NO 10 2"
+printf '\eID0\r\eID5\r\eIK1Keep\r\eIK2\rGo' | judged | says "check_choice: a label that is empty" "NO 24 2"
+printf '\eID0\r\eID5\r\eIK1Keep\r\eIK2Drop\rGo' | judged | says "check_choice: both labels" YES
+stored=crates/check_choice/stdin
+size=$(wc -c <$stored)
+for ((at = 1; at <= size; at++)); do
+    tail -c +$at $stored | head -c 1
+    sleep 0.02
+done | program check_choice | same "check_choice: one byte at a time changes nothing" crates/check_choice/stdout
+
+# check_choice: the longest stream that it holds, and a longer one
+most=1048576
+filled() { # LENGTH: a first screen and text
+    printf '\eID0\r'
+    head -c $(($1 - 5)) /dev/zero | tr '\0' x
+}
+program check_choice --help | grep -o "longer than $most bytes" | says "check_choice: its usage says how long a stream can be" "longer than $most bytes"
+filled $most | program check_choice | says "check_choice: $most bytes" YES
+{ filled $((most - 1)); printf '\e'; } | judged | says "check_choice: the last of $most bytes" "NO $((most - 1)) 4"
+filled $((most + 1)) >"$work/long"
+ends "./run check_choice, a file too long" 1 "check_choice: $work/long: longer than $most bytes" ./run check_choice "$work/long"
+silent "./run check_choice, a file too long: nothing is written"
+ends "./run check_choice, standard input too long" 1 "check_choice: standard input: longer than $most bytes" ./run check_choice <"$work/long"
+silent "./run check_choice, standard input too long: nothing is written"
+ends "./run check_choice, an input without end" 1 "check_choice: standard input: longer than $most bytes" ./run check_choice < <(yes 2>/dev/null)
 
 # write_frame, and its frames read back
 cat >"$work/script" <<'WORDS'

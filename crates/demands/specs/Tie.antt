@@ -40,6 +40,8 @@ use Rattle.seen_panels.specs.Panels.{smsPanel, volumePanel}
 use Rattle.seen.specs.Rows.{rowSeen, smsSeen, volumeSeen}
 use Rattle.seen.specs.Columns.{columnSeen}
 use Rattle.writer_ranges.specs.Fitting.{isLabel, isRow}
+use Rattle.choice.specs.Choice.{choiceOf}
+use Rattle.measure.specs.Choices.{brokenFirst}
 use Rattle.writer.specs.Writing.{bodyOf, labelBody, rowBody, frameOf, writtenOf, roomAfter}
 use Rattle.record.proofs.paper_number as PaperNumber
 use Rattle.record.proofs.paper_number.Reads as PaperNumberReads
@@ -128,8 +130,12 @@ use Rattle.measure.proofs.measure_short_calls as ShortCalls
 use Rattle.measure.proofs.measure_short_calls.Reads as ShortCallsReads
 use Rattle.measure.proofs.measure_range_checks as RangeChecks
 use Rattle.measure.proofs.measure_range_checks.Reads as RangeChecksReads
+use Rattle.measure.proofs.measure_choice as MeasureChoice
+use Rattle.measure.proofs.measure_choice.Reads as MeasureChoiceReads
 use Rattle.measure.proofs.count_parts as CountParts
 use Rattle.measure.proofs.count_parts.Reads as CountPartsReads
+use Rattle.choice.proofs.check as CheckChoice
+use Rattle.choice.proofs.check.Reads as CheckChoiceReads
 use Rattle.key_entry.proofs.all_listed as AllListed
 use Rattle.key_entry.proofs.all_listed.Reads as AllListedReads
 use Rattle.key_entry.proofs.take_entry as TakeEntry
@@ -360,6 +366,10 @@ escapes-in-says κs a q e w = refl
 pub room-needed-says : Says RoomNeededFor.ended RoomNeededForReads.ensures (λ κs a q e. q ≡ roomNeeded (a .0) (now (a .1 .0)))
 room-needed-says κs a q e w = refl
 
+-- choice::check
+pub check-choice-says : Says CheckChoice.ended CheckChoiceReads.ensures (λ κs a q e. q ≡ choiceOf (now (a .0)))
+check-choice-says κs a q e w = refl
+
 -- key_entry::all_listed
 pub all-listed-says : Says AllListed.ended AllListedReads.ensures (λ κs a q e. q ≡ every listed (now (a .0)))
 all-listed-says κs a q e w = refl
@@ -449,6 +459,10 @@ short-calls-says κs a q e w = refl
 -- measure::measure_range_checks
 pub range-checks-says : Says RangeChecks.ended RangeChecksReads.ensures (λ κs a q e. q ≡ goodOnes powerOn (now (a .0)))
 range-checks-says κs a q e w = refl
+
+-- measure::measure_choice
+pub measure-choice-says : Says MeasureChoice.ended MeasureChoiceReads.ensures (λ κs a q e. q ≡ brokenFirst (choiceOf (now (a .0))))
+measure-choice-says κs a q e w = refl
 
 -- measure::count_parts
 pub count-parts-says : Says CountParts.ended CountPartsReads.ensures (λ κs a q e. q ≡ length (partsOf (now (a .0))))

@@ -93,8 +93,12 @@ use Rattle.measure.proofs.measure_short_calls as ShortCalls
 use Rattle.measure.proofs.measure_short_calls.Reads as ShortCallsReads
 use Rattle.measure.proofs.measure_range_checks as RangeChecks
 use Rattle.measure.proofs.measure_range_checks.Reads as RangeChecksReads
+use Rattle.measure.proofs.measure_choice as MeasureChoice
+use Rattle.measure.proofs.measure_choice.Reads as MeasureChoiceReads
 use Rattle.measure.proofs.count_parts as CountParts
 use Rattle.measure.proofs.count_parts.Reads as CountPartsReads
+use Rattle.choice.proofs.check as CheckChoice
+use Rattle.choice.proofs.check.Reads as CheckChoiceReads
 use Rattle.key_entry.proofs.all_listed as AllListed
 use Rattle.key_entry.proofs.all_listed.Reads as AllListedReads
 use Rattle.key_entry.proofs.take_entry as TakeEntry
@@ -294,6 +298,10 @@ escapes-in-one κs a q q′ e e′ p p′ = two-equal p p′
 pub room-needed-one : OneResult RoomNeededFor.ended RoomNeededForReads.Learnt
 room-needed-one κs a q q′ e e′ p p′ = two-equal p p′
 
+-- choice::check
+pub check-choice-one : OneResult CheckChoice.ended CheckChoiceReads.Learnt
+check-choice-one κs a q q′ e e′ p p′ = two-equal p p′
+
 -- key_entry::all_listed
 pub all-listed-one : OneResult AllListed.ended AllListedReads.Learnt
 all-listed-one κs a q q′ e e′ p p′ = two-equal p p′
@@ -388,6 +396,10 @@ short-calls-one κs a q q′ e e′ p p′ = (two-equal (p .0) (p′ .0), two-eq
 -- measure::measure_range_checks
 pub range-checks-one : OneResult RangeChecks.ended RangeChecksReads.Learnt
 range-checks-one κs a q q′ e e′ p p′ = two-equal p p′
+
+-- measure::measure_choice
+pub measure-choice-one : OneResult MeasureChoice.ended MeasureChoiceReads.Learnt
+measure-choice-one κs a q q′ e e′ p p′ = two-equal p p′
 
 -- measure::count_parts
 pub count-parts-one : OneResult CountParts.ended CountPartsReads.Learnt

@@ -15,6 +15,7 @@
 //   N BYTES                     the room that a stream call on these bytes can need
 //   D PLACE BYTES               the parts of a stream from a place on, one after the other; PLACE may be any
 //   J MODE BYTES                the verdict of a frame; MODE is one byte, any, and the frame has any bytes at all
+//   E BYTES                     the choice check of a stream, with no bytes or more
 //   K ROOM COUNT TICKS EDGES    the key log call; COUNT says how many ticks, a number each, and the rest are edges, a byte each.
 //                               There may be more of one than of the other
 //   C                           a second passes, on the record
@@ -42,6 +43,8 @@
 //   D                D alone; then for each part a line "part KIND END BODY BODY_END": KIND 1 text, 2 skipped, 3 closed, 4
 //                    abandoned, 5 the tail; the others are places, two bytes each. The last has KIND 0: there is none
 //   J                J VERDICT NUMBER: 0 bad, 1 passed over, 2 obeyed; NUMBER, two bytes, is the first out of range, else 0
+//   E                E RULE OFFSET: 0 for a stream that keeps the rules of choice screens, else the rule that is broken, 1 to 4;
+//                    OFFSET, two bytes, is where, and 0 for RULE 0
 //   F, K, W, T, G    the letter NUMBER USED WRITTEN, USED 0 for the writers; then "buffer" and all that was lent, as it stands
 //                    after the call
 //   B                B NUMBER; then a line "backlight" as in the record
@@ -93,6 +96,7 @@ ghost use mathlib.Core.Path.{_≡_};
 ghost use Prim.Native.Nat.{_<_, _≤_, _*_};
 ghost use lib.ListN.{length};
 ghost use Rattle.seconds.specs.Seconds.{lightPassed};
+use choice::Choice;
 use command::Command;
 use command::Side;
 use parts::Kind;
@@ -705,6 +709,7 @@ fn is_call(letter: u8, args: &[u8]) -> bool {
         b'N' => args.len() <= MOST_STREAM,
         b'D' => (2 <= args.len()) & (args.len() <= MOST_BYTES),
         b'J' => (1 <= args.len()) & (args.len() <= 1 + MOST_STREAM),
+        b'E' => args.len() <= MOST_STREAM,
         b'K' => has_room(args, 4, MOST_BYTES) & is_log(args),
         b'Q' => (args.len() == 2) & (byte_at(args, 1) <= 1),
         b'U' => (args.len() == 3) & (byte_at(args, 2) <= 1),
@@ -862,6 +867,20 @@ fn judge_call(mode: u8, frame: &[u8]) {
     }
 }
 
+fn say_choice(rule: u8, offset: usize) {
+    say(b"E", &[rule, high(offset), low(offset)]);
+}
+
+fn choice_call(bytes: &[u8]) {
+    match choice::check(bytes) {
+        Choice::Yes => say_choice(0, 0),
+        Choice::NoScreen(offset) => say_choice(1, offset),
+        Choice::LabelMissing(offset) => say_choice(2, offset),
+        Choice::QuestionMark(offset) => say_choice(3, offset),
+        Choice::FrameOpen(offset) => say_choice(4, offset),
+    }
+}
+
 // The entry in place, on a copy.
 fn second_of(b: Backlight) -> LightPassed
     ensures { λ q. ⌜ q ≡ lightPassed b ⌝ }
@@ -941,6 +960,7 @@ fn question(r: Record, letter: u8, args: &[u8], buffer: &mut [u8]) {
         b'N' => room_call(r, args),
         b'D' => parts_call(after(args, 2), number_at(args, 0, 1) as usize),
         b'J' => judge_call(byte_at(args, 0), after(args, 1)),
+        b'E' => choice_call(args),
         b'B' => light_call(r.settings.backlight),
         b'M' => say_sms(seen::sms_seen(r, phase_of(byte_at(args, 0)))),
         b'V' => say_volume(seen::volume_seen(r)),

@@ -1,3 +1,4 @@
 pub mod Mark
 pub mod Calls
 pub mod Laws
+pub mod Choices

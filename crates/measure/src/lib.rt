@@ -1,6 +1,6 @@
-// What ./bench times: the stream call in one call and in calls of 64 bytes, the range check, and going over a stream's parts. Each
-// hands back one number that is taken from most of what was done, so that the timed work can't be left out, and so that two readers
-// can be compared by it. Of the parts it is how many there are: where each ends can't be left out, its kind and its body can.
+// What ./bench times: the stream call in one call and in calls of 64 bytes, the range check, going over a stream's parts, and the check
+// of choice screens. Each hands back one number that is taken from most of what was done, so that the timed work can't be left out, and
+// so that two readers can be compared by it. Of the parts it is how many there are: where each ends can't be left out, its kind and its body can.
 ghost use mathlib.Core.Path.{_≡_};
 ghost use mathlib.Core.Bool.{cond};
 ghost use Prim.Native.Nat.{_≤_, _<_};
@@ -9,7 +9,10 @@ ghost use Rattle.record.specs.PowerOn.{powerOn};
 ghost use Rattle.parts.specs.Laws.{isNone, partsOf};
 ghost use Rattle.stream.specs.Stream.{fedOf, answersAfter};
 ghost use Rattle.measure.specs.Mark.{prime, mixed, marked, small, markOf};
+ghost use Rattle.choice.specs.Choice.{choiceOf};
+ghost use Rattle.measure.specs.Choices.{brokenFirst};
 ghost use Rattle.measure.specs.Calls.{fedFrom, fedInCalls, answersInCalls, goodOnes};
+use choice::Choice;
 use parts::Kind;
 use record::Record;
 use record::Settings;
@@ -157,6 +160,20 @@ pub extern "C" fn measure_short_calls(s: &[u8], answers: &mut [u8]) -> u64
     ensures buffer { λ _. ⌜ now (answers .exit) ≡ answersInCalls (now (s .entry)) (now (answers .entry)) ⌝ }
 {
     mark(feed_in_calls(s, answers))
+}
+
+// Where a stream breaks a rule of the choice screen first; 0 also where it breaks none.
+#[no_mangle]
+pub extern "C" fn measure_choice(s: &[u8]) -> usize
+    ensures same { λ at. ⌜ at ≡ brokenFirst (choiceOf (now (s .entry))) ⌝ }
+{
+    match choice::check(s) {
+        Choice::Yes => 0,
+        Choice::NoScreen(at) => at,
+        Choice::LabelMissing(at) => at,
+        Choice::QuestionMark(at) => at,
+        Choice::FrameOpen(at) => at,
+    }
 }
 
 fn one_if(good: bool) -> u64

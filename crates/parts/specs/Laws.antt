@@ -93,7 +93,7 @@ a-part-is-some (closed body) = refl
 a-part-is-some (abandoned body) = refl
 
 -- a part has a byte
-some-bytes : (part : Part) → 1 ≤ length (bytesOf part)
+pub some-bytes : (part : Part) → 1 ≤ length (bytesOf part)
 some-bytes (text b) = omega arith
 some-bytes (skipped b) = omega arith
 some-bytes (closed body) = omega arith

@@ -222,21 +222,30 @@ pub struct Input {
     pub length: usize,
 }
 
-// The first n codes of a path are the file's name.
-fn complain_of_file<'a>(name: &'a [u8], path: &'a [u8], n: usize) {
-    if n <= path.len() {
-        complain(name, &path[..n]);
+// What an input is called: the first n codes of its path, or by the other name where it has none.
+fn called<'a>(path: &'a [u8], n: usize, unnamed: &'a [u8]) -> &'a [u8] {
+    if n == 0 {
+        return unnamed;
     }
+    if path.len() < n {
+        return path;
+    }
+    &path[..n]
 }
 
 // Complains of an input on which the last call failed.
 pub fn complain_of(name: &[u8], input: Input) {
-    let n = input.length;
-    if n == 0 {
-        complain(name, b"standard input");
-        return;
-    }
-    complain_of_file(name, &input.name, n);
+    complain(name, called(&input.name, input.length, b"standard input"));
+}
+
+// Says why a program does not take an input, on which no call failed.
+pub fn refuse_input(name: &[u8], input: Input, why: &[u8]) {
+    tell(name);
+    tell(b": ");
+    tell(called(&input.name, input.length, b"standard input"));
+    tell(b": ");
+    tell(why);
+    tell(b"\n");
 }
 
 // The file that the words name, or standard input if they name none. A file that can't be opened is complained of, and has a

@@ -1,5 +1,6 @@
 //! The paper's own examples, and the settled points.
 
+use crate::choice::{self, Broken};
 use crate::cover;
 use crate::effect::LONGEST;
 use crate::grammar::{spelt, Command};
@@ -1722,6 +1723,152 @@ fn listings_of_a_stream() {
     assert_eq!(places::list_verdicts(b"A\x1B&V\r"), "1 obeyed\n");
 }
 
+// The choice screen.
+
+/// A stream of frames, each ended by CR. A word with a quote before it is text.
+fn frames(words: &str) -> Vec<u8> {
+    let frame = |word: &str| match word.strip_prefix('\'') {
+        Some(text) => text.to_string(),
+        None => format!("\x1B{word}\r"),
+    };
+    words
+        .split_whitespace()
+        .map(frame)
+        .collect::<String>()
+        .into_bytes()
+}
+
+/// The words keep all rules.
+fn keeps(words: &str) {
+    assert_eq!(choice::check(&frames(words)), None, "{words}");
+}
+
+/// The words break this rule first, at the place where the rest begins.
+fn breaks(rule: u8, before: &str, rest: &str) {
+    let offset = frames(before).len();
+    let stream = [frames(before), frames(rest)].concat();
+    let wanted = Some(Broken { rule, offset });
+    assert_eq!(choice::check(&stream), wanted, "{before} | {rest}");
+}
+
+#[test]
+fn first_part_of_a_choice() {
+    keeps("ID0");
+    keeps("ID5");
+    // The first screen needs no labels.
+    keeps("ID0 'Which?");
+    keeps("ID5 IK1Mine 'Which?");
+    keeps("ID0 ID11 'Which? ID2");
+    breaks(1, "", "");
+    for first in [
+        "ID1", "ID6", "ID10", "ID11", "ID18", "ID2", "ID00", "IDD", "IDE", "IK1Mine", "IA", "Q",
+        "'A", "IDM0",
+    ] {
+        breaks(1, "", first);
+        breaks(1, "", &format!("{first} ID0 IK1Mine IK2Older 'Which?"));
+    }
+    // A first byte that is skipped, an abandoned frame, a tail.
+    for stream in [
+        &b"\r\x1BID0\r"[..],
+        b"\n\x1BID0\r",
+        b"\x00",
+        b"\x1B",
+        b"\x1BID0",
+        b"\x1B\x1BID0\r",
+        b"\x1BID0\x1BID0\r",
+        b"\x1BID0\n\r",
+    ] {
+        let wanted = Some(Broken { rule: 1, offset: 0 });
+        assert_eq!(choice::check(stream), wanted, "{stream:?}");
+    }
+}
+
+#[test]
+fn labels_of_a_choice() {
+    for n in [0, 1, 5, 6, 10] {
+        let screen = format!("ID0 ID{n}");
+        for rest in ["'A", "ID0 IK1a IK2b", "ID11", "ID2", "ID999", ""] {
+            keeps(&format!("{screen} IK1Mine IK2Older {rest}"));
+            keeps(&format!("{screen} IK2Older IK1Mine {rest}"));
+            keeps(&format!("{screen} IK1 IK2 IK0 IK1Mine IK2Older {rest}"));
+            keeps(&format!("{screen} IK1Mine IK2b IK2Older {rest}"));
+            breaks(2, &screen, rest);
+            // One alone, one emptied again, both emptied again.
+            for labels in [
+                "IK1Mine",
+                "IK2Older",
+                "IK1Mine IK2",
+                "IK1 IK2Older",
+                "IK1Mine IK2Older IK1",
+                "IK1Mine IK2Older IK2",
+                "IK1Mine IK2Older IK0",
+                "IK1Mine IK0 IK2Older",
+                "IK0",
+            ] {
+                breaks(2, &format!("{screen} {labels}"), rest);
+            }
+        }
+        // Set before the screen, or too late.
+        breaks(2, &format!("ID0 IK1Mine IK2Older ID{n}"), "'A");
+        breaks(2, &screen, "'A IK1Mine IK2Older");
+        // Frames that look at nothing, and skipped bytes.
+        keeps(&format!(
+            "{screen} IDD IA IH &V IP20 [9;9H IK1Mine IDE IK2Older &# 'A"
+        ));
+    }
+    // An overlay, and an IDn that is passed over, open no screen of their own.
+    keeps("ID0 ID11 'A ID2 'B ID13");
+    keeps("ID0 ID1 IK1a IK2b ID11 'A IK0 'B ID2");
+    // The look ends the screen: what becomes of the labels then is free.
+    keeps("ID0 ID1 IK1a IK2b 'A IK0 'B");
+    // The IDn that looks opens its own.
+    breaks(2, "ID0 ID1 IK1a IK2b ID6", "'A");
+    breaks(2, "ID0 ID1 IK1a IK2b ID6 IK1c", "");
+    breaks(2, "ID0 ID1", "ID6 IK1a IK2b 'A");
+    // The same mode again is a later one too.
+    breaks(2, "ID0 ID0", "'A");
+    // A frame ID00 is no IDn.
+    breaks(3, "ID0 ID1 IK1a IK2b", "ID00 'A");
+    // Skipped bytes look at nothing either.
+    let stream = b"\x1BID0\r\n\x1BID5\r\n\x1BIK1a\r\n\x1BIK2b\r\n\x07";
+    assert_eq!(choice::check(stream), None);
+    // At the end the offset is the stream's length.
+    let stream = b"\x1BID0\r\n\x1BID5\r\n\x1BIK1a\r\n";
+    let wanted = Some(Broken {
+        rule: 2,
+        offset: 19,
+    });
+    assert_eq!((stream.len(), choice::check(stream)), (19, wanted));
+}
+
+#[test]
+fn frames_of_a_choice_that_are_not_heard() {
+    breaks(3, "ID0", "Q");
+    breaks(3, "ID0 'A", "IK112345678 Q");
+    breaks(3, "ID0 ID1 IK1a", "IP05 'A");
+    breaks(3, "ID0 ID1 IK1a IK2b", "ID05");
+    keeps("ID0 IP20 [9;9H Gr7,00z IT3;3 IA0 IA IH &V");
+    let check = |rest: &[u8]| {
+        let broken = choice::check(&[b"\x1BID0\rA", rest].concat());
+        broken.map(|broken| (broken.rule, broken.offset))
+    };
+    // An abandoned frame at its own ESC, a tail at its ESC.
+    assert_eq!(check(b"\x1BIK1a\x1BIK1b\r"), Some((3, 6)));
+    assert_eq!(check(b"\x1B\x1B"), Some((3, 6)));
+    assert_eq!(check(b"\x1B"), Some((4, 6)));
+    assert_eq!(check(b"\x1BID2\r\x1BIK1a"), Some((4, 11)));
+    assert_eq!(check(b"\x1BID1\r\x1BIK1a\r\x1BIK2b"), Some((4, 17)));
+    // Text after a screen without labels comes before the tail, and before
+    // the bad frame.
+    assert_eq!(check(b"\x1BID1\rA\x1B"), Some((2, 11)));
+    assert_eq!(check(b"\x1BID1\rA\x1BQ\r"), Some((2, 11)));
+    assert_eq!(check(b"\x1BID1\r\x1BQ\rA"), Some((3, 11)));
+    for (length, end, rule) in [(251, &b"\r"[..], 3), (251, b"", 4), (251, b"\x1B", 3)] {
+        let long = [b"\x1BIK1", &vec![b'0'; length - 3][..], end].concat();
+        assert_eq!(check(&long), Some((rule, 6)));
+    }
+}
+
 // Scripts.
 
 #[test]
@@ -1963,6 +2110,22 @@ fn script_lines() {
     ] {
         assert_eq!(ask(line), wanted, "{line}");
     }
+    // The choice: 0 is yes, else the rule and the offset.
+    for (line, wanted) in [
+        ("E", "E 010000\n"),
+        ("E ", "E 010000\n"),
+        ("E 1B4944300D", "E 000000\n"),
+        ("E 1b4944350d0A41", "E 000000\n"),
+        ("E 1B4944310D", "E 010000\n"),
+        ("E 1B4944300D1B4944300D", "E 02000A\n"),
+        ("E 1B4944300D1B4944300D41", "E 02000A\n"),
+        ("E 1B4944300D1B510D", "E 030005\n"),
+        ("E 1B4944300D1B", "E 040005\n"),
+    ] {
+        assert_eq!(ask(line), wanted, "{line}");
+    }
+    let long = "41".repeat(4090);
+    assert_eq!(ask(&format!("E 1B4944300D{long}1B")), "E 040FFF\n");
     let frame = format!("D 00001B{}0D", "41".repeat(4094));
     let wanted = "D\npart 03100000010FFF\npart 00100010001000\n";
     assert_eq!(ask(&frame), wanted);
@@ -1987,6 +2150,7 @@ fn script_lines() {
         ("D ", "00", 2),
         ("J 00", "41", 4096),
         ("J ", "FF", 1),
+        ("E ", "41", 4096),
         ("K 00000400", "00", 2048 + 1024),
         ("K 00000000", "FF", 1024),
         ("K 00000001", "00", 2),
@@ -2035,6 +2199,14 @@ fn script_lines() {
         "J 00 41",
         "J00",
         "j 00",
+        &full("E ", "41", 4097),
+        &full("E ", "1B", 40_000),
+        "E 1",
+        "E 1B4",
+        "E 1B ",
+        "E  1B",
+        "E1B",
+        "e",
         &full("K 00000400", "00", 2048 + 1025),
         &full("K 00000401", "00", 2050),
         &full("K 00000000", "FF", 1025),
@@ -2122,7 +2294,7 @@ fn lines_of_calls_read_back() {
 fn kinds_are_kept() {
     for kinds in [
         "F", "PSRF", "O", "OK", "K", "W", "TG", "QUMV", "CB", "H", "FH", "SH", "N", "FN", "SN",
-        "D", "J", "DJ", "SD",
+        "D", "J", "DJ", "SD", "E", "SE",
     ] {
         let calls = generate::calls(5, 300, kinds);
         assert_eq!(calls.len(), 300);

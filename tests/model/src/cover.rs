@@ -2,6 +2,7 @@
 
 use std::collections::BTreeMap;
 
+use crate::choice::{self, Broken, Piece};
 use crate::effect::LONGEST;
 use crate::generate::{
     distance, number_commands, BORDERS, DAMAGED, MODES, OVERLAYS, PASSED_OVER, REFUSABLE,
@@ -119,6 +120,7 @@ pub fn wanted() -> Vec<String> {
     names.extend(wanted_bounds());
     names.extend(wanted_parts());
     names.extend(wanted_verdicts());
+    names.extend(wanted_choices());
     names.extend(wanted_marks());
     for power in ["power-on", "former power-on"] {
         for before in ["from itself", "from the other", "in range", "out of range"] {
@@ -626,6 +628,156 @@ fn wanted_verdicts() -> Vec<String> {
     names
 }
 
+/// What makes the labels of a choice screen be looked at.
+const LOOKS: [&str; 5] = [
+    "text",
+    "a text mode",
+    "an overlay",
+    "an IDn passed over",
+    "the end",
+];
+
+/// The rules of a choice screen.
+fn wanted_choices() -> Vec<String> {
+    let mut names = vec!["choice yes".to_string()];
+    for rule in 1..=4 {
+        names.push(format!("choice broken by rule {rule}"));
+        names.push(format!("choice broken by rule {rule} alone"));
+        if rule > 1 {
+            names.push(format!("choice broken by rule {rule} at 256 or later"));
+        }
+        if rule > 2 {
+            names.push(format!("choice broken by rule {rule} in the first screen"));
+        }
+    }
+    for first in [
+        "no part",
+        "text",
+        "skipped",
+        "bad",
+        "abandoned",
+        "tail",
+        "ID1",
+        "ID6",
+        "ID10",
+        "ID11",
+        "ID2",
+        "DisplayOff",
+        "DisplayOn",
+        "LeftLabel",
+    ] {
+        names.push(format!("choice that begins with {first}"));
+    }
+    for first in ["ID0", "ID5"] {
+        names.push(format!("choice yes that begins with {first}"));
+        names.push(format!("choice yes of {first} alone"));
+        names.push(format!("choice yes of {first} with text and no labels"));
+    }
+    for mode in MODES {
+        for look in LOOKS {
+            names.push(format!("choice screen {mode} with labels at {look}"));
+            names.push(format!("choice screen {mode} without labels at {look}"));
+        }
+    }
+    for side in ["left", "right"] {
+        for why in [
+            "never set",
+            "set to nothing",
+            "emptied by IK0",
+            "set before the screen alone",
+            "set too late",
+        ] {
+            names.push(format!("choice broken for the {side} label, {why}"));
+        }
+        names.push(format!("choice yes with the {side} label set again"));
+    }
+    for screens in 0..=3 {
+        names.push(format!("choice yes with {screens} later screens"));
+    }
+    for between in [
+        "DisplayOff",
+        "DisplayOn",
+        "LabelsEmpty",
+        "AskContrast",
+        "AskHook",
+        "AskVersion",
+        "a frame passed over",
+        "a skipped byte",
+    ] {
+        names.push(format!("choice yes with {between} behind its screen"));
+    }
+    for (first, later) in [
+        (1, 2),
+        (1, 3),
+        (1, 4),
+        (2, 3),
+        (2, 4),
+        (3, 2),
+        (3, 4),
+        (4, 2),
+    ] {
+        names.push(format!("choice breaks rule {first} before rule {later}"));
+    }
+    for rule in [3, 4] {
+        names.push(format!("choice breaks rules 1 and {rule} at place 0"));
+    }
+    for what in [
+        "an abandoned frame",
+        "an empty frame",
+        "a frame of 251 bytes",
+        "another bad frame",
+    ] {
+        names.push(format!("choice broken by {what}"));
+    }
+    for length in [0, 1, 251] {
+        names.push(format!("choice broken by a tail of {length} bytes"));
+    }
+    for length in [0, 1, 4096] {
+        names.push(format!("choice of {length} bytes"));
+    }
+    for name in [
+        "choice yes of 4096 bytes",
+        "choice broken by rule 2 at 4096",
+        "choice with the record out of range",
+        "choice with a frame open in the record",
+        "line E with 4097 bytes",
+    ] {
+        names.push(name.to_string());
+    }
+    names
+}
+
+/// The first part of a choice, as the list has it.
+fn first_part(pieces: &[Piece]) -> String {
+    let Some(first) = pieces.first() else {
+        return "no part".to_string();
+    };
+    match (&first.part, &first.good) {
+        (Part::Text(_), _) => "text".to_string(),
+        (Part::Skipped(_), _) => "skipped".to_string(),
+        (Part::Abandoned(_), _) => "abandoned".to_string(),
+        (Part::Tail(_), _) => "tail".to_string(),
+        (_, None) => "bad".to_string(),
+        (_, Some(good)) => match first.mode() {
+            Some(n) => format!("ID{n}"),
+            None => format!("{:?}", good.command),
+        },
+    }
+}
+
+/// What looks at the labels, as the list has it.
+fn look_name(next: Option<&Piece>) -> &'static str {
+    let Some(next) = next else {
+        return "the end";
+    };
+    match next.mode() {
+        None => "text",
+        Some(0 | 1 | 5 | 6 | 10) => "a text mode",
+        Some(11..=18) => "an overlay",
+        Some(_) => "an IDn passed over",
+    }
+}
+
 /// The marks, and the clearing of a line.
 fn wanted_marks() -> Vec<String> {
     let mut names = vec![];
@@ -783,7 +935,7 @@ impl Cover {
             Answer::Column(n, _) | Answer::Bound(n, _) => Some(*n),
             Answer::Sms(n, _) | Answer::Volume(n, _, _) => Some(*n),
             Answer::Done | Answer::What | Answer::Silence => None,
-            Answer::Parts(_) | Answer::Verdict(_) => None,
+            Answer::Parts(_) | Answer::Verdict(_) | Answer::Choice(_) => None,
         };
         if let Some(number) = number {
             self.add(format!("answer {letter} {number}"));
@@ -847,6 +999,9 @@ impl Cover {
             }
             (Call::Parts { place, bytes }, Answer::Parts(parts)) => {
                 self.see_parts(before, usize::from(*place), bytes, parts);
+            }
+            (Call::Choice { bytes }, Answer::Choice(broken)) => {
+                self.see_choice(before, bytes, *broken);
             }
             (Call::Verdict { mode, body }, Answer::Verdict(verdict)) => {
                 self.see_verdict(before, *mode, body, *verdict);
@@ -1142,6 +1297,137 @@ impl Cover {
             if longest.len() <= 3 && zeros.len() == plain.numbers.len() {
                 self.add(format!("verdict bad of {:?}, padded", plain.command));
             }
+        }
+    }
+
+    fn see_choice(&mut self, before: &Record, bytes: &[u8], broken: Option<Broken>) {
+        self.see_bystander("choice", before);
+        let length = bytes.len();
+        self.add(format!("choice of {length} bytes"));
+        let pieces = choice::pieces(bytes);
+        let first = first_part(&pieces);
+        self.add(format!("choice that begins with {first}"));
+        let screens: Vec<usize> = (1..pieces.len())
+            .filter(|&at| pieces[at].sets_text_mode())
+            .collect();
+        match broken {
+            Some(broken) => {
+                self.see_broken(bytes, &pieces, broken);
+                if screens
+                    .first()
+                    .is_none_or(|&at| pieces[at].place > broken.offset)
+                {
+                    let rule = broken.rule;
+                    self.add(format!("choice broken by rule {rule} in the first screen"));
+                }
+            }
+            None => {
+                self.add("choice yes");
+                self.add(format!("choice yes of {length} bytes"));
+                self.add(format!("choice yes that begins with {first}"));
+                self.add(format!("choice yes with {} later screens", screens.len()));
+                let text = pieces
+                    .iter()
+                    .any(|piece| matches!(piece.part, Part::Text(_)));
+                match (pieces.len(), screens.len()) {
+                    (1 | 2, 0) if !text => self.add(format!("choice yes of {first} alone")),
+                    (_, 0) if text && !bytes.windows(2).any(|pair| pair == b"IK") => {
+                        self.add(format!("choice yes of {first} with text and no labels"));
+                    }
+                    _ => (),
+                }
+            }
+        }
+        // Only what comes before the broken place was looked at, and what
+        // broke it.
+        let last = broken.map_or(length, |broken| broken.offset);
+        for at in screens {
+            let next = pieces[at + 1..].iter().position(Piece::looks);
+            let behind = next.map_or(pieces.len(), |next| at + 1 + next);
+            let place = pieces.get(behind).map_or(length, |piece| piece.place);
+            if place <= last {
+                self.see_choice_screen(&pieces, at, behind, broken.is_none());
+            }
+        }
+    }
+
+    /// A later screen of a choice, of which the labels are looked at: those
+    /// that are there now, and what became of them before and behind.
+    fn see_choice_screen(&mut self, pieces: &[Piece], at: usize, behind: usize, yes: bool) {
+        let stretch = &pieces[at + 1..behind];
+        let sides = [("left", Command::LeftLabel), ("right", Command::RightLabel)];
+        let with = match sides.map(|(_, side)| choice::sets(stretch, side)) {
+            [true, true] => "with",
+            _ => "without",
+        };
+        let mode = pieces[at].mode().unwrap_or(0);
+        let look = look_name(pieces.get(behind));
+        self.add(format!("choice screen {mode} {with} labels at {look}"));
+        for (name, side) in sides {
+            let touched: Vec<Command> = stretch
+                .iter()
+                .filter(|piece| piece.leaves(side).is_some())
+                .filter_map(|piece| piece.good.as_ref().map(|good| good.command))
+                .collect();
+            if yes && touched.iter().filter(|&&command| command == side).count() > 1 {
+                self.add(format!("choice yes with the {name} label set again"));
+            }
+            if choice::sets(stretch, side) {
+                continue;
+            }
+            let why = match touched.last() {
+                Some(Command::LabelsEmpty) => "emptied by IK0",
+                Some(_) => "set to nothing",
+                None if choice::sets(&pieces[behind..], side) => "set too late",
+                None if choice::sets(&pieces[..at], side) => "set before the screen alone",
+                None => "never set",
+            };
+            self.add(format!("choice broken for the {name} label, {why}"));
+        }
+        for piece in stretch.iter().filter(|_| yes) {
+            let what = match &piece.good {
+                None => "a skipped byte".to_string(),
+                Some(good) if effect::obeyed(&power_on(), good) => format!("{:?}", good.command),
+                Some(_) => "a frame passed over".to_string(),
+            };
+            self.add(format!("choice yes with {what} behind its screen"));
+        }
+    }
+
+    /// A choice that breaks a rule, and what else it breaks.
+    fn see_broken(&mut self, bytes: &[u8], pieces: &[Piece], broken: Broken) {
+        let Broken { rule, offset } = broken;
+        let all = choice::all_broken(bytes);
+        self.add(format!("choice broken by rule {rule}"));
+        self.add(format!("choice broken by rule {rule} at {offset}"));
+        if all.len() == 1 {
+            self.add(format!("choice broken by rule {rule} alone"));
+        }
+        if offset >= 256 {
+            self.add(format!("choice broken by rule {rule} at 256 or later"));
+        }
+        for other in all {
+            let later = other.rule;
+            if other.offset > offset {
+                self.add(format!("choice breaks rule {rule} before rule {later}"));
+            } else if later > rule {
+                self.add(format!(
+                    "choice breaks rules {rule} and {later} at place {offset}"
+                ));
+            }
+        }
+        let there = pieces.iter().find(|piece| piece.place == offset);
+        match (rule, there.map(|piece| &piece.part)) {
+            (3, Some(Part::Abandoned(_))) => self.add("choice broken by an abandoned frame"),
+            (3, Some(Part::Closed(body))) => self.add(match body.len() {
+                0 => "choice broken by an empty frame",
+                251 => "choice broken by a frame of 251 bytes",
+                _ => "choice broken by another bad frame",
+            }),
+            (4, Some(Part::Tail(body))) => {
+                self.add(format!("choice broken by a tail of {} bytes", body.len()));
+            }
+            _ => (),
         }
     }
 
@@ -1661,6 +1947,7 @@ impl Cover {
             (b'N', bytes) => self.add(format!("line N with {} bytes", bytes.len())),
             (b'D', bytes) => self.add(format!("line D with {} bytes", bytes.len())),
             (b'J', bytes) => self.add(format!("line J with {} bytes", bytes.len())),
+            (b'E', bytes) => self.add(format!("line E with {} bytes", bytes.len())),
             (b'W', &[_, _, number, _, _, _, _]) => {
                 self.add(format!("line W with command {number}"));
             }

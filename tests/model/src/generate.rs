@@ -11,7 +11,7 @@ use crate::seen::{layout, PHASES};
 use crate::{stream, writers};
 
 /// The letters of all calls; X stands for lines that can't be taken.
-pub const KINDS: &str = "POSRFNDJKCHBQUMVWTGX";
+pub const KINDS: &str = "POSRFNDJEKCHBQUMVWTGX";
 
 /// Values around the ends of the ranges.
 const EDGES: [u16; 47] = [
@@ -118,7 +118,8 @@ impl Generator {
     }
 
     fn episode(&mut self) {
-        match self.rng.below(162) {
+        match self.rng.below(170) {
+            162..=169 => self.choice_checks(),
             132..=137 => self.bounds(),
             138..=147 => self.parts(),
             148..=161 => self.verdicts(),
@@ -323,6 +324,15 @@ impl Generator {
                 let body = body.clone();
                 self.emit(Call::Verdict { mode, body });
             }
+        }
+    }
+
+    // The choice screen.
+
+    fn choice_checks(&mut self) {
+        for _ in 0..self.rng.between(1, 6) {
+            let bytes = choices(&mut self.rng);
+            self.emit(Call::Choice { bytes });
         }
     }
 
@@ -1101,7 +1111,8 @@ impl Generator {
             touched.extend(self.spoil(field));
         }
         for _ in 0..self.rng.between(2, 6) {
-            match self.rng.below(18) {
+            match self.rng.below(19) {
+                18 => self.choice_checks(),
                 16 => self.parts(),
                 17 => self.verdicts(),
                 12 | 13 => self.hook_call(),
@@ -2150,6 +2161,190 @@ fn long_body(rng: &mut Rng) -> Vec<u8> {
     bytes
 }
 
+/// A frame with these bytes between ESC and CR, and perhaps LF.
+fn frame_of(rng: &mut Rng, body: &str) -> Vec<u8> {
+    let end: &[u8] = rng.pick(&[&[CR], &[CR, LF]]);
+    [&[ESC], body.as_bytes(), end].concat()
+}
+
+/// A frame that sets a text mode.
+fn screen_frame(rng: &mut Rng) -> Vec<u8> {
+    let mode = rng.pick(&MODES);
+    frame_of(rng, &format!("ID{mode}"))
+}
+
+/// A label with codes in it.
+fn choice_label(rng: &mut Rng, side: u8) -> Vec<u8> {
+    let codes = rng.pick(&["Keep", "Mine", "Older", "a", " ", "0", "1234567"]);
+    frame_of(rng, &format!("IK{side}{codes}"))
+}
+
+/// What may stand between an IDn and its labels without harm: frames that are
+/// obeyed or passed over, questions, and skipped bytes.
+fn harmless(rng: &mut Rng) -> Vec<u8> {
+    const BODIES: [&str; 16] = [
+        "IDD", "IDE", "&C", "&#", "[0;0H", "[9;9H", "IP3", "IP20", "IA", "IA0", "IH", "&V", "[K",
+        "IZ1", "Gr0,00z", "IT3;3",
+    ];
+    match rng.below(6) {
+        0 => rng.pick(&[&[LF][..], &[CR, LF], &[0], &[0x1F]]).to_vec(),
+        _ => {
+            let body = rng.pick(&BODIES);
+            frame_of(rng, body)
+        }
+    }
+}
+
+/// Something that may break a rule, or be just right.
+fn doubtful(rng: &mut Rng) -> Vec<u8> {
+    const BODIES: [&str; 30] = [
+        "IK0",
+        "IK0",
+        "IK1",
+        "IK1",
+        "IK2",
+        "IK2",
+        "IK1Mine",
+        "IK2Older",
+        "ID0",
+        "ID1",
+        "ID5",
+        "ID6",
+        "ID10",
+        "ID11",
+        "ID13",
+        "ID18",
+        "ID2",
+        "ID19",
+        "ID999",
+        "IDD",
+        "IDE",
+        "Q",
+        "",
+        "ID00",
+        "ID05",
+        "IDM0",
+        "IK112345678",
+        "IK3x",
+        "IP05",
+        "IK1\n",
+    ];
+    match rng.below(16) {
+        0 | 1 => rng.pick(&[&b"A"[..], b"Which?", b" ", b"\xFF"]).to_vec(),
+        2 => vec![ESC],
+        3 => rng
+            .pick(&[&b"\x1BIK1Ke"[..], b"\x1BID0", b"\x1BI"])
+            .to_vec(),
+        4 => measured_frame(rng),
+        5 => harmless(rng),
+        6 => good_frame(rng),
+        _ => {
+            let body = rng.pick(&BODIES);
+            frame_of(rng, body)
+        }
+    }
+}
+
+/// One screen of a choice: its mode, its labels, and what ends it.
+fn one_choice(rng: &mut Rng) -> Vec<Vec<u8>> {
+    let mut pieces = vec![screen_frame(rng)];
+    if rng.one_in(8) {
+        pieces.push(frame_of(rng, "IK0"));
+    }
+    let first = rng.pick(&[1, 2]);
+    for side in [first, 3 - first] {
+        if rng.one_in(4) {
+            pieces.push(harmless(rng));
+        }
+        if rng.one_in(12) {
+            pieces.push(frame_of(rng, &format!("IK{side}")));
+        }
+        pieces.push(choice_label(rng, side));
+    }
+    if rng.one_in(4) {
+        pieces.push(harmless(rng));
+    }
+    match rng.below(6) {
+        0..=2 => pieces.push(choice_text(rng)),
+        3 => {
+            let n = rng.pick(&[11, 12, 13, 14, 15, 16, 17, 18, 2, 19, 999]);
+            pieces.push(frame_of(rng, &format!("ID{n}")));
+        }
+        _ => (),
+    }
+    pieces
+}
+
+fn choice_text(rng: &mut Rng) -> Vec<u8> {
+    rng.pick(&[&b"Which round?"[..], b"K", b"Keep which of the two rounds?"])
+        .to_vec()
+}
+
+/// A stream that keeps the rules of a choice screen, or all but one or two of
+/// them.
+pub fn choices(rng: &mut Rng) -> Vec<u8> {
+    if rng.one_in(24) {
+        return match rng.below(4) {
+            0 => vec![],
+            1 => full_choice(rng),
+            2 => parted(rng),
+            _ => stream_of(rng, 5),
+        };
+    }
+    let first = rng.pick(&["ID0", "ID5"]);
+    let mut pieces = vec![frame_of(rng, first)];
+    if rng.one_in(2) {
+        pieces.push(choice_text(rng));
+    }
+    for _ in 0..rng.pick(&[0, 1, 1, 1, 2, 2, 3, 12]) {
+        pieces.extend(one_choice(rng));
+    }
+    for _ in 0..rng.pick(&[0, 0, 1, 1, 1, 1, 1, 2]) {
+        spoil_choice(rng, &mut pieces);
+    }
+    let mut bytes = pieces.concat();
+    match rng.below(24) {
+        0 | 1 => bytes.truncate(rng.below(bytes.len() + 1)),
+        2 => bytes.extend(measured_frame(rng)),
+        _ => (),
+    }
+    bytes.truncate(crate::script::BYTES);
+    bytes
+}
+
+/// Drops, moves, cuts or changes a piece, or puts in something else.
+fn spoil_choice(rng: &mut Rng, pieces: &mut Vec<Vec<u8>>) {
+    let count = pieces.len();
+    let place = match rng.below(6) {
+        0 => 0,
+        1 => count,
+        _ => rng.below(count + 1),
+    };
+    let there = place < count;
+    match rng.below(8) {
+        0 | 1 if there => drop(pieces.remove(place)),
+        2 if place + 1 < count => pieces.swap(place, place + 1),
+        3 if there => pieces[place] = doubtful(rng),
+        4 if there => {
+            // Not the whole of it.
+            let length = pieces[place].len();
+            pieces[place].truncate(rng.below(length));
+        }
+        _ => pieces.insert(place, doubtful(rng)),
+    }
+}
+
+/// A choice of as many bytes as a line takes; a rule is broken at its end, or
+/// none.
+fn full_choice(rng: &mut Rng) -> Vec<u8> {
+    let most = crate::script::BYTES;
+    let labels = b"\x1BIK1Mine\r\x1BIK2Older\r";
+    let last: &[u8] = rng.pick(&[&labels[..], b"", b"A", b"\x1B", b"\x1B\r", b"\x1BID11\r"]);
+    let mut bytes = b"\x1BID0\r\x1BID5\r".to_vec();
+    bytes.resize(most - last.len(), LF);
+    [&bytes, last].concat()
+}
+
 fn piece(rng: &mut Rng) -> Vec<u8> {
     match rng.below(52) {
         46.. => asking_frame(rng),
@@ -2189,7 +2384,7 @@ fn sender(rng: &mut Rng, pieces: usize) -> Vec<u8> {
 
 /// A line that can't be taken, or an empty one.
 fn misfit(rng: &mut Rng) -> Vec<u8> {
-    const LINES: [&str; 104] = [
+    const LINES: [&str; 112] = [
         "",
         " ",
         "Z",
@@ -2274,6 +2469,14 @@ fn misfit(rng: &mut Rng) -> Vec<u8> {
         "J  004944",
         "J004944",
         "j 004944",
+        "e",
+        "e 1B",
+        "E 1",
+        "E 1B4",
+        "E  1B",
+        "E 1B ",
+        "E1B",
+        "E 1B 0D",
         "K",
         "K 0003",
         "K 000300",
@@ -2301,7 +2504,7 @@ fn misfit(rng: &mut Rng) -> Vec<u8> {
         24 => too_few(rng).into_bytes(),
         22 | 23 => {
             let count = rng.pick(&[4097, 4097, 4097, 4098, 8191, 32_765, 40_000]);
-            let head = rng.pick(&["D 0000", "D 0000", "J 00", "D FFFF"]);
+            let head = rng.pick(&["D 0000", "J 00", "D FFFF", "E ", "E "]);
             let byte = rng.pick(&["1B", "41"]);
             format!("{head}{}", byte.repeat(count)).into_bytes()
         }
@@ -2388,7 +2591,10 @@ fn no_field(rng: &mut Rng) -> String {
 /// The line of a good call with one sign too few, too many or another, if it
 /// can't be taken then.
 fn damaged(rng: &mut Rng) -> Option<Vec<u8>> {
-    let call = match rng.below(11) {
+    let call = match rng.below(12) {
+        11 => Call::Choice {
+            bytes: vec![rng.pick(&[ESC, b'A']); rng.below(4)],
+        },
         9 => Call::Parts {
             place: rng.next() as u16,
             bytes: vec![rng.pick(&[ESC, b'A']); rng.below(4)],

@@ -1,13 +1,14 @@
 //! A second, independent program of the handset's rules, made from the papers
 //! alone, and a tester that holds another program against it. Of the change
-//! requests it has T-01 to T-05 and T-09.
+//! requests it has T-01 to T-05, T-09 and T-11.
 //!
 //! The model is written plainly, to be read beside the paper: `record`,
 //! `ranges` (a list of rules), `grammar` (a table of shapes), `effect`,
 //! `stream` (parts the whole stream first, then takes the parts), `places`
-//! (the part at a place, the verdict of a frame), `keys` (a list of rules),
-//! `seen`, `writers`. `script` reads and answers scripts: one call a line.
-//! `generate` makes random scripts by a seed.
+//! (the part at a place, the verdict of a frame), `choice` (the rules of a
+//! choice screen), `keys` (a list of rules), `seen`, `writers`. `script` reads
+//! and answers scripts: one call a line. `generate` makes random scripts by a
+//! seed.
 //!
 //! Commands:
 //!
@@ -30,8 +31,9 @@
 //!   reach; exit status 1 if something isn't reached.
 //!
 //! KINDS is a list of call letters, for instance `PSRF`; without it all
-//! (`POSRFNDJKCHBQUMVWTGX`, where X stands for lines that can't be taken).
+//! (`POSRFNDJEKCHBQUMVWTGX`, where X stands for lines that can't be taken).
 
+mod choice;
 mod compare;
 mod cover;
 mod effect;

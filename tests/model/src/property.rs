@@ -2,9 +2,10 @@
 
 use std::collections::BTreeMap;
 
+use crate::choice::{self, Broken};
 use crate::effect::{self, LONGEST};
 use crate::generate::{
-    asked, close_bodies, judged, parted, random_record, stream_of, MODES, OVERLAYS,
+    asked, choices, close_bodies, judged, parted, random_record, stream_of, MODES, OVERLAYS,
 };
 use crate::grammar::{readings, spelt, Command, Spelt, QUESTIONS};
 use crate::keys;
@@ -884,6 +885,153 @@ pub fn listings(seed: u64) -> Result<(), String> {
     }
 }
 
+/// The n of a frame IDn, by its digits.
+fn number_of_mode(body: &[u8]) -> Option<u16> {
+    let digits = std::str::from_utf8(body.strip_prefix(b"ID")?).ok()?;
+    let n: u16 = digits.parse().ok()?;
+    (n < 1000 && n.to_string() == digits).then_some(n)
+}
+
+/// The rules of a choice screen in one pass, with a record: a later screen
+/// empties its labels, so what it has when they are looked at was set since.
+fn choice_in_one_pass(bytes: &[u8]) -> Option<Broken> {
+    let mut record = power_on();
+    let mut waits = false;
+    let mut place = 0;
+    for found in parts_from(bytes, 0) {
+        let body = &bytes[found.body..found.body_end];
+        let closed = found.kind == Kind::Closed;
+        let mode = number_of_mode(body).filter(|_| closed);
+        let looked = mode.is_some() || matches!(found.kind, Kind::Text | Kind::None);
+        let lacks = record.left.length == 0 || record.right.length == 0;
+        // An abandoned frame is answered at the ESC of the next.
+        let mut offered = bytes[place..found.end].to_vec();
+        if found.kind == Kind::Abandoned {
+            offered.push(ESC);
+        }
+        let (after, said) = with_room_for_all(&record, &offered);
+        let broken = [
+            place == 0 && !(closed && [&b"ID0"[..], b"ID5"].contains(&body)),
+            waits && looked && lacks,
+            said == [QUESTION],
+            found.kind != Kind::Abandoned && after.frame != NO_FRAME,
+        ];
+        if let Some(rule) = (1..).zip(broken).find_map(|(rule, b)| b.then_some(rule)) {
+            let offset = place;
+            return Some(Broken { rule, offset });
+        }
+        record = after;
+        waits &= !looked;
+        if place > 0 && matches!(mode, Some(0 | 1 | 5 | 6 | 10)) {
+            waits = true;
+            (record.left, record.right) = (NO_LABEL, NO_LABEL);
+        }
+        place = found.end;
+    }
+    None
+}
+
+/// The rules set out over the parts say what one pass says; and a stream that
+/// keeps them gets no question mark and leaves no frame open.
+pub fn choices_in_one_pass(seed: u64) -> Result<(), String> {
+    let mut rng = Rng::new(seed ^ 0xE11);
+    for bytes in (0..20).map(|_| choices(&mut rng)) {
+        let told = choice::check(&bytes);
+        let once = choice_in_one_pass(&bytes);
+        if told != once {
+            return Err(format!("seed {seed}: {told:?} and {once:?}"));
+        }
+        if told.is_none() {
+            let marks = stream::answers(&power_on(), &bytes);
+            let any = marks.iter().any(|(_, said)| said[..] == [QUESTION]);
+            let (end, _) = with_room_for_all(&power_on(), &bytes);
+            if any || end.frame != NO_FRAME {
+                return Err(format!("seed {seed}: yes to a stream that is not heard"));
+            }
+        }
+    }
+    Ok(())
+}
+
+/// A good frame that has no part in the rules, put between two parts, moves
+/// the broken place and changes nothing else.
+pub fn choices_with_others(seed: u64) -> Result<(), String> {
+    let mut rng = Rng::new(seed ^ 0xE12);
+    for _ in 0..10 {
+        let bytes = choices(&mut rng);
+        let told = choice::check(&bytes);
+        let parts = parts_from(&bytes, 0);
+        let between: Vec<usize> = parts
+            .iter()
+            .filter(|part| ![Kind::None, Kind::Tail].contains(&part.kind))
+            .map(|part| part.end)
+            .collect();
+        if between.is_empty() {
+            continue;
+        }
+        let place = rng.pick(&between);
+        let other: &[u8] = rng.pick(&[
+            &b"\x1BIDD\r"[..],
+            b"\x1BIA\r",
+            b"\x1BIP20\r",
+            b"\x1B[9;99H\r",
+            b"\x1B&#\r",
+            b"\x1BGr0,00z\r",
+        ]);
+        let with = [&bytes[..place], other, &bytes[place..]].concat();
+        let wanted = told.map(|broken| Broken {
+            rule: broken.rule,
+            offset: match broken.offset {
+                before if before < place => before,
+                at => at + other.len(),
+            },
+        });
+        if choice::check(&with) != wanted {
+            return Err(format!("seed {seed}: {other:?} at {place}: {wanted:?}"));
+        }
+    }
+    Ok(())
+}
+
+/// Every row of up to five frames that have to do with the rules, and of text
+/// and a bad frame, behind a first screen or not: the rules and one pass agree,
+/// and rule 1 breaks at 0 alone.
+pub fn short_choices() -> Result<(), String> {
+    let frames: [&[u8]; 10] = [
+        b"\x1BID0\r",
+        b"\x1BID10\r",
+        b"\x1BID11\r",
+        b"\x1BID2\r",
+        b"\x1BIK0\r",
+        b"\x1BIK1a\r",
+        b"\x1BIK2b\r",
+        b"\x1BIK1\r",
+        b"A",
+        b"\x1BQ\r",
+    ];
+    for (first, most) in [(&b""[..], 4), (b"\x1BID5\r", 5)] {
+        for count in 0..=most {
+            for row in 0..10_usize.pow(count) {
+                let place = |digit: u32| row / 10_usize.pow(digit) % 10;
+                let frames = (0..count).map(|digit| frames[place(digit)]);
+                let bytes: Vec<u8> = [first]
+                    .into_iter()
+                    .chain(frames)
+                    .flatten()
+                    .copied()
+                    .collect();
+                let told = choice::check(&bytes);
+                let at_0 = told.is_some_and(|broken| broken.offset == 0);
+                let rule_1 = told.is_some_and(|broken| broken.rule == 1);
+                if told != choice_in_one_pass(&bytes) || at_0 != rule_1 {
+                    return Err(format!("{bytes:?}: {told:?}"));
+                }
+            }
+        }
+    }
+    Ok(())
+}
+
 /// No frame can be read in two ways.
 pub fn one_reading(seed: u64) -> Result<(), String> {
     let mut rng = Rng::new(seed ^ 0x0E1);
@@ -1356,7 +1504,8 @@ type Check = fn(u64) -> Result<(), String>;
 type Once = fn() -> Result<(), String>;
 
 /// All checks that take no seed.
-pub const ONCE: [(&str, Once); 4] = [
+pub const ONCE: [(&str, Once); 5] = [
+    ("short choices are judged in one pass", short_choices),
     ("commands read back", commands_read_back),
     (
         "a verdict tells the first number out of range",
@@ -1367,7 +1516,7 @@ pub const ONCE: [(&str, Once); 4] = [
 ];
 
 /// All checks that take a seed.
-pub const CHECKS: [(&str, Check); 28] = [
+pub const CHECKS: [(&str, Check); 30] = [
     ("cutting a stream elsewhere changes nothing", cutting),
     ("a cut at any place changes nothing", cut_anywhere),
     ("a call stops where an answer does not fit", stops),
@@ -1389,6 +1538,8 @@ pub const CHECKS: [(&str, Check); 28] = [
     ),
     ("a verdict comes true", verdict_comes_true),
     ("the listings tell of the same frames", listings),
+    ("a choice is judged in one pass", choices_in_one_pass),
+    ("other frames are no part of a choice", choices_with_others),
     ("a frame has one reading", one_reading),
     ("bad and out-of-range frames change nothing", no_effect),
     ("labels and pictures read back", rows_read_back),

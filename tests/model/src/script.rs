@@ -5,7 +5,7 @@ use crate::keys;
 use crate::places::{parts_from, verdict, Found, Verdict};
 use crate::record::*;
 use crate::seen::{self, Bar, Column, Half, Owner, Phase, PHASES};
-use crate::{effect, ranges, stream, writers};
+use crate::{choice, effect, ranges, stream, writers};
 
 /// Limits of a line.
 pub const ROOM: u16 = 300;
@@ -44,6 +44,10 @@ pub enum Call {
     Verdict {
         mode: u8,
         body: Vec<u8>,
+    },
+    /// The check of a stream by the rules of a choice screen.
+    Choice {
+        bytes: Vec<u8>,
     },
     Keys {
         room: u16,
@@ -103,6 +107,8 @@ pub enum Answer {
     Bound(u8, usize),
     Parts(Vec<Found>),
     Verdict(Verdict),
+    /// What is broken, if something is.
+    Choice(Option<choice::Broken>),
     Number(u8),
     Thin(u8, Backlight),
     Row(u8, Owner),
@@ -189,6 +195,9 @@ fn with_bytes(letter: u8, bytes: &[u8]) -> Option<Call> {
             mode,
             body: body.to_vec(),
         }),
+        (b'E', bytes) => (bytes.len() <= BYTES).then(|| Call::Choice {
+            bytes: bytes.to_vec(),
+        }),
         (_, &[high, low, ref rest @ ..]) => {
             let room = u16::from_be_bytes([high, low]);
             (room <= ROOM).then(|| with_room(letter, room, rest))?
@@ -268,7 +277,7 @@ pub fn line(call: &Call) -> Vec<u8> {
         ]
         .concat(),
         Call::Stream { room, bytes } => [&room.to_be_bytes()[..], bytes].concat(),
-        Call::Bound { bytes } => bytes.clone(),
+        Call::Bound { bytes } | Call::Choice { bytes } => bytes.clone(),
         Call::Parts { place, bytes } => [&place.to_be_bytes()[..], bytes].concat(),
         Call::Verdict { mode, body } => [&[*mode][..], body].concat(),
         Call::Keys { room, ticks, edges } => {
@@ -396,6 +405,7 @@ pub fn perform(record: &mut Record, call: &Call) -> Answer {
         }
         Call::Parts { place, bytes } => Answer::Parts(parts_from(bytes, usize::from(*place))),
         Call::Verdict { mode, body } => Answer::Verdict(verdict(body, rows_of_verdict(*mode))),
+        Call::Choice { bytes } => Answer::Choice(choice::check(bytes)),
         Call::Keys { room, ticks, edges } => {
             let mut buffer = lent(*room);
             counts(keys::call(record, ticks, edges, &mut buffer), buffer)
@@ -629,6 +639,7 @@ pub fn letter(call: &Call) -> char {
         Call::Bound { .. } => 'N',
         Call::Parts { .. } => 'D',
         Call::Verdict { .. } => 'J',
+        Call::Choice { .. } => 'E',
         Call::Keys { .. } => 'K',
         Call::Second => 'C',
         Call::Hook { .. } => 'H',
@@ -668,6 +679,12 @@ pub fn print(out: &mut Vec<u8>, call: &Call, answer: &Answer, record: &Record) {
             let (verdict, number) = verdict_numbers(*verdict);
             let [high, low] = number.to_be_bytes();
             put(out, &letter, &[verdict, high, low]);
+        }
+        Answer::Choice(broken) => {
+            // Rule 0 is yes.
+            let (rule, offset) = broken.map_or((0, 0), |b| (b.rule, b.offset));
+            let [high, low] = (offset as u16).to_be_bytes();
+            put(out, &letter, &[rule, high, low]);
         }
         Answer::Number(number) => put(out, &letter, &[*number]),
         Answer::Thin(number, light) => {
