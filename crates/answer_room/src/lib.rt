@@ -1,11 +1,13 @@
 // How much room for answers a stream call can need, told before it is made: by the ESC bytes that are offered and the frame that is
 // open. It holds where no frame is a question.
 ghost use mathlib.Core.Path.{_≡_};
+ghost use Rattle.record.specs.Parts.{together};
 ghost use Rattle.parting.specs.Count.{escapes};
 ghost use Rattle.answer_room.specs.Needed.{roomNeeded};
 use record::Number;
 use record::Record;
-use record_ranges::in_range;
+use record::Small;
+use record_ranges::in_range_lent;
 
 const ESCAPE: u8 = 0x1B;
 
@@ -32,20 +34,25 @@ pub fn escapes_in(bytes: &[u8]) -> usize
     n
 }
 
-// The room that a call on this record and these bytes can need.
-pub fn room_needed(r: Record, bytes: &[u8]) -> RoomNeeded
-    ensures same { λ q. ⌜ q ≡ roomNeeded r (now (bytes .entry)) ⌝ }
+// The room that a call on this record and these bytes can need. The arrays are only lent to be judged.
+pub fn room_needed_lent<'a>(
+    small: Small,
+    text: &'a [u8; 104],
+    picture: &'a [u8; 672],
+    frame: &'a [u8; 250],
+    bytes: &'a [u8],
+) -> RoomNeeded
+    ensures same { λ q. ⌜ q ≡ roomNeeded (together small (now (text .entry)) (now (picture .entry)) (now (frame .entry))) (now (bytes .entry)) ⌝ }
 {
-    let ok = in_range(r);
+    let ok = in_range_lent(small, text, picture, frame);
     if !ok {
         return RoomNeeded {
             number: Number::FieldOutOfRange,
             bytes: 0,
         };
     }
-    let frame = r.frame;
     let n = escapes_in(bytes);
-    if frame.state == NO_FRAME {
+    if small.state == NO_FRAME {
         return RoomNeeded {
             number: Number::Done,
             bytes: n,
@@ -55,4 +62,12 @@ pub fn room_needed(r: Record, bytes: &[u8]) -> RoomNeeded
         number: Number::Done,
         bytes: n + 1,
     }
+}
+
+// The same on a record by value.
+pub fn room_needed(r: Record, bytes: &[u8]) -> RoomNeeded
+    ensures same { λ q. ⌜ q ≡ roomNeeded r (now (bytes .entry)) ⌝ }
+{
+    let small = record::small_of(r);
+    room_needed_lent(small, &r.text, &r.picture, &r.frame.bytes, bytes)
 }

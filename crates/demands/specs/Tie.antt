@@ -12,7 +12,7 @@ use borrow.Fn.World.{World, Pr, ArgsD, ResD}
 use Rattle.record.specs.Number.{paperNumber}
 use Rattle.record.specs.Range.{rowsOf, rowEndOf, rowStartOf, backlightInRange, inRange}
 use Rattle.record.specs.PowerOn.{timesAtPowerOn, formerTimes, startingWith, powerOn, formerPowerOn}
-use Rattle.record_ranges.specs.Parts.{joined}
+use Rattle.record.specs.Parts.{together, smallOf}
 use Rattle.record_fields.specs.Fields.{withField}
 use Rattle.numeral.specs.Numeral as Numerals
 use Rattle.picture.specs.Reading.{columnsRead}
@@ -25,17 +25,19 @@ use Rattle.effect.specs.Obey.{Obeys, core}
 use Rattle.record.specs.declared.Record.{Record}
 use Rattle.answer.specs.Answers.{answerBytes, isSilence, countAfter, bufferAfter as saidAfter, heads}
 use Rattle.hook.specs.Hook.{hooked}
+use Rattle.hook.specs.Hook as Hooks
 use Rattle.stream_places.specs.Places.{emptied}
 use Rattle.parts.specs.Parts.{partAt}
 use Rattle.parts.specs.Laws.{partsOf}
 use Rattle.stream.specs.declared.Fed.{Fed}
-use Rattle.stream.specs.Stream.{together, lentOf, fedOf, answersAfter}
+use Rattle.stream.specs.Stream.{lentOf, fedOf, answersAfter}
 use Rattle.parting.specs.Count.{escapes}
 use Rattle.answer_room.specs.Needed.{roomNeeded}
 use Rattle.lists.specs.Every.{every}
 use Rattle.key_entry.specs.Rules.{listed, keyed}
-use Rattle.key_log.specs.Log.{outcome, handedBack, bufferAfter}
+use Rattle.key_log.specs.Log.{Outcome, outcome, handedBack, lentOf as loggedLent, bufferAfter}
 use Rattle.seconds.specs.Seconds.{passed, lightPassed}
+use Rattle.seconds.specs.Seconds as Seconds
 use Rattle.seen_panels.specs.Panels.{smsPanel, volumePanel}
 use Rattle.seen.specs.Rows.{rowSeen, smsSeen, volumeSeen}
 use Rattle.seen.specs.Columns.{columnSeen}
@@ -43,6 +45,8 @@ use Rattle.writer_ranges.specs.Fitting.{isLabel, isRow}
 use Rattle.choice.specs.Choice.{choiceOf}
 use Rattle.measure.specs.Choices.{brokenFirst}
 use Rattle.writer.specs.Writing.{bodyOf, labelBody, rowBody, frameOf, writtenOf, roomAfter}
+use Rattle.record.proofs.small_of as SmallOf
+use Rattle.record.proofs.small_of.Reads as SmallOfReads
 use Rattle.record.proofs.paper_number as PaperNumber
 use Rattle.record.proofs.paper_number.Reads as PaperNumberReads
 use Rattle.record.proofs.rows as Rows
@@ -106,6 +110,8 @@ use Rattle.answer.proofs.say as Say
 use Rattle.answer.proofs.say.Reads as SayReads
 use Rattle.answer.proofs.count as Count
 use Rattle.answer.proofs.count.Reads as CountReads
+use Rattle.hook.proofs.hook_lent as HookLent
+use Rattle.hook.proofs.hook_lent.Reads as HookLentReads
 use Rattle.hook.proofs.hook as HookCall
 use Rattle.hook.proofs.hook.Reads as HookCallReads
 use Rattle.stream_places.proofs.empty_from as EmptyFrom
@@ -122,6 +128,8 @@ use Rattle.measure.specs.Mark.{markOf}
 use Rattle.measure.specs.Calls.{fedInCalls, answersInCalls, goodOnes}
 use Rattle.answer_room.proofs.escapes_in as EscapesIn
 use Rattle.answer_room.proofs.escapes_in.Reads as EscapesInReads
+use Rattle.answer_room.proofs.room_needed_lent as RoomNeededLent
+use Rattle.answer_room.proofs.room_needed_lent.Reads as RoomNeededLentReads
 use Rattle.answer_room.proofs.room_needed as RoomNeededFor
 use Rattle.answer_room.proofs.room_needed.Reads as RoomNeededForReads
 use Rattle.measure.proofs.measure_one_call as OneCall
@@ -140,8 +148,12 @@ use Rattle.key_entry.proofs.all_listed as AllListed
 use Rattle.key_entry.proofs.all_listed.Reads as AllListedReads
 use Rattle.key_entry.proofs.take_entry as TakeEntry
 use Rattle.key_entry.proofs.take_entry.Reads as TakeEntryReads
+use Rattle.key_log.proofs.take_log_lent as TakeLogLent
+use Rattle.key_log.proofs.take_log_lent.Reads as TakeLogLentReads
 use Rattle.key_log.proofs.take_log as TakeLog
 use Rattle.key_log.proofs.take_log.Reads as TakeLogReads
+use Rattle.seconds.proofs.second_lent as SecondLent
+use Rattle.seconds.proofs.second_lent.Reads as SecondLentReads
 use Rattle.seconds.proofs.second as Second
 use Rattle.seconds.proofs.second.Reads as SecondReads
 use Rattle.seconds.proofs.second_in_place as SecondInPlace
@@ -151,12 +163,20 @@ use Rattle.seen_panels.proofs.volume_panel as VolumePanelOf
 use Rattle.seen_panels.proofs.volume_panel.Reads as VolumePanelOfReads
 use Rattle.seen.proofs.row_seen as RowSeen
 use Rattle.seen.proofs.row_seen.Reads as RowSeenReads
+use Rattle.seen.proofs.row_seen_lent as RowSeenLent
+use Rattle.seen.proofs.row_seen_lent.Reads as RowSeenLentReads
 use Rattle.seen.proofs.column_seen as ColumnSeen
 use Rattle.seen.proofs.column_seen.Reads as ColumnSeenReads
+use Rattle.seen.proofs.column_seen_lent as ColumnSeenLent
+use Rattle.seen.proofs.column_seen_lent.Reads as ColumnSeenLentReads
 use Rattle.seen.proofs.sms_seen as SmsSeen
 use Rattle.seen.proofs.sms_seen.Reads as SmsSeenReads
+use Rattle.seen.proofs.sms_seen_lent as SmsSeenLent
+use Rattle.seen.proofs.sms_seen_lent.Reads as SmsSeenLentReads
 use Rattle.seen.proofs.volume_seen as VolumeSeen
 use Rattle.seen.proofs.volume_seen.Reads as VolumeSeenReads
+use Rattle.seen.proofs.volume_seen_lent as VolumeSeenLent
+use Rattle.seen.proofs.volume_seen_lent.Reads as VolumeSeenLentReads
 use Rattle.writer_ranges.proofs.label_in_range as LabelInRange
 use Rattle.writer_ranges.proofs.label_in_range.Reads as LabelInRangeReads
 use Rattle.writer_ranges.proofs.row_in_range as RowInRange
@@ -193,6 +213,10 @@ SaysFive t ensures first second third fourth fifth =
     → ensures κs a tt q e w
     ≡ sep (w .𝓤) (fact (w .𝓤) (first κs a q e))
     (sep (w .𝓤) (fact (w .𝓤) (second κs a q e)) (sep (w .𝓤) (fact (w .𝓤) (third κs a q e)) (sep (w .𝓤) (fact (w .𝓤) (fourth κs a q e)) (fact (w .𝓤) (fifth κs a q e)))))
+
+-- record::small_of
+pub small-of-says : Says SmallOf.ended SmallOfReads.ensures (λ κs a q e. q ≡ smallOf (a .0))
+small-of-says κs a q e w = refl
 
 -- record::paper_number
 pub paper-number-says : Says PaperNumber.ended PaperNumberReads.ensures (λ κs a q e. q ≡ paperNumber (a .0))
@@ -244,7 +268,7 @@ record-in-range-says κs a q e w = refl
 
 -- record_ranges::in_range_lent
 pub in-range-lent-says : Says InRangeLent.ended InRangeLentReads.ensures
-    (λ κs a q e. q ≡ inRange (joined (a .0) (now (a .1 .0)) (now (a .1 .1 .0)) (a .1 .1 .1 .0) (a .1 .1 .1 .1 .0) (a .1 .1 .1 .1 .1 .0) (now (a .1 .1 .1 .1 .1 .1 .0))))
+    (λ κs a q e. q ≡ inRange (together (a .0) (now (a .1 .0)) (now (a .1 .1 .0)) (now (a .1 .1 .1 .0))))
 in-range-lent-says κs a q e w = refl
 
 -- record_fields::with_field
@@ -321,6 +345,10 @@ say-says κs a q e w = refl
 pub count-says : Says Count.ended CountReads.ensures (λ κs a q e. q ≡ heads (now (a .0)))
 count-says κs a q e w = refl
 
+-- hook::hook_lent
+pub hook-lent-says : Says HookLent.ended HookLentReads.ensures (λ κs a q e. q ≡ Hooks.lentOf (hooked (together (a .0) (now (a .1 .0)) (now (a .1 .1 .0)) (now (a .1 .1 .1 .0))) (a .1 .1 .1 .1 .0)))
+hook-lent-says κs a q e w = refl
+
 -- hook::hook
 pub hook-says : Says HookCall.ended HookCallReads.ensures (λ κs a q e. q ≡ hooked (a .0) (a .1 .0))
 hook-says κs a q e w = refl
@@ -362,6 +390,10 @@ feed-says κs a q e w = refl
 pub escapes-in-says : Says EscapesIn.ended EscapesInReads.ensures (λ κs a q e. q ≡ escapes (now (a .0)))
 escapes-in-says κs a q e w = refl
 
+-- answer_room::room_needed_lent
+pub room-needed-lent-says : Says RoomNeededLent.ended RoomNeededLentReads.ensures (λ κs a q e. q ≡ roomNeeded (together (a .0) (now (a .1 .0)) (now (a .1 .1 .0)) (now (a .1 .1 .1 .0))) (now (a .1 .1 .1 .1 .0)))
+room-needed-lent-says κs a q e w = refl
+
 -- answer_room::room_needed
 pub room-needed-says : Says RoomNeededFor.ended RoomNeededForReads.ensures (λ κs a q e. q ≡ roomNeeded (a .0) (now (a .1 .0)))
 room-needed-says κs a q e w = refl
@@ -378,11 +410,25 @@ all-listed-says κs a q e w = refl
 pub take-entry-says : Says TakeEntry.ended TakeEntryReads.ensures (λ κs a q e. q ≡ keyed (a .0) (a .1 .0) (a .1 .1 .0) (a .1 .1 .1 .0) (a .1 .1 .1 .1 .0))
 take-entry-says κs a q e w = refl
 
+-- key_log::take_log_lent: the same call, of the record that the small fields and the lent arrays make
+abbrev logged : (κs : Lfts (TakeLogLent.ended .signature .lifetimes)) → ArgsD (TakeLogLent.ended .signature) κs → Outcome
+logged κs a =
+    outcome (together (a .0) (now (a .1 .0)) (now (a .1 .1 .0)) (now (a .1 .1 .1 .0))) (now (a .1 .1 .1 .1 .0)) (now (a .1 .1 .1 .1 .1 .0)) (length (now (a .1 .1 .1 .1 .1 .1 .0)))
+
+pub take-log-lent-says : SaysBoth TakeLogLent.ended TakeLogLentReads.ensures
+    (λ κs a q e. q ≡ loggedLent (handedBack (logged κs a)))
+    (λ κs a q e. now (e .1 .1 .1 .1 .1 .1 .0) ≡ bufferAfter (logged κs a) (now (a .1 .1 .1 .1 .1 .1 .0)))
+take-log-lent-says κs a q e w = refl
+
 -- key_log::take_log
 pub take-log-says : SaysBoth TakeLog.ended TakeLogReads.ensures
     (λ κs a q e. q ≡ handedBack (outcome (a .0) (now (a .1 .0)) (now (a .1 .1 .0)) (length (now (a .1 .1 .1 .0)))))
     (λ κs a q e. now (e .1 .1 .1 .0) ≡ bufferAfter (outcome (a .0) (now (a .1 .0)) (now (a .1 .1 .0)) (length (now (a .1 .1 .1 .0)))) (now (a .1 .1 .1 .0)))
 take-log-says κs a q e w = refl
+
+-- seconds::second_lent
+pub second-lent-says : Says SecondLent.ended SecondLentReads.ensures (λ κs a q e. q ≡ Seconds.lentOf (passed (together (a .0) (now (a .1 .0)) (now (a .1 .1 .0)) (now (a .1 .1 .1 .0)))))
+second-lent-says κs a q e w = refl
 
 -- seconds::second
 pub second-says : Says Second.ended SecondReads.ensures (λ κs a q e. q ≡ passed (a .0))
@@ -406,17 +452,37 @@ volume-panel-says κs a q e w = refl
 pub row-seen-says : Says RowSeen.ended RowSeenReads.ensures (λ κs a q e. q ≡ rowSeen (a .0) (a .1 .0) (a .1 .1 .0))
 row-seen-says κs a q e w = refl
 
+-- seen::row_seen_lent
+pub row-seen-lent-says : Says RowSeenLent.ended RowSeenLentReads.ensures
+    (λ κs a q e. q ≡ rowSeen (together (a .0) (now (a .1 .0)) (now (a .1 .1 .0)) (now (a .1 .1 .1 .0))) (a .1 .1 .1 .1 .0) (a .1 .1 .1 .1 .1 .0))
+row-seen-lent-says κs a q e w = refl
+
 -- seen::column_seen
 pub column-seen-says : Says ColumnSeen.ended ColumnSeenReads.ensures (λ κs a q e. q ≡ columnSeen (a .0) (a .1 .0) (a .1 .1 .0) (a .1 .1 .1 .0))
 column-seen-says κs a q e w = refl
+
+-- seen::column_seen_lent
+pub column-seen-lent-says : Says ColumnSeenLent.ended ColumnSeenLentReads.ensures
+    (λ κs a q e. q ≡ columnSeen (together (a .0) (now (a .1 .0)) (now (a .1 .1 .0)) (now (a .1 .1 .1 .0))) (a .1 .1 .1 .1 .0) (a .1 .1 .1 .1 .1 .0) (a .1 .1 .1 .1 .1 .1 .0))
+column-seen-lent-says κs a q e w = refl
 
 -- seen::sms_seen
 pub sms-seen-says : Says SmsSeen.ended SmsSeenReads.ensures (λ κs a q e. q ≡ smsSeen (a .0) (a .1 .0))
 sms-seen-says κs a q e w = refl
 
+-- seen::sms_seen_lent
+pub sms-seen-lent-says : Says SmsSeenLent.ended SmsSeenLentReads.ensures
+    (λ κs a q e. q ≡ smsSeen (together (a .0) (now (a .1 .0)) (now (a .1 .1 .0)) (now (a .1 .1 .1 .0))) (a .1 .1 .1 .1 .0))
+sms-seen-lent-says κs a q e w = refl
+
 -- seen::volume_seen
 pub volume-seen-says : Says VolumeSeen.ended VolumeSeenReads.ensures (λ κs a q e. q ≡ volumeSeen (a .0))
 volume-seen-says κs a q e w = refl
+
+-- seen::volume_seen_lent
+pub volume-seen-lent-says : Says VolumeSeenLent.ended VolumeSeenLentReads.ensures
+    (λ κs a q e. q ≡ volumeSeen (together (a .0) (now (a .1 .0)) (now (a .1 .1 .0)) (now (a .1 .1 .1 .0))))
+volume-seen-lent-says κs a q e w = refl
 
 -- writer_ranges::label_in_range
 pub label-in-range-says : Says LabelInRange.ended LabelInRangeReads.ensures (λ κs a q e. q ≡ isLabel (now (a .0)))

@@ -9,6 +9,8 @@ use denote.Ref.{now}
 use denote.Triple.Clauses.{Ended, AtExit}
 use borrow.Fn.World.{ArgsD, ResD}
 use Rattle.seconds.specs.Seconds.{lightPassed}
+use Rattle.record.proofs.small_of as SmallOf
+use Rattle.record.proofs.small_of.Reads as SmallOfReads
 use Rattle.record.proofs.paper_number as PaperNumber
 use Rattle.record.proofs.paper_number.Reads as PaperNumberReads
 use Rattle.record.proofs.rows as Rows
@@ -71,6 +73,8 @@ use Rattle.answer.proofs.say as Say
 use Rattle.answer.proofs.say.Reads as SayReads
 use Rattle.answer.proofs.count as Count
 use Rattle.answer.proofs.count.Reads as CountReads
+use Rattle.hook.proofs.hook_lent as HookLent
+use Rattle.hook.proofs.hook_lent.Reads as HookLentReads
 use Rattle.hook.proofs.hook as HookCall
 use Rattle.hook.proofs.hook.Reads as HookCallReads
 use Rattle.stream_places.proofs.empty_from as EmptyFrom
@@ -85,6 +89,8 @@ use Rattle.stream_by_value.proofs.feed as Feed
 use Rattle.stream_by_value.proofs.feed.Reads as FeedReads
 use Rattle.answer_room.proofs.escapes_in as EscapesIn
 use Rattle.answer_room.proofs.escapes_in.Reads as EscapesInReads
+use Rattle.answer_room.proofs.room_needed_lent as RoomNeededLent
+use Rattle.answer_room.proofs.room_needed_lent.Reads as RoomNeededLentReads
 use Rattle.answer_room.proofs.room_needed as RoomNeededFor
 use Rattle.answer_room.proofs.room_needed.Reads as RoomNeededForReads
 use Rattle.measure.proofs.measure_one_call as OneCall
@@ -103,8 +109,12 @@ use Rattle.key_entry.proofs.all_listed as AllListed
 use Rattle.key_entry.proofs.all_listed.Reads as AllListedReads
 use Rattle.key_entry.proofs.take_entry as TakeEntry
 use Rattle.key_entry.proofs.take_entry.Reads as TakeEntryReads
+use Rattle.key_log.proofs.take_log_lent as TakeLogLent
+use Rattle.key_log.proofs.take_log_lent.Reads as TakeLogLentReads
 use Rattle.key_log.proofs.take_log as TakeLog
 use Rattle.key_log.proofs.take_log.Reads as TakeLogReads
+use Rattle.seconds.proofs.second_lent as SecondLent
+use Rattle.seconds.proofs.second_lent.Reads as SecondLentReads
 use Rattle.seconds.proofs.second as Second
 use Rattle.seconds.proofs.second.Reads as SecondReads
 use Rattle.seconds.proofs.second_in_place as SecondInPlace
@@ -114,12 +124,20 @@ use Rattle.seen_panels.proofs.volume_panel as VolumePanelOf
 use Rattle.seen_panels.proofs.volume_panel.Reads as VolumePanelOfReads
 use Rattle.seen.proofs.row_seen as RowSeen
 use Rattle.seen.proofs.row_seen.Reads as RowSeenReads
+use Rattle.seen.proofs.row_seen_lent as RowSeenLent
+use Rattle.seen.proofs.row_seen_lent.Reads as RowSeenLentReads
 use Rattle.seen.proofs.column_seen as ColumnSeen
 use Rattle.seen.proofs.column_seen.Reads as ColumnSeenReads
+use Rattle.seen.proofs.column_seen_lent as ColumnSeenLent
+use Rattle.seen.proofs.column_seen_lent.Reads as ColumnSeenLentReads
 use Rattle.seen.proofs.sms_seen as SmsSeen
 use Rattle.seen.proofs.sms_seen.Reads as SmsSeenReads
+use Rattle.seen.proofs.sms_seen_lent as SmsSeenLent
+use Rattle.seen.proofs.sms_seen_lent.Reads as SmsSeenLentReads
 use Rattle.seen.proofs.volume_seen as VolumeSeen
 use Rattle.seen.proofs.volume_seen.Reads as VolumeSeenReads
+use Rattle.seen.proofs.volume_seen_lent as VolumeSeenLent
+use Rattle.seen.proofs.volume_seen_lent.Reads as VolumeSeenLentReads
 use Rattle.writer_ranges.proofs.label_in_range as LabelInRange
 use Rattle.writer_ranges.proofs.label_in_range.Reads as LabelInRangeReads
 use Rattle.writer_ranges.proofs.row_in_range as RowInRange
@@ -150,6 +168,10 @@ abbrev OneEnd : (t : Ended) (L : Type 0) → Allows t → ((κs : Lfts (t .signa
 OneEnd t L allows left =
     (κs : Lfts (t .signature .lifetimes)) (a : ArgsD (t .signature) κs) (q q′ : ResD (t .signature) κs) (e e′ : AtExit t κs)
     → allows κs a q e → allows κs a q′ e′ → (q ≡ q′) × (left κs e ≡ left κs e′)
+
+-- record::small_of
+pub small-of-one : OneResult SmallOf.ended SmallOfReads.Learnt
+small-of-one κs a q q′ e e′ p p′ = two-equal p p′
 
 -- record::paper_number
 pub paper-number-one : OneResult PaperNumber.ended PaperNumberReads.Learnt
@@ -263,6 +285,10 @@ say-one κs a q q′ e e′ p p′ = (two-equal (p .0) (p′ .0), two-equal (p .
 pub count-one : OneResult Count.ended CountReads.Learnt
 count-one κs a q q′ e e′ p p′ = two-equal p p′
 
+-- hook::hook_lent
+pub hook-lent-one : OneResult HookLent.ended HookLentReads.Learnt
+hook-lent-one κs a q q′ e e′ p p′ = two-equal p p′
+
 -- hook::hook
 pub hook-one : OneResult HookCall.ended HookCallReads.Learnt
 hook-one κs a q q′ e e′ p p′ = two-equal p p′
@@ -294,6 +320,10 @@ feed-one κs a q q′ e e′ p p′ = (two-equal (p .0) (p′ .0), two-equal (p 
 pub escapes-in-one : OneResult EscapesIn.ended EscapesInReads.Learnt
 escapes-in-one κs a q q′ e e′ p p′ = two-equal p p′
 
+-- answer_room::room_needed_lent
+pub room-needed-lent-one : OneResult RoomNeededLent.ended RoomNeededLentReads.Learnt
+room-needed-lent-one κs a q q′ e e′ p p′ = two-equal p p′
+
 -- answer_room::room_needed
 pub room-needed-one : OneResult RoomNeededFor.ended RoomNeededForReads.Learnt
 room-needed-one κs a q q′ e e′ p p′ = two-equal p p′
@@ -310,9 +340,17 @@ all-listed-one κs a q q′ e e′ p p′ = two-equal p p′
 pub take-entry-one : OneResult TakeEntry.ended TakeEntryReads.Learnt
 take-entry-one κs a q q′ e e′ p p′ = two-equal p p′
 
+-- key_log::take_log_lent
+pub take-log-lent-one : OneEnd TakeLogLent.ended (List ℕ) TakeLogLentReads.Learnt (λ κs e. now (e .1 .1 .1 .1 .1 .1 .0))
+take-log-lent-one κs a q q′ e e′ p p′ = (two-equal (p .0) (p′ .0), two-equal (p .1) (p′ .1))
+
 -- key_log::take_log
 pub take-log-one : OneEnd TakeLog.ended (List ℕ) TakeLogReads.Learnt (λ κs e. now (e .1 .1 .1 .0))
 take-log-one κs a q q′ e e′ p p′ = (two-equal (p .0) (p′ .0), two-equal (p .1) (p′ .1))
+
+-- seconds::second_lent
+pub second-lent-one : OneResult SecondLent.ended SecondLentReads.Learnt
+second-lent-one κs a q q′ e e′ p p′ = two-equal p p′
 
 -- seconds::second
 pub second-one : OneResult Second.ended SecondReads.Learnt
@@ -336,17 +374,33 @@ volume-panel-one κs a q q′ e e′ p p′ = two-equal p p′
 pub row-seen-one : OneResult RowSeen.ended RowSeenReads.Learnt
 row-seen-one κs a q q′ e e′ p p′ = two-equal p p′
 
+-- seen::row_seen_lent
+pub row-seen-lent-one : OneResult RowSeenLent.ended RowSeenLentReads.Learnt
+row-seen-lent-one κs a q q′ e e′ p p′ = two-equal p p′
+
 -- seen::column_seen
 pub column-seen-one : OneResult ColumnSeen.ended ColumnSeenReads.Learnt
 column-seen-one κs a q q′ e e′ p p′ = two-equal p p′
+
+-- seen::column_seen_lent
+pub column-seen-lent-one : OneResult ColumnSeenLent.ended ColumnSeenLentReads.Learnt
+column-seen-lent-one κs a q q′ e e′ p p′ = two-equal p p′
 
 -- seen::sms_seen
 pub sms-seen-one : OneResult SmsSeen.ended SmsSeenReads.Learnt
 sms-seen-one κs a q q′ e e′ p p′ = two-equal p p′
 
+-- seen::sms_seen_lent
+pub sms-seen-lent-one : OneResult SmsSeenLent.ended SmsSeenLentReads.Learnt
+sms-seen-lent-one κs a q q′ e e′ p p′ = two-equal p p′
+
 -- seen::volume_seen
 pub volume-seen-one : OneResult VolumeSeen.ended VolumeSeenReads.Learnt
 volume-seen-one κs a q q′ e e′ p p′ = two-equal p p′
+
+-- seen::volume_seen_lent
+pub volume-seen-lent-one : OneResult VolumeSeenLent.ended VolumeSeenLentReads.Learnt
+volume-seen-lent-one κs a q q′ e e′ p p′ = two-equal p p′
 
 -- writer_ranges::label_in_range
 pub label-in-range-one : OneResult LabelInRange.ended LabelInRangeReads.Learnt

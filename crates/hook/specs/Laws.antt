@@ -5,7 +5,8 @@ use Rattle.lists.specs.Tests.{by-test}
 use Rattle.record.specs.Number.{paperNumber}
 use Rattle.record.specs.Range.{inRange}
 use Rattle.record.specs.declared.Record.{Record}
-use Rattle.hook.specs.Hook.{hung, hooked}
+use Rattle.record.specs.With.{withSettings}
+use Rattle.hook.specs.Hook.{hung, hooked, lentOf}
 
 -- No range rests on the hook.
 pub hung-in-range : (r : Record) (on : Bool) → inRange (hung r on) ≡ inRange r
@@ -27,3 +28,8 @@ hook-refused r on h = (rw h, rw h)
 pub hook-alone : (r : Record) (on : Bool) → hung (hooked r on .after) (r .settings .hook) ≡ r
 unfolding hooked
 hook-alone r on = by-test (inRange r) (λ e. rw e) (λ e. rw e)
+
+-- Put together again with the arrays, what a call hands back where they were lent is what it hands back of a record.
+pub lent-back : (r : Record) (on : Bool) → record { number = lentOf (hooked r on) .number; after = withSettings r (lentOf (hooked r on) .small .settings) } ≡ hooked r on
+unfolding hooked
+lent-back r on = by-test (inRange r) (λ e. rw e) (λ e. rw e)

@@ -1,30 +1,61 @@
 // The hook switch: a call when the handset is lifted or hung up.
 ghost use mathlib.Core.Path.{_≡_};
-ghost use Rattle.hook.specs.Hook.{hooked};
+ghost use Rattle.record.specs.Parts.{together};
+ghost use Rattle.hook.specs.Hook.{hooked, lentOf};
 use record::Number;
 use record::Record;
-use record_ranges::in_range;
+use record::Small;
+use record_ranges::in_range_lent;
 
 pub struct Hooked {
     pub number: Number,
     pub after: Record,
 }
 
-// `on` is whether it is on-hook now.
+// As Hooked, where the arrays were lent.
+pub struct HookedLent {
+    pub number: Number,
+    pub small: Small,
+}
+
+// `on` is whether it is on-hook now. It changes no array, so they are only lent to be judged.
+pub fn hook_lent<'a>(
+    small: Small,
+    text: &'a [u8; 104],
+    picture: &'a [u8; 672],
+    bytes: &'a [u8; 250],
+    on: bool,
+) -> HookedLent
+    ensures same { λ q. ⌜ q ≡ lentOf (hooked (together small (now (text .entry)) (now (picture .entry)) (now (bytes .entry))) on) ⌝ }
+{
+    let ok = in_range_lent(small, text, picture, bytes);
+    if !ok {
+        return HookedLent {
+            number: Number::FieldOutOfRange,
+            small: small,
+        };
+    }
+    let mut after = small;
+    after.settings.hook = on;
+    HookedLent {
+        number: Number::Done,
+        small: after,
+    }
+}
+
+// The same on a record by value.
 pub fn hook(r: Record, on: bool) -> Hooked
     ensures same { λ q. ⌜ q ≡ hooked r on ⌝ }
 {
-    let ok = in_range(r);
-    if !ok {
-        return Hooked {
-            number: Number::FieldOutOfRange,
-            after: r,
-        };
-    }
-    let mut after = r;
-    after.settings.hook = on;
+    let small = record::small_of(r);
+    let q = hook_lent(small, &r.text, &r.picture, &r.frame.bytes, on);
+    let number = q.number;
+    let settings = q.small.settings;
     Hooked {
-        number: Number::Done,
-        after: after,
+        number: number,
+        after: Record {
+            settings: settings,
+            ..r
+        },
     }
 }

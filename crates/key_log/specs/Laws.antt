@@ -2,20 +2,26 @@
 use Prim.Native.Nat.{ℕ, suc, _+_, _≤_, _<_}
 use mathlib.Core.Logic.{_⊎_}
 use mathlib.Core.Path.{_≡_, refl, sym, ap, _∙_, subst}
-use mathlib.Core.Bool.{true, false}
+use mathlib.Core.Bool.{true, false, not}
 use mathlib.Core.List.{List, _∷_}
+use lib.Dec.{eqb}
 use lib.ListN.{length, take, drop}
 use borrow.Author.Tests.{eq-eqb, ne-eqb}
 use Rattle.lists.specs.Every.{every}
+use Rattle.lists.specs.Tests.{either-way}
 use Rattle.record.specs.declared.Record.{Record}
+use Rattle.record.specs.declared.Small.{Small}
 use Rattle.record.specs.Number.{numbered}
 use Rattle.record.specs.Range.{inRange}
+use Rattle.record.specs.With.{withSettings, withHeld}
+use Rattle.record.specs.Parts.{together, smallOf}
 use Rattle.turns.specs.Taking.{Taken, reading}
-use Rattle.turns.specs.Room.{Ran, run, Stops, run-stops, only-one, stops-exactly}
+use Rattle.turns.specs.Room.{Ran, run, run-keeps, Stops, run-stops, only-one, stops-exactly}
 use Rattle.turns.specs.Loop.{holding}
 use Rattle.key_log.specs.declared.Logged.{Logged}
+use Rattle.key_log.specs.declared.LoggedLent.{LoggedLent}
 use Rattle.key_entry.specs.Rules.{Entry, listed, step}
-use Rattle.key_log.specs.Log.{entries, Outcome, refused, outcome, handedBack, bufferAfter}
+use Rattle.key_log.specs.Log.{entries, Outcome, refused, outcome, handedBack, lentOf, bufferAfter}
 
 -- The call, number by number, in the paper's order 1, 5, 4, 0.
 module _ (r : Record) (ticks edges : List ℕ) (room : ℕ) where
@@ -43,9 +49,67 @@ module _ (r : Record) (ticks edges : List ℕ) (room : ℕ) where
       ends-with-0 all = rw (good, eq-eqb (length ticks) (length edges) equal, all)
 
 -- What is handed back and left in the buffer for an outcome is so for its equal.
-pub kept : (before : List ℕ) {l : Logged} {after : List ℕ} {o p : Outcome} → o ≡ p → l ≡ handedBack p → after ≡ bufferAfter p before
-    → (l ≡ handedBack o) × (after ≡ bufferAfter o before)
-kept before e back buffer = (back ∙ ap handedBack (sym e), buffer ∙ ap (λ (x : Outcome). bufferAfter x before) (sym e))
+pub kept : (before : List ℕ) {l : LoggedLent} {after : List ℕ} {o p : Outcome} → o ≡ p → l ≡ lentOf (handedBack p) → after ≡ bufferAfter p before
+    → (l ≡ lentOf (handedBack o)) × (after ≡ bufferAfter o before)
+kept before e back buffer = (back ∙ ap (λ (x : Outcome). lentOf (handedBack x)) (sym e), buffer ∙ ap (λ (x : Outcome). bufferAfter x before) (sym e))
+
+-- A fact that every entry keeps is kept by a log.
+pub log-keeps : (Fact : Record → Type 0) → ((s : Record) (e : Entry) → Fact s → Fact (step s e .state))
+    → (r : Record) (ticks edges : List ℕ) (room : ℕ) → Fact r → Fact (outcome r ticks edges room .ran .state)
+unfolding outcome
+log-keeps Fact each r ticks edges room fact =
+    either-way Kept (not (inRange r)) (λ a. fact)
+    (λ a. either-way Kept (not (eqb (length ticks) (length edges))) (λ b. fact)
+    (λ b. either-way Kept (not (every listed edges)) (λ d. fact)
+    (λ d. run-keeps step Fact each r (entries ticks edges) room fact)))
+  where
+    Kept : Outcome → Type 0
+    Kept o = Fact (o .ran .state)
+
+-- the record with these settings and this held key, and all else as it was
+abbrev pub withKeysOf : Record → Small → Record
+withKeysOf r small = withHeld (withSettings r (small .settings)) (small .held)
+
+-- A LOG CHANGES NO ARRAY: what it leaves is the record it was handed, with other settings and another held key.
+module _ (r : Record) (ticks edges : List ℕ) (room : ℕ) where
+  abbrev left : Record
+  left = outcome r ticks edges room .ran .state
+
+  pub arrays-stay : withKeysOf r (smallOf left) ≡ left
+  unfolding step
+  arrays-stay =
+      log-keeps (λ (s : Record). withKeysOf r (smallOf s) ≡ s)
+      (λ s e same. λ j. record { settings = step s e .state .settings; text = same j .text; picture = same j .picture; held = step s e .state .held; frame = same j .frame })
+      r ticks edges room refl
+
+  -- So what comes back of lent arrays, put together with them, is the call's record.
+  pub lent-back : {l : LoggedLent} → l ≡ lentOf (handedBack (outcome r ticks edges room)) → together (l .small) (r .text) (r .picture) (r .frame .bytes) ≡ left
+  lent-back e =
+      ap (λ (l : LoggedLent). together (l .small) (r .text) (r .picture) (r .frame .bytes)) e
+      ∙ (λ j. together (smallOf left) (arrays-stay j .text) (arrays-stay j .picture) (arrays-stay j .frame .bytes))
+
+-- THE CALL BY VALUE lends the arrays of the record, and puts the settings and the held key that come back into it.
+abbrev pub backIn : Record → LoggedLent → Logged
+backIn r l = record { number = l .number; «record» = withKeysOf r (l .small); used = l .used; written = l .written }
+
+module _ (r : Record) (ticks edges before : List ℕ) where
+  -- how the log ends with these small fields beside the record's arrays
+  abbrev pub ended : Small → Outcome
+  ended small = outcome (together small (r .text) (r .picture) (r .frame .bytes)) ticks edges (length before)
+
+  -- With the record's own it ends as the call by value does.
+  pub by-value : {small : Small} {l : LoggedLent} {after : List ℕ} → small ≡ smallOf r → l ≡ lentOf (handedBack (ended small)) → after ≡ bufferAfter (ended small) before
+      → (backIn r l ≡ handedBack (outcome r ticks edges (length before))) × (after ≡ bufferAfter (outcome r ticks edges (length before)) before)
+  by-value {small} {l} own back buffer = (
+    ap (backIn r) same ∙ (λ j. record { number = o .number; «record» = arrays-stay r ticks edges (length before) j; used = o .ran .used; written = length (o .ran .answers) }),
+    buffer ∙ ap (λ (s : Small). bufferAfter (ended s) before) own,
+  )
+    where
+      o : Outcome
+      o = outcome r ticks edges (length before)
+
+      same : l ≡ lentOf (handedBack o)
+      same = back ∙ ap (λ (s : Small). lentOf (handedBack (ended s))) own
 
 -- A LOG THAT IS DONE, by what it hands back and what then stands in the buffer that was lent: both are what its used entries do, the
 -- written count among them; all entries are used, or one more would send more codes than there is room for.

@@ -7,15 +7,19 @@ use lib.Dec.{eqb}
 use lib.ListN.{length}
 use Rattle.lists.specs.Every.{every}
 use Rattle.record.specs.declared.Record.{Record}
+use Rattle.record.specs.declared.Small.{Small}
 use Rattle.record.specs.declared.Held.{Held}
 use Rattle.record.specs.declared.Backlight.{Backlight}
 use Rattle.record.specs.declared.Number.{Number}
 use Rattle.record.specs.Number.{numbered}
 use Rattle.record.specs.Range.{inRange}
+use Rattle.record.specs.Parts.{together, smallOf}
+use Rattle.record.specs.With.{withBacklight}
 use Rattle.turns.specs.Room.{Ran, run, stopped}
 use Rattle.turns.specs.Loop.{holding}
 use Rattle.key_log.specs.declared.Logged.{Logged}
-use Rattle.key_entry.specs.Rules.{Entry, entry, listed, withKeys, step}
+use Rattle.key_log.specs.declared.LoggedLent.{LoggedLent}
+use Rattle.key_entry.specs.Rules.{Entry, entry, listed, step}
 
 -- each tick reading with its edge byte
 abbrev pub entries : List ℕ → List ℕ → List Entry
@@ -46,11 +50,32 @@ handedBack o = record { number = o .number; «record» = o .ran .state; used = o
 abbrev pub bufferAfter : Outcome → List ℕ → List ℕ
 bufferAfter o before = holding (o .ran .answers) before
 
--- the work is done, with this held key and this backlight in the record
-abbrev pub doneWith : Record → Held → Backlight → ℕ → ℕ → Logged
-doneWith r held light used written = record { number = numbered 0; «record» = withKeys r held light; used = used; written = written }
+-- THE KEY LOG CALL ON LENT ARRAYS is the same call, of the record that the small fields and the arrays make: what comes back is that
+-- call's, but for the arrays, which stay as they are (Laws, lent-back)
+abbrev pub lentOf : Logged → LoggedLent
+lentOf l = record { number = l .number; small = smallOf (l .record); used = l .used; written = l .written }
 
--- the loop's part of the promise: what it hands back and leaves in the buffer is the run of the rules
-pub record Takes (l : Logged) (r : Record) (ticks edges before after : List ℕ) : Type 0 where
-  pub back : l ≡ handedBack (record { number = numbered 0; ran = run step r (entries ticks edges) (length before) })
-  pub buffer : after ≡ bufferAfter (record { number = numbered 0; ran = run step r (entries ticks edges) (length before) }) before
+-- What the inner functions do -------------------------------------------------------------------------------------
+
+-- a refusal hands the small fields back as they came
+abbrev pub refusedWith : Number → Small → LoggedLent
+refusedWith number small = record { number = number; small = small; used = 0; written = 0 }
+
+-- the work is done, with this held key and this backlight among the small fields
+abbrev pub doneWith : Small → Held → Backlight → ℕ → ℕ → LoggedLent
+doneWith small held light used written =
+    record {
+      number = numbered 0;
+      small = record { settings = withBacklight (small .settings) light; held = held; state = small .state; len = small .len };
+      used = used;
+      written = written;
+    }
+
+-- a log that is taken by the rules
+abbrev pub takenBy : Record → List ℕ → List ℕ → ℕ → Outcome
+takenBy r ticks edges room = record { number = numbered 0; ran = run step r (entries ticks edges) room }
+
+-- the loop's part of the promise: whatever the arrays hold, what it hands back and leaves in the buffer is the run of the rules
+pub record Takes (l : LoggedLent) (small : Small) (ticks edges before after : List ℕ) : Type 0 where
+  pub back : (text picture bytes : List ℕ) → l ≡ lentOf (handedBack (takenBy (together small text picture bytes) ticks edges (length before)))
+  pub buffer : (text picture bytes : List ℕ) → after ≡ bufferAfter (takenBy (together small text picture bytes) ticks edges (length before)) before

@@ -1,12 +1,10 @@
 -- From a record in range every log hands back a record in range. Assumes nothing.
 use Prim.Native.Nat.{ℕ}
 use mathlib.Core.Path.{_≡_, refl, sym, ap, _∙_}
-use mathlib.Core.Bool.{Bool, true, _&&_, _||_, not, or-true, or-false}
+use mathlib.Core.Bool.{Bool, true, _&&_, _||_, or-true, or-false}
 use mathlib.Core.List.{List}
 use lib.Dec.{eqb, leb}
-use lib.ListN.{length}
 use Rattle.lists.specs.Both.{both, and-both}
-use Rattle.lists.specs.Every.{every}
 use Rattle.lists.specs.Tests.{either-way}
 use Rattle.record.specs.declared.Record.{Record}
 use Rattle.record.specs.declared.Held.{Held}
@@ -14,10 +12,10 @@ use Rattle.record.specs.declared.Times.{Times}
 use Rattle.record.specs.declared.Backlight.{Backlight}
 use Rattle.record.specs.Range.{auto, keyInRange, heldInRange, durationInRange, backlightInRange, inRange}
 use Rattle.record.specs.Laws.{Ranges, ranges, in-range}
-use Rattle.turns.specs.Room.{run-keeps}
 use Rattle.key_entry.specs.declared.Keyed.{Keyed}
-use Rattle.key_entry.specs.Rules.{Entry, listed, lit, longSince, keyed, step}
-use Rattle.key_log.specs.Log.{Outcome, entries, outcome}
+use Rattle.key_entry.specs.Rules.{Entry, lit, longSince, keyed, step}
+use Rattle.key_log.specs.Log.{outcome}
+use Rattle.key_log.specs.Laws.{log-keeps}
 use Rattle.key_entry.specs.Laws.{one-of-four}
 
 -- the held key and the backlight are within their ranges
@@ -79,12 +77,4 @@ step-in-range r e good =
 
 -- So every log does.
 pub log-in-range : (r : Record) (ticks edges : List ℕ) (room : ℕ) → inRange r ≡ true → inRange (outcome r ticks edges room .ran .state) ≡ true
-unfolding outcome
-log-in-range r ticks edges room good =
-    either-way Good (not (inRange r)) (λ a. good)
-    (λ a. either-way Good (not (eqb (length ticks) (length edges))) (λ b. good)
-    (λ b. either-way Good (not (every listed edges)) (λ d. good)
-    (λ d. run-keeps step (λ (s : Record). inRange s ≡ true) step-in-range r (entries ticks edges) room good)))
-  where
-    Good : Outcome → Type 0
-    Good o = inRange (o .ran .state) ≡ true
+log-in-range = log-keeps (λ (s : Record). inRange s ≡ true) step-in-range

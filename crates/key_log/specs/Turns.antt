@@ -6,15 +6,17 @@ use mathlib.Core.List.{List, [], _∷_}
 use lib.ListN.{length, getD, set, drop}
 use borrow.Author.Tests.{eq-eqb, ne-eqb}
 use Rattle.record.specs.declared.Record.{Record}
+use Rattle.record.specs.declared.Small.{Small}
 use Rattle.record.specs.declared.Held.{Held}
 use Rattle.record.specs.declared.Backlight.{Backlight}
 use Rattle.record.specs.Number.{numbered}
+use Rattle.record.specs.Parts.{together, smallOf}
 use Rattle.turns.specs.Taking.{silently}
 use Rattle.turns.specs.Room.{run}
 use Rattle.turns.specs.Loop.{Account, Going, still, go-quiet, go-one, go-stop, go-end}
 use Rattle.turns.specs.Begins.{as-many, both-begin-with}
 use Rattle.key_entry.specs.declared.Keyed.{Keyed}
-use Rattle.key_log.specs.declared.Logged.{Logged}
+use Rattle.key_log.specs.declared.LoggedLent.{LoggedLent}
 use Rattle.key_entry.specs.Codes.{noCode}
 use Rattle.key_entry.specs.Rules.{Entry, entry, keyed, withKeys, taken, step}
 use Rattle.key_log.specs.Log.{entries, doneWith, Takes}
@@ -65,13 +67,24 @@ module _ {r : Record} (ticks edges : List ℕ) {before : List ℕ} {held : Held}
         go-stop step going begins (record { state = withKeys r (next .held) (next .backlight); answers = next .code ∷ [] }) (stepped ∙ sent-code r next n)
         (omega arith)
 
+-- WHATEVER THE ARRAYS HOLD. The loop is handed the small fields alone, so what holds at its head and at its end is said of every
+-- record that has them.
+abbrev pub Goes : Small → List ℕ → List ℕ → List ℕ → Held → Backlight → ℕ → ℕ → List ℕ → Type 0
+Goes small ticks edges before held light used written codes =
+    (text picture bytes : List ℕ) → (let r = together small text picture bytes in Going step r (entries ticks edges) before (withKeys r held light) used written codes)
+
+abbrev pub Ends : Small → List ℕ → List ℕ → List ℕ → Held → Backlight → ℕ → ℕ → List ℕ → Type 0
+Ends small ticks edges before held light used written codes =
+    (text picture bytes : List ℕ)
+    → (let r = together small text picture bytes in Account (run step r (entries ticks edges) (length before)) before (still (withKeys r held light) used written codes))
+
 -- What the loop hands back is what the run of the rules has done.
-pub takes : {r : Record} (ticks edges : List ℕ) {before : List ℕ} {held : Held} {light : Backlight} {used written : ℕ} {codes : List ℕ} (l : Logged)
-    → l ≡ doneWith r held light used written
-    → Account (run step r (entries ticks edges) (length before)) before (still (withKeys r held light) used written codes)
-    → Takes l r ticks edges before codes
-takes ticks edges l e account =
+pub takes : {small : Small} (ticks edges : List ℕ) {before : List ℕ} {held : Held} {light : Backlight} {used written : ℕ} {codes : List ℕ} (l : LoggedLent)
+    → l ≡ doneWith small held light used written → Ends small ticks edges before held light used written codes → Takes l small ticks edges before codes
+takes ticks edges l e ends =
     record {
-      back = e ∙ (λ j. record { number = numbered 0; «record» = account .state j; used = account .used j; written = account .written j });
-      buffer = account .buffer;
+      back = λ text picture bytes.
+          let account = ends text picture bytes in
+          e ∙ (λ j. record { number = numbered 0; small = smallOf (account .state j); used = account .used j; written = account .written j });
+      buffer = λ text picture bytes. ends text picture bytes .buffer;
     }

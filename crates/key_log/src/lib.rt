@@ -1,14 +1,17 @@
 // The key log: presses, releases and polls at tick readings, and the codes they send to the host.
 // What an entry does is in the crate `key_entry`; the call's promise is in specs/Log.antt.
+// It is done on a record in parts, whose arrays it only looks at; `take_log` is the same call on a record by value.
 ghost use mathlib.Core.Path.{_≡_};
 ghost use lib.ListN.{length};
-ghost use Rattle.key_log.specs.Log.{outcome, handedBack, bufferAfter, refused, doneWith, Takes};
+ghost use Rattle.record.specs.Parts.{together};
+ghost use Rattle.key_log.specs.Log.{outcome, handedBack, lentOf, bufferAfter, refusedWith, doneWith, Takes};
 use key_entry::all_listed;
 use key_entry::take_entry;
 use record::Backlight;
 use record::Held;
 use record::Number;
 use record::Record;
+use record::Small;
 
 // 0 stands for none: it is no key's code.
 const NONE: u8 = 0;
@@ -21,32 +24,40 @@ pub struct Logged {
     pub written: usize,
 }
 
-// The record is put together once, when the work is done.
-fn done(r: Record, held: Held, light: Backlight, used: usize, written: usize) -> Logged
-    ensures { λ l. ⌜ l ≡ doneWith r held light used written ⌝ }
+// As Logged, where text, picture and the frame's bytes were lent.
+pub struct LoggedLent {
+    pub number: Number,
+    pub small: Small,
+    pub used: usize,
+    pub written: usize,
+}
+
+// The small fields are put together once, when the work is done.
+fn done(small: Small, held: Held, light: Backlight, used: usize, written: usize) -> LoggedLent
+    ensures { λ l. ⌜ l ≡ doneWith small held light used written ⌝ }
 {
-    let mut settings = r.settings;
+    let mut settings = small.settings;
     settings.backlight = light;
-    Logged {
+    LoggedLent {
         number: Number::Done,
-        record: Record {
+        small: Small {
             settings: settings,
             held: held,
-            ..r
+            ..small
         },
         used: used,
         written: written,
     }
 }
 
-// Takes entries until they end or a code has no room. What the entries touch is held apart from the record, which is large.
-fn take_entries(r: Record, ticks: &[u16], edges: &[u8], codes: &mut [u8]) -> Logged
+// Takes entries until they end or a code has no room. What the entries touch is held apart from all else.
+fn take_entries(small: Small, ticks: &[u16], edges: &[u8], codes: &mut [u8]) -> LoggedLent
     requires { ⌜ length (now ticks) ≡ length (now edges) ⌝ }
-    ensures { λ l. ⌜ Takes l r (now (ticks .entry)) (now (edges .entry)) (now (codes .entry)) (now (codes .exit)) ⌝ }
+    ensures { λ l. ⌜ Takes l small (now (ticks .entry)) (now (edges .entry)) (now (codes .entry)) (now (codes .exit)) ⌝ }
 {
-    let times = r.settings.times;
-    let mut held = r.held;
-    let mut light = r.settings.backlight;
+    let times = small.settings.times;
+    let mut held = small.held;
+    let mut light = small.settings.backlight;
     let mut used = 0;
     let mut written = 0;
     while used < edges.len() {
@@ -70,38 +81,76 @@ fn take_entries(r: Record, ticks: &[u16], edges: &[u8], codes: &mut [u8]) -> Log
             used += 1;
             continue;
         }
-        return done(r, held, light, used, written);
+        return done(small, held, light, used, written);
     }
-    done(r, held, light, used, written)
+    done(small, held, light, used, written)
 }
 
-fn refuse(number: Number, r: Record) -> Logged
-    ensures { λ l. ⌜ l ≡ handedBack (refused number r) ⌝ }
+fn refuse(number: Number, small: Small) -> LoggedLent
+    ensures { λ l. ⌜ l ≡ refusedWith number small ⌝ }
 {
-    Logged {
+    LoggedLent {
         number: number,
-        record: r,
+        small: small,
         used: 0,
         written: 0,
     }
 }
 
-// The key log call. The record is judged first, then the lengths, then every edge; then entries are taken until they end or a
-// code has no room.
+// The key log call on lent arrays. The record is judged first, then the lengths, then every edge; then entries are taken until they
+// end or a code has no room.
+pub fn take_log_lent<'a>(
+    small: Small,
+    text: &'a [u8; 104],
+    picture: &'a [u8; 672],
+    bytes: &'a [u8; 250],
+    ticks: &[u16],
+    edges: &[u8],
+    codes: &mut [u8],
+) -> LoggedLent
+    ensures same { λ l. ⌜ l ≡ lentOf (handedBack (outcome (together small (now (text .entry)) (now (picture .entry)) (now (bytes .entry))) (now (ticks .entry)) (now (edges .entry)) (length (now (codes .entry))))) ⌝ }
+    ensures buffer { λ _. ⌜ now (codes .exit) ≡ bufferAfter (outcome (together small (now (text .entry)) (now (picture .entry)) (now (bytes .entry))) (now (ticks .entry)) (now (edges .entry)) (length (now (codes .entry)))) (now (codes .entry)) ⌝ }
+{
+    let good = record_ranges::in_range_lent(small, text, picture, bytes);
+    if !good {
+        return refuse(Number::FieldOutOfRange, small);
+    }
+    if ticks.len() != edges.len() {
+        return refuse(Number::UnequalLengths, small);
+    }
+    let listed = all_listed(edges);
+    if !listed {
+        return refuse(Number::NotListed, small);
+    }
+    take_entries(small, ticks, edges, codes)
+}
+
+// The key log call on a record by value: the settings and the held key come back, and all else is as it was.
 pub fn take_log(r: Record, ticks: &[u16], edges: &[u8], codes: &mut [u8]) -> Logged
     ensures same { λ l. ⌜ l ≡ handedBack (outcome r (now (ticks .entry)) (now (edges .entry)) (length (now (codes .entry)))) ⌝ }
     ensures buffer { λ _. ⌜ now (codes .exit) ≡ bufferAfter (outcome r (now (ticks .entry)) (now (edges .entry)) (length (now (codes .entry)))) (now (codes .entry)) ⌝ }
 {
-    let good = record_ranges::in_range(r);
-    if !good {
-        return refuse(Number::FieldOutOfRange, r);
+    let small = record::small_of(r);
+    let l = take_log_lent(
+        small,
+        &r.text,
+        &r.picture,
+        &r.frame.bytes,
+        ticks,
+        edges,
+        codes,
+    );
+    let number = l.number;
+    let settings = l.small.settings;
+    let held = l.small.held;
+    Logged {
+        number: number,
+        record: Record {
+            settings: settings,
+            held: held,
+            ..r
+        },
+        used: l.used,
+        written: l.written,
     }
-    if ticks.len() != edges.len() {
-        return refuse(Number::UnequalLengths, r);
-    }
-    let listed = all_listed(edges);
-    if !listed {
-        return refuse(Number::NotListed, r);
-    }
-    take_entries(r, ticks, edges, codes)
 }

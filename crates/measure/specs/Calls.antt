@@ -9,7 +9,8 @@ use Rattle.record.specs.With.{withText}
 use Rattle.record.specs.PowerOn.{powerOn}
 use Rattle.stream.specs.declared.Fed.{Fed}
 use Rattle.stream.specs.declared.FedLent.{FedLent}
-use Rattle.stream.specs.Stream.{together, fedOf, answersAfter}
+use Rattle.record.specs.Parts.{together}
+use Rattle.stream.specs.Stream.{fedOf, answersAfter}
 
 -- between two calls: the record, the buffer for answers, and the bytes that are still to come
 pub record Between : Type 0 where

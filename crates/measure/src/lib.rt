@@ -16,9 +16,9 @@ use choice::Choice;
 use parts::Kind;
 use record::Record;
 use record::Settings;
+use record::Small;
 use stream::Fed;
 use stream::FedLent;
-use stream::Small;
 
 // Marks stay below this prime.
 const PRIME: u64 = 1_000_003;

@@ -2,4 +2,5 @@ pub mod Number
 pub mod Range
 pub mod PowerOn
 pub mod With
+pub mod Parts
 pub mod Laws

@@ -3,21 +3,26 @@
 ghost use mathlib.Core.Path.{_≡_};
 ghost use Rattle.record.specs.Number.{paperNumber};
 ghost use Rattle.record.specs.Range.{rowsOf, rowEndOf, rowStartOf};
+ghost use Rattle.record.specs.Parts.{smallOf};
 ghost use Rattle.record.specs.PowerOn.{timesAtPowerOn, formerTimes, startingWith, powerOn, formerPowerOn};
 
 // The text mode of large digits: its one row is the large line.
 const LARGE: u8 = 10;
 
 // A count of 100 ms: Time1 and Time2 of the keys.
+#[repr(C)]
 pub struct Tenths(pub u8);
 
 // A count of 10 ms: the buzzer.
+#[repr(C)]
 pub struct Hundredths(pub u8);
 
 // A count of 1 s: the backlight.
+#[repr(C)]
 pub struct Seconds(pub u8);
 
 // A reading of the clock that steps every 10 ms and runs over from 65,535 to 0: a place in time, and no count.
+#[repr(C)]
 pub struct Tick(pub u16);
 
 // How a call ended: document 01's number, by name. specs/Number.antt sets out which.
@@ -31,6 +36,7 @@ pub enum Number {
 }
 
 // overlay 0 is none; the column past a row's last one stands at its end.
+#[repr(C)]
 pub struct Screen {
     pub display: bool,
     pub mode: u8,
@@ -39,11 +45,13 @@ pub struct Screen {
     pub column: u8,
 }
 
+#[repr(C)]
 pub struct Label {
     pub len: u8,
     pub codes: [u8; 7],
 }
 
+#[repr(C)]
 pub struct Icons {
     pub s: u8,
     pub u: u8,
@@ -54,6 +62,7 @@ pub struct Icons {
 }
 
 // which: 0 none, 1 private, 2 handsfree.
+#[repr(C)]
 pub struct Volume {
     pub which: u8,
     pub level: u8,
@@ -62,12 +71,14 @@ pub struct Volume {
 }
 
 // Time1 until a held key is long, Time2 between its repeats.
+#[repr(C)]
 pub struct Times {
     pub time1: Tenths,
     pub time2: Tenths,
 }
 
 // mode: 0 off, 1 on, 2 auto.
+#[repr(C)]
 pub struct Backlight {
     pub mode: u8,
     pub duration: Seconds,
@@ -77,6 +88,7 @@ pub struct Backlight {
 
 // All that is small. The structs inside are the groups of fields that commands change together. hook is whether it is on-hook; inverse
 // has a mark for each text row.
+#[repr(C)]
 pub struct Settings {
     pub screen: Screen,
     pub shown: bool,
@@ -93,6 +105,7 @@ pub struct Settings {
 }
 
 // down: whether a key is held; long: whether its stage is long.
+#[repr(C)]
 pub struct Held {
     pub down: bool,
     pub key: u8,
@@ -101,6 +114,7 @@ pub struct Held {
 }
 
 // state: 0 none, 1 open, 2 overlong.
+#[repr(C)]
 pub struct Frame {
     pub state: u8,
     pub len: u8,
@@ -109,12 +123,35 @@ pub struct Frame {
 
 // The text is 5 rows of 16 codes, row after row, and then the large line of 24: a text byte has one array to go to in every mode.
 // The picture is 7 rows of 96 columns.
+#[repr(C)]
 pub struct Record {
     pub settings: Settings,
     pub text: [u8; 104],
     pub picture: [u8; 672],
     pub held: Held,
     pub frame: Frame,
+}
+
+// All of the record but its three arrays, for one who keeps these elsewhere and lends them: state and len are the frame's.
+#[repr(C)]
+pub struct Small {
+    pub settings: Settings,
+    pub held: Held,
+    pub state: u8,
+    pub len: u8,
+}
+
+pub fn small_of(r: Record) -> Small
+    ensures same { λ s. ⌜ s ≡ smallOf r ⌝ }
+{
+    let settings = r.settings;
+    let held = r.held;
+    Small {
+        settings: settings,
+        held: held,
+        state: r.frame.state,
+        len: r.frame.len,
+    }
 }
 
 pub fn paper_number(number: Number) -> u8

@@ -3,12 +3,11 @@ ghost use mathlib.Core.Path.{_≡_};
 ghost use Prim.Native.Nat.{_≤_};
 ghost use lib.ListN.{length};
 ghost use Rattle.record.specs.Range.{textInRange, labelInRange, pictureInRange, frameInRange, inRange};
+ghost use Rattle.record.specs.Parts.{together};
 ghost use Rattle.record_ranges.specs.Scan.{testOf, rightAt, filled};
-ghost use Rattle.record_ranges.specs.Parts.{joined};
-use record::Held;
 use record::Label;
 use record::Record;
-use record::Settings;
+use record::Small;
 use record_small_ranges::small_in_range;
 
 const ESCAPE: u8 = 0x1B;
@@ -87,38 +86,26 @@ fn frame_in_range(state: u8, len: u8, bytes: &[u8; 250]) -> bool
 
 // Whether every field is within its range, for one who keeps the arrays elsewhere.
 pub fn in_range_lent<'a>(
-    settings: Settings,
+    small: Small,
     text: &'a [u8; 104],
     picture: &'a [u8; 672],
-    held: Held,
-    state: u8,
-    len: u8,
     bytes: &'a [u8; 250],
 ) -> bool
-    ensures same { λ b. ⌜ b ≡ inRange (joined settings (now (text .entry)) (now (picture .entry)) held state len (now (bytes .entry))) ⌝ }
+    ensures same { λ b. ⌜ b ≡ inRange (together small (now (text .entry)) (now (picture .entry)) (now (bytes .entry))) ⌝ }
 {
-    small_in_range(settings, held)
+    let settings = small.settings;
+    small_in_range(settings, small.held)
         & text_in_range(text)
         & label_in_range(settings.left)
         & label_in_range(settings.right)
         & picture_in_range(picture)
-        & frame_in_range(state, len, bytes)
+        & frame_in_range(small.state, small.len, bytes)
 }
 
 // The same of a record.
 pub fn in_range(r: Record) -> bool
     ensures same { λ b. ⌜ b ≡ inRange r ⌝ }
 {
-    let held = r.held;
-    let state = r.frame.state;
-    let len = r.frame.len;
-    in_range_lent(
-        r.settings,
-        &r.text,
-        &r.picture,
-        held,
-        state,
-        len,
-        &r.frame.bytes,
-    )
+    let small = record::small_of(r);
+    in_range_lent(small, &r.text, &r.picture, &r.frame.bytes)
 }

@@ -6,12 +6,14 @@ use mathlib.Core.Bool.{Bool, true, false, _&&_, _||_, or-true, or-false}
 use lib.Dec.{leb, eqb}
 use borrow.Author.Tests.{eqb-true, eq-eqb}
 use Rattle.lists.specs.Both.{both, and-both}
+use Rattle.lists.specs.Tests.{by-test}
 use Rattle.record.specs.Number.{paperNumber}
 use Rattle.record.specs.Laws.{ranges, in-range}
 use Rattle.record.specs.Range.{durationInRange, backlightInRange, inRange}
 use Rattle.record.specs.declared.Backlight.{Backlight}
 use Rattle.record.specs.declared.Record.{Record}
-use Rattle.seconds.specs.Seconds.{lowered, dimmed, lightPassed, passed}
+use Rattle.record.specs.With.{withSettings}
+use Rattle.seconds.specs.Seconds.{lowered, dimmed, lightPassed, passed, lentOf}
 
 -- What is 0 stays 0, so seconds are left only in auto.
 less-in-range : (n : ℕ) (auto : Bool) → (eqb n 0 || auto) ≡ true → (eqb (n - 1) 0 || auto) ≡ true
@@ -75,3 +77,8 @@ pub in-place-agrees : (r : Record) → inRange r ≡ true
     → lightPassed (r .settings .backlight) ≡ record { number = passed r .number; backlight = passed r .after .settings .backlight }
 unfolding lightPassed passed
 in-place-agrees r h = rw (h, ranges r h .backlight)
+
+-- Put together again with the arrays, what a call hands back where they were lent is what it hands back of a record.
+pub lent-back : (r : Record) → record { number = lentOf (passed r) .number; after = withSettings r (lentOf (passed r) .small .settings) } ≡ passed r
+unfolding passed
+lent-back r = by-test (inRange r) (λ e. rw e) (λ e. rw e)

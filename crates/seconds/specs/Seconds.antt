@@ -6,7 +6,9 @@ use Rattle.record.specs.With.{withSettings, withBacklight, withSecondsLeft}
 use Rattle.record.specs.Number.{numbered}
 use Rattle.record.specs.declared.Backlight.{Backlight}
 use Rattle.record.specs.declared.Record.{Record}
+use Rattle.record.specs.Parts.{smallOf}
 use Rattle.seconds.specs.declared.Passed.{Passed}
+use Rattle.seconds.specs.declared.PassedLent.{PassedLent}
 use Rattle.seconds.specs.declared.LightPassed.{LightPassed}
 
 -- a second call lowers left by one, not below 0 (0 less one is 0)
@@ -28,3 +30,7 @@ unfoldable pub passed : Record → Passed
 passed r =
     cond (not (inRange r)) (record { number = numbered 1; after = r })
     (record { number = numbered 0; after = dimmed r })
+
+-- with the arrays apart, which stay as they were
+abbrev pub lentOf : Passed → PassedLent
+lentOf q = record { number = q .number; small = smallOf (q .after) }

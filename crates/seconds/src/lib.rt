@@ -1,16 +1,24 @@
 // The seconds of the backlight: a call each second lowers those that are left.
 ghost use mathlib.Core.Path.{_≡_};
 ghost use Prim.Native.Nat.{_-_};
-ghost use Rattle.seconds.specs.Seconds.{lowered, lightPassed, passed};
+ghost use Rattle.record.specs.Parts.{together};
+ghost use Rattle.seconds.specs.Seconds.{lowered, lightPassed, passed, lentOf};
 use record::Backlight;
 use record::Number;
 use record::Record;
-use record_ranges::in_range;
+use record::Small;
+use record_ranges::in_range_lent;
 use record_small_ranges::backlight_in_range;
 
 pub struct Passed {
     pub number: Number,
     pub after: Record,
+}
+
+// As Passed, where the arrays were lent.
+pub struct PassedLent {
+    pub number: Number,
+    pub small: Small,
 }
 
 pub struct LightPassed {
@@ -54,24 +62,48 @@ fn light_passed(b: Backlight) -> LightPassed
     }
 }
 
+// A second passes. It changes no array, so they are only lent to be judged.
+pub fn second_lent<'a>(
+    small: Small,
+    text: &'a [u8; 104],
+    picture: &'a [u8; 672],
+    bytes: &'a [u8; 250],
+) -> PassedLent
+    ensures same { λ q. ⌜ q ≡ lentOf (passed (together small (now (text .entry)) (now (picture .entry)) (now (bytes .entry)))) ⌝ }
+{
+    let ok = in_range_lent(small, text, picture, bytes);
+    if !ok {
+        return PassedLent {
+            number: Number::FieldOutOfRange,
+            small: small,
+        };
+    }
+    let next = lower(small.settings.backlight);
+    let mut settings = small.settings;
+    settings.backlight = next;
+    PassedLent {
+        number: Number::Done,
+        small: Small {
+            settings: settings,
+            ..small
+        },
+    }
+}
+
+// The same on a record by value.
 pub fn second(r: Record) -> Passed
     ensures same { λ q. ⌜ q ≡ passed r ⌝ }
 {
-    let ok = in_range(r);
-    if !ok {
-        return Passed {
-            number: Number::FieldOutOfRange,
-            after: r,
-        };
-    }
-    let next = lower(r.settings.backlight);
-    let mut settings = r.settings;
-    settings.backlight = next;
-    let mut after = r;
-    after.settings = settings;
+    let small = record::small_of(r);
+    let q = second_lent(small, &r.text, &r.picture, &r.frame.bytes);
+    let number = q.number;
+    let settings = q.small.settings;
     Passed {
-        number: Number::Done,
-        after: after,
+        number: number,
+        after: Record {
+            settings: settings,
+            ..r
+        },
     }
 }
 

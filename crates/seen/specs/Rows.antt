@@ -9,6 +9,8 @@ use Rattle.lists.specs.Padded.{padded}
 use Rattle.record.specs.Range.{inRange}
 use Rattle.record.specs.declared.Record.{Record}
 use Rattle.record.specs.declared.Settings.{Settings}
+use Rattle.record.specs.declared.Held.{Held}
+use Rattle.record.specs.declared.Frame.{Frame}
 use Rattle.record.specs.declared.Label.{Label}
 use Rattle.record.specs.declared.Number.{Number}
 use Rattle.record.specs.Number.{numbered}
@@ -27,6 +29,11 @@ use Rattle.seen.specs.declared.SmsSeen.{SmsSeen}
 use Rattle.seen.specs.declared.VolumeSeen.{VolumeSeen}
 
 -- Contents --------------------------------------------------------------------------------------------------------
+
+-- so it is with each record that has these settings, text and picture: nothing else of it is seen
+abbrev pub Showing : Settings → List ℕ → List ℕ → (Record → Type 0) → Type 0
+Showing settings text picture P =
+    (held : Held) (frame : Frame) → P (record { settings = settings; text = text; picture = picture; held = held; frame = frame })
 
 -- row n of a field of rows that stand one after another
 abbrev pub rowOf : ℕ → List ℕ → ℕ → List ℕ

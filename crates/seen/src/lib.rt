@@ -1,23 +1,28 @@
 // What a person sees: the owner and the contents of each display row and of each column of it, and the two panels of the icon bar.
-// The definitions are document 01's "What is seen", in specs/ and, for the panels, in the crate `seen_panels`. The cursor is no part of what is told,
-// but the column says how many codes the large line has.
+// The definitions are document 01's "What is seen", in specs/ and, for the panels, in the crate `seen_panels`. The cursor is no part of
+// what is told, but the column says how many codes the large line has. Each question is asked of a record whose arrays are lent, so that
+// asking copies none of them; by value it lends those of its record.
 ghost use mathlib.Core.Path.{_≡_};
 ghost use mathlib.Core.Bool.{true, false};
-ghost use Prim.Native.Nat.{_+_, _≤_, _<_};
+ghost use mathlib.Core.List.{List};
+ghost use Prim.Native.Nat.{ℕ, _+_, _≤_, _<_};
 ghost use lib.ListN.{length, getD};
 ghost use Rattle.lists.specs.Padded.{padded};
 ghost use lib.Seq.{slice};
-ghost use Rattle.record.specs.Range.{inRange, lineOf};
+ghost use Rattle.record.specs.Range.{lineOf};
+ghost use Rattle.record.specs.Parts.{together};
 ghost use Rattle.seen.specs.Places.{isRocker, covers, leavesRocker, covered, underBar, underLabels, ofTextMode, underText, underSmall, underBig, firstTextRow, ownerOn, twoOwners, ownerOfRow, placed};
 ghost use Rattle.seen.specs.Line.{codesIn, smallIn, smallCells, bigCells};
 ghost use Rattle.seen.specs.Columns.{softKeyAt, shownAt, barAt, inverseAt, noPlace, columnSeen};
-ghost use Rattle.seen.specs.Rows.{rowOf, aroundRocker, barOf, labelsOf, noColumns, nothingSeen, contents, rowSeen, smsSeen, volumeSeen};
+ghost use Rattle.seen.specs.Rows.{Showing, rowOf, aroundRocker, barOf, labelsOf, noColumns, nothingSeen, contents, rowSeen, smsSeen, volumeSeen};
 use record::Label;
 use record::Number;
 use record::Record;
 use record::Screen;
 use record::Settings;
-use record_ranges::in_range;
+use record::Small;
+use record::small_of;
+use record_ranges::in_range_lent;
 pub use seen_panels::Phase;
 pub use seen_panels::SmsPanel;
 pub use seen_panels::VolumePanel;
@@ -119,38 +124,65 @@ pub struct VolumeSeen {
     pub panel: VolumePanel,
 }
 
-pub fn sms_seen(r: Record, phase: Phase) -> SmsSeen
-    ensures same { λ q. ⌜ q ≡ smsSeen r phase ⌝ }
+pub fn sms_seen_lent<'a>(
+    small: Small,
+    text: &'a [u8; 104],
+    picture: &'a [u8; 672],
+    bytes: &'a [u8; 250],
+    phase: Phase,
+) -> SmsSeen
+    ensures same { λ q. ⌜ q ≡ smsSeen (together small (now (text .entry)) (now (picture .entry)) (now (bytes .entry))) phase ⌝ }
 {
-    let ok = in_range(r);
+    let ok = in_range_lent(small, text, picture, bytes);
     if !ok {
         return SmsSeen {
             number: Number::FieldOutOfRange,
             panel: SmsPanel::Nothing,
         };
     }
-    let panel = sms_panel(r.settings.icons, phase);
+    let panel = sms_panel(small.settings.icons, phase);
     SmsSeen {
         number: Number::Done,
         panel: panel,
     }
 }
 
-pub fn volume_seen(r: Record) -> VolumeSeen
-    ensures same { λ q. ⌜ q ≡ volumeSeen r ⌝ }
+// The same of a record.
+pub fn sms_seen(r: Record, phase: Phase) -> SmsSeen
+    ensures same { λ q. ⌜ q ≡ smsSeen r phase ⌝ }
 {
-    let ok = in_range(r);
+    let small = small_of(r);
+    sms_seen_lent(small, &r.text, &r.picture, &r.frame.bytes, phase)
+}
+
+pub fn volume_seen_lent<'a>(
+    small: Small,
+    text: &'a [u8; 104],
+    picture: &'a [u8; 672],
+    bytes: &'a [u8; 250],
+) -> VolumeSeen
+    ensures same { λ q. ⌜ q ≡ volumeSeen (together small (now (text .entry)) (now (picture .entry)) (now (bytes .entry))) ⌝ }
+{
+    let ok = in_range_lent(small, text, picture, bytes);
     if !ok {
         return VolumeSeen {
             number: Number::FieldOutOfRange,
             panel: VolumePanel::Nothing,
         };
     }
-    let panel = volume_panel(r.settings.volume);
+    let panel = volume_panel(small.settings.volume);
     VolumeSeen {
         number: Number::Done,
         panel: panel,
     }
+}
+
+// The same of a record.
+pub fn volume_seen(r: Record) -> VolumeSeen
+    ensures same { λ q. ⌜ q ≡ volumeSeen r ⌝ }
+{
+    let small = small_of(r);
+    volume_seen_lent(small, &r.text, &r.picture, &r.frame.bytes)
 }
 
 fn in_rocker(column: u8) -> bool
@@ -450,15 +482,21 @@ fn labels_of(p: Settings) -> Labels
     }
 }
 
-fn contents_of(r: Record, phase: Phase, owner: Owner) -> Row
-    requires { ⌜ (placed owner ≡ true) × (inRange r ≡ true) ⌝ }
-    ensures { λ q. ⌜ q ≡ contents r phase owner ⌝ }
+fn contents_of<'a>(
+    p: Settings,
+    text: &'a [u8; 104],
+    picture: &'a [u8; 672],
+    phase: Phase,
+    owner: Owner,
+) -> Row
+    requires { ⌜ (placed owner ≡ true) × (p .screen .column ≤ 24) ⌝ }
+    ensures { λ q. ⌜ Showing p (now (text .entry)) (now (picture .entry)) (λ r. q ≡ contents r phase owner) ⌝ }
 {
     let empty = nothing_seen(Number::Done);
     match owner {
         Owner::Nothing => empty,
         Owner::IconBar => {
-            let bar = bar_of(r.settings, phase);
+            let bar = bar_of(p, phase);
             Row {
                 owner: Owner::IconBar,
                 bar: bar,
@@ -466,8 +504,8 @@ fn contents_of(r: Record, phase: Phase, owner: Owner) -> Row
             }
         }
         Owner::TextRow(n) => {
-            let codes = text_row(&r.text, n);
-            let inverse = mark_of(r.settings, n);
+            let codes = text_row(text, n);
+            let inverse = mark_of(p, n);
             Row {
                 owner: Owner::TextRow(n),
                 codes: codes,
@@ -476,7 +514,7 @@ fn contents_of(r: Record, phase: Phase, owner: Owner) -> Row
             }
         }
         Owner::PictureRow(n) => {
-            let columns = picture_row(&r.picture, n);
+            let columns = picture_row(picture, n);
             Row {
                 owner: Owner::PictureRow(n),
                 columns: columns,
@@ -484,7 +522,7 @@ fn contents_of(r: Record, phase: Phase, owner: Owner) -> Row
             }
         }
         Owner::SoftKeys => {
-            let labels = labels_of(r.settings);
+            let labels = labels_of(p);
             Row {
                 owner: Owner::SoftKeys,
                 labels: labels,
@@ -492,7 +530,7 @@ fn contents_of(r: Record, phase: Phase, owner: Owner) -> Row
             }
         }
         Owner::SmallLine => {
-            let codes = small_line(&r.text, r.settings.screen.column);
+            let codes = small_line(text, p.screen.column);
             Row {
                 owner: Owner::SmallLine,
                 codes: codes,
@@ -500,7 +538,7 @@ fn contents_of(r: Record, phase: Phase, owner: Owner) -> Row
             }
         }
         Owner::BigLine(half) => {
-            let codes = big_line(&r.text, r.settings.screen.column);
+            let codes = big_line(text, p.screen.column);
             Row {
                 owner: Owner::BigLine(half),
                 codes: codes,
@@ -508,31 +546,46 @@ fn contents_of(r: Record, phase: Phase, owner: Owner) -> Row
             }
         }
         Owner::PictureWithRocker(n) => {
-            let columns = picture_around_rocker(&r.picture, n);
+            let columns = picture_around_rocker(picture, n);
             let mut row = Row {
                 owner: Owner::PictureWithRocker(n),
                 columns: columns,
                 ..empty
             };
-            row.labels.w = r.settings.icons.w;
+            row.labels.w = p.icons.w;
             row
         }
     }
 }
 
 // Row 0 is the top one. A row above 6 is refused, a bad record before it. The icon bar has the SMS panel, which goes by the phase.
-pub fn row_seen(r: Record, row: u8, phase: Phase) -> Row
-    ensures same { λ q. ⌜ q ≡ rowSeen r row phase ⌝ }
+pub fn row_seen_lent<'a>(
+    small: Small,
+    text: &'a [u8; 104],
+    picture: &'a [u8; 672],
+    bytes: &'a [u8; 250],
+    row: u8,
+    phase: Phase,
+) -> Row
+    ensures same { λ q. ⌜ q ≡ rowSeen (together small (now (text .entry)) (now (picture .entry)) (now (bytes .entry))) row phase ⌝ }
 {
-    let ok = in_range(r);
+    let ok = in_range_lent(small, text, picture, bytes);
     if !ok {
         return nothing_seen(Number::FieldOutOfRange);
     }
     if 6 < row {
         return nothing_seen(Number::NotListed);
     }
-    let owner = owner_of_row(r.settings.screen, row);
-    contents_of(r, phase, owner)
+    let owner = owner_of_row(small.settings.screen, row);
+    contents_of(small.settings, text, picture, phase, owner)
+}
+
+// The same of a record.
+pub fn row_seen(r: Record, row: u8, phase: Phase) -> Row
+    ensures same { λ q. ⌜ q ≡ rowSeen r row phase ⌝ }
+{
+    let small = small_of(r);
+    row_seen_lent(small, &r.text, &r.picture, &r.frame.bytes, row, phase)
 }
 
 fn no_place(number: Number) -> ColumnSeen
@@ -590,35 +643,33 @@ fn big_cell(text: &[u8; 104], column: u8, cell: u8) -> u8
     cells[LINE + small + cell as usize]
 }
 
-fn shown_at(r: Record, column: u8, owner: Owner) -> Shown
-    requires { ⌜ (placed owner ≡ true) × (inRange r ≡ true) × (column ≤ 95) ⌝ }
-    ensures { λ s. ⌜ s ≡ shownAt r column owner ⌝ }
+fn shown_at<'a>(
+    p: Settings,
+    text: &'a [u8; 104],
+    picture: &'a [u8; 672],
+    column: u8,
+    owner: Owner,
+) -> Shown
+    requires { ⌜ (placed owner ≡ true) × (p .screen .column ≤ 24) × (column ≤ 95) ⌝ }
+    ensures { λ s. ⌜ Showing p (now (text .entry)) (now (picture .entry)) (λ r. s ≡ shownAt r column owner) ⌝ }
 {
     match owner {
         Owner::Nothing => Shown::Nothing,
         Owner::IconBar => Shown::Bar,
-        Owner::TextRow(n) => Shown::Code(r.text[16 * n as usize + (column / CELL) as usize]),
-        Owner::PictureRow(n) => Shown::Column(r.picture[96 * n as usize + column as usize]),
-        Owner::SoftKeys => soft_key_at(labels_of(r.settings), column),
-        Owner::SmallLine => Shown::Code(small_cell(
-            &r.text,
-            r.settings.screen.column,
-            column / CELL,
-        )),
-        Owner::BigLine(half) => Shown::Code(big_cell(
-            &r.text,
-            r.settings.screen.column,
-            column / BIG_CELL,
-        )),
+        Owner::TextRow(n) => Shown::Code(text[16 * n as usize + (column / CELL) as usize]),
+        Owner::PictureRow(n) => Shown::Column(picture[96 * n as usize + column as usize]),
+        Owner::SoftKeys => soft_key_at(labels_of(p), column),
+        Owner::SmallLine => Shown::Code(small_cell(text, p.screen.column, column / CELL)),
+        Owner::BigLine(half) => Shown::Code(big_cell(text, p.screen.column, column / BIG_CELL)),
         Owner::PictureWithRocker(n) => Shown::Nothing,
     }
 }
 
-fn bar_at_place(r: Record, phase: Phase, owner: Owner) -> Bar
-    ensures { λ bar. ⌜ bar ≡ barAt r phase owner ⌝ }
+fn bar_at_place(p: Settings, phase: Phase, owner: Owner) -> Bar
+    ensures { λ bar. ⌜ ((text picture : List ℕ) → Showing p text picture (λ r. bar ≡ barAt r phase owner)) ⌝ }
 {
     match owner {
-        Owner::IconBar => bar_of(r.settings, phase),
+        Owner::IconBar => bar_of(p, phase),
         _ => Bar {
             f: 0,
             p: 0,
@@ -629,31 +680,39 @@ fn bar_at_place(r: Record, phase: Phase, owner: Owner) -> Bar
     }
 }
 
-fn inverse_at(r: Record, owner: Owner) -> bool
+fn inverse_at(p: Settings, owner: Owner) -> bool
     requires { ⌜ placed owner ≡ true ⌝ }
-    ensures { λ b. ⌜ b ≡ inverseAt r owner ⌝ }
+    ensures { λ b. ⌜ ((text picture : List ℕ) → Showing p text picture (λ r. b ≡ inverseAt r owner)) ⌝ }
 {
     match owner {
-        Owner::TextRow(n) => mark_of(r.settings, n),
+        Owner::TextRow(n) => mark_of(p, n),
         _ => false,
     }
 }
 
 // Row 0 is the top one, column 0 the left one. A row above 6 or a column above 95 is refused, a bad record before it.
-pub fn column_seen(r: Record, row: u8, column: u8, phase: Phase) -> ColumnSeen
-    ensures same { λ q. ⌜ q ≡ columnSeen r row column phase ⌝ }
+pub fn column_seen_lent<'a>(
+    small: Small,
+    text: &'a [u8; 104],
+    picture: &'a [u8; 672],
+    bytes: &'a [u8; 250],
+    row: u8,
+    column: u8,
+    phase: Phase,
+) -> ColumnSeen
+    ensures same { λ q. ⌜ q ≡ columnSeen (together small (now (text .entry)) (now (picture .entry)) (now (bytes .entry))) row column phase ⌝ }
 {
-    let ok = in_range(r);
+    let ok = in_range_lent(small, text, picture, bytes);
     if !ok {
         return no_place(Number::FieldOutOfRange);
     }
     if (6 < row) | (95 < column) {
         return no_place(Number::NotListed);
     }
-    let owner = owner_of(r.settings.screen, row, column);
-    let shown = shown_at(r, column, owner);
-    let bar = bar_at_place(r, phase, owner);
-    let inverse = inverse_at(r, owner);
+    let owner = owner_of(small.settings.screen, row, column);
+    let shown = shown_at(small.settings, text, picture, column, owner);
+    let bar = bar_at_place(small.settings, phase, owner);
+    let inverse = inverse_at(small.settings, owner);
     ColumnSeen {
         number: Number::Done,
         owner: owner,
@@ -661,4 +720,20 @@ pub fn column_seen(r: Record, row: u8, column: u8, phase: Phase) -> ColumnSeen
         bar: bar,
         inverse: inverse,
     }
+}
+
+// The same of a record.
+pub fn column_seen(r: Record, row: u8, column: u8, phase: Phase) -> ColumnSeen
+    ensures same { λ q. ⌜ q ≡ columnSeen r row column phase ⌝ }
+{
+    let small = small_of(r);
+    column_seen_lent(
+        small,
+        &r.text,
+        &r.picture,
+        &r.frame.bytes,
+        row,
+        column,
+        phase,
+    )
 }

@@ -10,6 +10,7 @@ use lib.Seq.{take-append-seam}
 use Rattle.record.specs.Number.{numbered}
 use Rattle.record.specs.declared.Held.{Held}
 use Rattle.record.specs.declared.Record.{Record}
+use Rattle.record.specs.Parts.{together}
 use Rattle.record.specs.Range.{inRange}
 use Rattle.record.specs.Laws.{ranges, in-range}
 use Rattle.turns.specs.Room.{Ran, Stops, run-stops, only-one}
@@ -26,10 +27,10 @@ use Rattle.parting.specs.Exactly.{ExactlyOne, exactly-one}
 use Rattle.parting.specs.Demand.{Demand3, demand3, stands-for-some}
 use Rattle.effect.specs.Core.{Core, coreOf}
 use Rattle.effect.specs.Keeps.{CoreInRange, core-of-record, record-of-core, obey-keeps, store-keeps}
-use Rattle.stream.specs.declared.Small.{Small}
+use Rattle.record.specs.declared.Small.{Small}
 use Rattle.stream.specs.declared.AfterBytes.{AfterBytes}
 use Rattle.stream_places.specs.Places.{emptied}
-use Rattle.stream.specs.Stream.{handset, keptFrame, stateOf, recordOf, together, standing, fedBy, fedOf, writtenOver, answersAfter, Ready, Reads}
+use Rattle.stream.specs.Stream.{handset, keptFrame, stateOf, recordOf, standing, fedBy, fedOf, writtenOver, answersAfter, Ready, Reads}
 use Rattle.stream.specs.Turns.{put-together}
 use Rattle.stream.specs.Frames.{places-of, frame-read, frame-back, frame-kept, frame-same}
 

@@ -13,7 +13,7 @@ use Rattle.record.specs.declared.Held.{Held}
 use Rattle.record.specs.declared.Frame.{Frame as KeptFrame}
 use Rattle.record.specs.declared.Record.{Record}
 use Rattle.record.specs.Range.{lineStart, inRange}
-use Rattle.record_ranges.specs.Parts.{joined}
+use Rattle.record.specs.Parts.{together, smallOf}
 use Rattle.parting.specs.Rules.{Frame, noFrame, openFrame, overlong, limit}
 use Rattle.parting.specs.Meaning.{Answered, Meaning, State, Taken}
 use Rattle.parting.specs.Reading.{step}
@@ -28,7 +28,6 @@ use Rattle.answer.specs.declared.Answer.{Answer}
 use Rattle.effect.specs.Obey.{obeyOrder, answerTo, core}
 use Rattle.effect.specs.Keeps.{CoreInRange}
 use Rattle.stream.specs.declared.Fed.{Fed}
-use Rattle.stream.specs.declared.Small.{Small}
 use Rattle.stream.specs.declared.FedLent.{FedLent}
 use Rattle.stream.specs.declared.AfterBytes.{AfterBytes}
 
@@ -76,12 +75,6 @@ answersAfter r bytes before = cond (inRange r) (writtenOver (run handset (stateO
 
 -- THE STREAM CALL ON LENT ARRAYS is the same call: the record is put together of the small fields and what is lent, and what comes
 -- back is that call's, with text, picture and the frame's bytes in the arrays
-abbrev pub together : Small → List ℕ → List ℕ → List ℕ → Record
-together small text picture bytes = joined (small .settings) text picture (small .held) (small .state) (small .len) bytes
-
-abbrev pub smallOf : Record → Small
-smallOf r = record { settings = r .settings; held = r .held; state = r .frame .state; len = r .frame .len }
-
 abbrev pub lentOf : Fed → FedLent
 lentOf f = record { number = f .number; small = smallOf (f .record); used = f .used; written = f .written }
 

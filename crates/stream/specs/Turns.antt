@@ -16,6 +16,7 @@ use Rattle.record.specs.declared.Settings.{Settings}
 use Rattle.record.specs.declared.Held.{Held}
 use Rattle.record.specs.declared.Frame.{Frame as KeptFrame}
 use Rattle.lists.specs.Both.{both}
+use Rattle.record.specs.Parts.{together}
 use Rattle.record.specs.Range.{large, rowsOf, rowEndOf, lineStart, rowStartOf}
 use Rattle.record.specs.With.{withScreen, withColumn}
 use Rattle.parting.specs.Rules.{Frame, noFrame, openFrame, overlong, limit}
@@ -38,7 +39,7 @@ use Rattle.effect.specs.Questions.{answered-same}
 use Rattle.effect.specs.Keeps.{CoreInRange, obey-keeps, store-keeps}
 use Rattle.stream_places.specs.Places.{emptied, emptied-of}
 use Rattle.stream.specs.declared.AfterBytes.{AfterBytes}
-use Rattle.stream.specs.Stream.{handset, keptFrame, frameIn, InRow, columnAfter, textAfter, collecting, together, standing, recordOf, quietly, saying, answerFrom, Fits, Closes, Reads}
+use Rattle.stream.specs.Stream.{handset, keptFrame, frameIn, InRow, columnAfter, textAfter, collecting, standing, recordOf, quietly, saying, answerFrom, Fits, Closes, Reads}
 
 -- the frame that the locals show
 shows-noFrame : (state len : ℕ) (bs : List ℕ) → state ≡ 0 → frameIn state len bs ≡ noFrame

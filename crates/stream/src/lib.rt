@@ -4,14 +4,15 @@ ghost use mathlib.Core.Path.{_≡_};
 ghost use Prim.Native.Nat.{_≤_, _<_, _+_};
 ghost use lib.ListN.{length, getD};
 ghost use Rattle.lists.specs.Codes.{blank};
+ghost use Rattle.record.specs.Parts.{together};
 ghost use Rattle.stream.specs.Turns.{Stores};
-ghost use Rattle.stream.specs.Stream.{InRow, columnAfter, textAfter, together, lentOf, standing, fedOf, answersAfter, Ready, Closes, Reads};
+ghost use Rattle.stream.specs.Stream.{InRow, columnAfter, textAfter, lentOf, standing, fedOf, answersAfter, Ready, Closes, Reads};
 use answer::Answer;
 use effect::Obeyed;
-use record::Held;
 use record::Number;
 use record::Record;
 use record::Settings;
+use record::Small;
 
 const ESCAPE: u8 = 0x1B;
 
@@ -31,14 +32,6 @@ pub struct Fed {
     pub record: Record,
     pub used: usize,
     pub written: usize,
-}
-
-// All of the record but its three arrays.
-pub struct Small {
-    pub settings: Settings,
-    pub held: Held,
-    pub state: u8,
-    pub len: u8,
 }
 
 // As Fed, where text, picture and the frame's bytes were lent.
@@ -257,7 +250,7 @@ pub fn feed_lent(
 {
     let settings = small.settings;
     let held = small.held;
-    if record_ranges::in_range_lent(settings, text, picture, held, small.state, small.len, frame) {
+    if record_ranges::in_range_lent(small, text, picture, frame) {
         let d = read(
             settings,
             text,

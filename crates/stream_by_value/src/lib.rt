@@ -1,11 +1,12 @@
 // The stream call on a record by value: it lends the record's arrays to `stream` and puts the record together again.
 ghost use mathlib.Core.Path.{_≡_};
 ghost use lib.ListN.{length};
-ghost use Rattle.stream.specs.Stream.{together, fedOf, answersAfter};
+ghost use Rattle.record.specs.Parts.{together};
+ghost use Rattle.stream.specs.Stream.{fedOf, answersAfter};
 use record::Frame;
 use record::Record;
+use record::Small;
 use stream::Fed;
-use stream::Small;
 
 // The record put together of its small fields and its arrays.
 pub fn whole(small: Small, text: [u8; 104], picture: [u8; 672], bytes: [u8; 250]) -> Record

@@ -1,51 +1,23 @@
--- `answer_room::room_needed` keeps its promise. Assumes nothing.
-use Prim.Native.Nat.{ℕ}
-use native.Mathlib.Omega.{arith}
-use mathlib.Core.Path.{_≡_, ap, sym, _∙_}
-use borrow.Author.Needs.{needs}
-use borrow.Author.Tests.{eq-eqb, ne-eqb, not-false}
-use Rattle.record.specs.Number.{numbered}
-use Rattle.parting.specs.Count.{waiting}
-use Rattle.stream.specs.Stream.{stateOf}
-use Rattle.answer_room.specs.declared.RoomNeeded.{RoomNeeded}
+-- The lent count on the record's own parts. Assumes nothing.
+use mathlib.Core.Path.{ap, _∙_}
+use Rattle.record.specs.declared.Small.{Small}
+use Rattle.record.specs.Parts.{together}
 use Rattle.answer_room.specs.Needed.{roomNeeded}
-use Rattle.answer_room.specs.Laws.{waiting-state, escapes-at-most, room-counted}
+use borrow.Author.Needs.{needs}
 use Rattle.answer_room.proofs.room_needed.Statement.{statement}
 use Rattle.answer_room.proofs.room_needed.Tie as tie
 
--- a count that is handed back
-abbrev counting : ℕ → RoomNeeded
-counting n = record { number = numbered 0; bytes = n }
+small-of-requires : tie.Need-small-of-requires
+small-of-requires c κs = search needs
 
-in-range-requires : tie.Need-in-range-requires
-in-range-requires c κs = search needs
+room-needed-lent-requires : tie.Need-room-needed-lent-requires
+room-needed-lent-requires c κs = search needs
 
 returns : tie.Need-returns
-unfolding roomNeeded
-returns c = rw (← c .before .in-range .ensures, c .if1 .taken)
-
-escapes-in-requires : tie.Need-escapes-in-requires
-escapes-in-requires c κs = search needs
-
-returns-2 : tie.Need-returns-2
-returns-2 c =
+returns c =
     let start = c .before .before .before .before .before .before .before .args in
-    let good = sym (c .before .before .before .before .before .in-range .ensures) ∙ not-false _ (c .before .before .before .before .if1 .left) in
-    let none : waiting (stateOf (start .r) .frame) ≡ 0 = waiting-state (start .r) ∙ rw (eq-eqb (start .r .frame .state) 0 (omega (arith, c .if2 .taken))) in
-    ap counting (omega (arith, c .before .before .escapes-in .ensures, none)) ∙ sym (room-counted (start .r) (start .bytes .now) good)
-
-add-t10 : tie.Need-add-t10
-add-t10 c =
-    let start = c .before .before .before .before .before .before .before in
-    record { fits = omega (arith, c .before .before .escapes-in .ensures, escapes-at-most (start .args .bytes .now), start .good .1 .0 .1) }
-
-returns-3 : tie.Need-returns-3
-returns-3 c =
-    let start = c .before .before .before .before .before .before .before .args in
-    let good = sym (c .before .before .before .before .before .in-range .ensures) ∙ not-false _ (c .before .before .before .before .if1 .left) in
-    let one : waiting (stateOf (start .r) .frame) ≡ 1 = waiting-state (start .r) ∙ rw (ne-eqb (start .r .frame .state) 0 (λ e. omega (arith, c .if2 .left))) in
-    ap counting (omega (arith, c .before .before .escapes-in .ensures, one)) ∙ sym (room-counted (start .r) (start .bytes .now) good)
+    let r = start .t1 in
+    c .room-needed-lent .ensures ∙ ap (λ (small : Small). roomNeeded (together small (r .text) (r .picture) (r .frame .bytes)) (start .bytes .now)) (c .before .before .before .before .before .small-of .ensures)
 
 pub room-needed-spec : {M : Type 1} → statement M
-room-needed-spec =
-    tie.close (tie.spec in-range-requires returns escapes-in-requires returns-2 add-t10 returns-3)
+room-needed-spec = tie.close (tie.spec small-of-requires room-needed-lent-requires returns)

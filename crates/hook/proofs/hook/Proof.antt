@@ -1,19 +1,27 @@
--- `hook::hook` keeps its promise. Assumes nothing.
+-- The lent call on the record's own parts, put together again. Assumes nothing.
+use mathlib.Core.Path.{_≡_, ap, _∙_}
+use Rattle.record.specs.declared.Small.{Small}
+use Rattle.record.specs.Parts.{together}
+use Rattle.record.specs.With.{withSettings}
+use Rattle.hook.specs.declared.HookedLent.{HookedLent}
+use Rattle.hook.specs.Hook.{hooked, lentOf}
+use Rattle.hook.specs.Laws.{lent-back}
 use borrow.Author.Needs.{needs}
-use Rattle.hook.specs.Hook.{hooked}
 use Rattle.hook.proofs.hook.Statement.{statement}
 use Rattle.hook.proofs.hook.Tie as tie
 
-in-range-requires : tie.Need-in-range-requires
-in-range-requires c κs = search needs
+small-of-requires : tie.Need-small-of-requires
+small-of-requires c κs = search needs
+
+hook-lent-requires : tie.Need-hook-lent-requires
+hook-lent-requires c κs = search needs
 
 returns : tie.Need-returns
-unfolding hooked
-returns c = rw (← c .before .in-range .ensures, c .if1 .taken)
-
-returns-2 : tie.Need-returns-2
-unfolding hooked
-returns-2 c = rw (← c .before .before .in-range .ensures, c .before .if1 .left)
+returns c =
+    let r = c .before .before .before .before .before .before .before .before .before .before .before .args .t1 in
+    let told : c .before .before .before .before .before .hook-lent .result ≡ lentOf (hooked r (c .before .before .before .before .before .before .before .before .before .before .before .args .on)) =
+    c .before .before .before .before .before .hook-lent .ensures ∙ ap (λ (s : Small). lentOf (hooked (together s (r .text) (r .picture) (r .frame .bytes)) (c .before .before .before .before .before .before .before .before .before .before .before .args .on))) (c .before .before .before .before .before .before .before .before .before .before .small-of .ensures) in
+    ap (λ (q : HookedLent). record { number = q .number; after = withSettings r (q .small .settings) }) told ∙ lent-back r (c .before .before .before .before .before .before .before .before .before .before .before .args .on)
 
 pub hook-spec : {M : Type 1} → statement M
-hook-spec = tie.close (tie.spec in-range-requires returns returns-2)
+hook-spec = tie.close (tie.spec small-of-requires hook-lent-requires returns)

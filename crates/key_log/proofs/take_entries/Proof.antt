@@ -2,24 +2,26 @@
 use Prim.Native.Nat.{_-_}
 use native.Mathlib.Omega.{arith}
 use lib.ListN.{length}
-use Rattle.turns.specs.Loop.{Going, go-start}
-use Rattle.key_entry.specs.Rules.{withKeys, step}
+use mathlib.Core.List.{[]}
+use Rattle.record.specs.Parts.{together}
+use Rattle.turns.specs.Loop.{go-start}
+use Rattle.key_entry.specs.Rules.{step}
 use Rattle.key_log.specs.Log.{entries}
-use Rattle.key_log.specs.Turns.{turns-end, turn-quiet, turn-sends, turns-stop, takes}
+use Rattle.key_log.specs.Turns.{Goes, turns-end, turn-quiet, turn-sends, turns-stop, takes}
 use borrow.Author.Needs.{needs}
 use Rattle.key_log.proofs.take_entries.Statement.{statement}
 use Rattle.key_log.proofs.take_entries.Tie as tie
 
 abbrev Inv-loop : tie.InvT-loop
-Inv-loop r ticks edges codes₀ times held₀ light₀ used₀ written₀ codes held light used written = Going step r (entries ticks edges) codes₀ (withKeys r held light) used written codes
+Inv-loop small ticks edges codes₀ times held₀ light₀ used₀ written₀ codes held light used written = Goes small ticks edges codes₀ held light used written codes
 
 abbrev μ-loop : tie.MeasureT-loop
-μ-loop r ticks edges codes₀ times held₀ light₀ used₀ written₀ codes held light used written = length edges - used
+μ-loop small ticks edges codes₀ times held₀ light₀ used₀ written₀ codes held light used written = length edges - used
 
 loop-holds : tie.Need-loop-holds Inv-loop μ-loop
 loop-holds c =
     let start = c .before .before .before .before .before .before .args in
-    go-start step (start .r) (entries (start .ticks .now) (start .edges .now)) (start .codes .now)
+    λ text picture bytes. go-start step (together (start .small) text picture bytes) (entries (start .ticks .now) (start .edges .now)) (start .codes .now)
 
 mul-take-entry : tie.Need-mul-take-entry Inv-loop μ-loop
 mul-take-entry c = search needs
@@ -44,7 +46,7 @@ loop-again c =
     let start = c .before .before .before .before .before .before .before .before .before .before .before .before .before .before in
     let loop = c .before .before .before .before .before .before .before .loop in
     let next = c .before .before .before .take-entry in
-    turn-quiet (start .args .ticks .now) (start .args .edges .now) (start .pre) (loop .inv) (next .result) (c .before .before .before .before .before .before .loop-test .taken) (next .ensures)
+    λ text picture bytes. turn-quiet (start .args .ticks .now) (start .args .edges .now) (start .pre) (loop .inv text picture bytes) (next .result) (c .before .before .before .before .before .before .loop-test .taken) (next .ensures)
     (omega (arith, c .before .before .if1 .taken))
 
 slice-write-codes : tie.Need-slice-write-codes Inv-loop μ-loop
@@ -54,7 +56,7 @@ add-written : tie.Need-add-written Inv-loop μ-loop
 add-written c =
     let start = c .before .before .before .before .before .before .before .before .before .before .before .before .before .before .before in
     let loop = c .before .before .before .before .before .before .before .before .loop in
-    record { fits = omega (arith, loop .inv .even, start .good .1 .1 .1 .0 .0) }
+    record { fits = omega (arith, loop .inv [] [] [] .even, start .good .1 .1 .1 .0 .0) }
 
 add-used-2 : tie.Need-add-used-2 Inv-loop μ-loop
 add-used-2 c = search needs
@@ -67,14 +69,14 @@ loop-again-2 c =
     let start = c .before .before .before .before .before .before .before .before .before .before .before .before .before .before .before in
     let loop = c .before .before .before .before .before .before .before .before .loop in
     let next = c .before .before .before .before .take-entry in
-    turn-sends (start .args .ticks .now) (start .args .edges .now) (start .pre) (loop .inv) (next .result) (c .before .before .before .before .before .before .before .loop-test .taken) (next .ensures)
+    λ text picture bytes. turn-sends (start .args .ticks .now) (start .args .edges .now) (start .pre) (loop .inv text picture bytes) (next .result) (c .before .before .before .before .before .before .before .loop-test .taken) (next .ensures)
     (λ none. omega (arith, c .before .before .before .if1 .left)) (omega (arith, c .before .before .if2 .taken))
 
 done-requires : tie.Need-done-requires Inv-loop μ-loop
 done-requires c κs = search needs
 
 same-length : tie.Need-same-length Inv-loop μ-loop
-same-length c = c .before .before .before .before .before .before .before .loop .inv .even
+same-length c = c .before .before .before .before .before .before .before .loop .inv [] [] [] .even
 
 returns : tie.Need-returns Inv-loop μ-loop
 returns c =
@@ -82,21 +84,21 @@ returns c =
     let loop = c .before .before .before .before .before .before .before .loop in
     let next = c .before .before .before .take-entry in
     takes (start .args .ticks .now) (start .args .edges .now) _ (c .done .ensures)
-    (turns-stop (start .args .ticks .now) (start .args .edges .now) (start .pre) (loop .inv) (next .result) (c .before .before .before .before .before .before .loop-test .taken) (next .ensures)
+    (λ text picture bytes. turns-stop (start .args .ticks .now) (start .args .edges .now) (start .pre) (loop .inv text picture bytes) (next .result) (c .before .before .before .before .before .before .loop-test .taken) (next .ensures)
     (λ none. omega (arith, c .before .before .if1 .left)) (omega (arith, c .before .if2 .left)))
 
 done-requires-2 : tie.Need-done-requires-2 Inv-loop μ-loop
 done-requires-2 c κs = search needs
 
 same-length-2 : tie.Need-same-length-2 Inv-loop μ-loop
-same-length-2 c = c .before .before .loop .inv .even
+same-length-2 c = c .before .before .loop .inv [] [] [] .even
 
 returns-2 : tie.Need-returns-2 Inv-loop μ-loop
 returns-2 c =
     let start = c .before .before .before .before .before .before .before .before .before in
     let loop = c .before .before .loop in
     takes (start .args .ticks .now) (start .args .edges .now) _ (c .done2 .ensures)
-    (turns-end (start .args .ticks .now) (start .args .edges .now) (start .pre) (loop .inv) (omega (arith, c .before .loop-test .left)))
+    (λ text picture bytes. turns-end (start .args .ticks .now) (start .args .edges .now) (start .pre) (loop .inv text picture bytes) (omega (arith, c .before .loop-test .left)))
 
 pub take-entries-spec : {M : Type 1} → statement M
 take-entries-spec =

@@ -6,7 +6,8 @@ use mathlib.Core.List.{List}
 use denote.Ref.{now}
 use lib.ListN.{length, length-drop, take, drop}
 use lib.Seq.{take-all}
-use Rattle.stream.specs.Stream.{together, lent-back, fedOf, answersAfter}
+use Rattle.record.specs.Parts.{together}
+use Rattle.stream.specs.Stream.{lent-back, fedOf, answersAfter}
 use Rattle.measure.specs.Calls.{inOrder, allButLast, fedInCalls, answersInCalls}
 use Rattle.measure.specs.Laws.{fed-from, call-on, call-end}
 use borrow.Author.Needs.{needs}

@@ -1,28 +1,27 @@
--- `seconds::second` keeps its promise. Assumes nothing.
+-- The lent call on the record's own parts, put together again. Assumes nothing.
+use mathlib.Core.Path.{_≡_, ap, _∙_}
+use Rattle.record.specs.declared.Small.{Small}
+use Rattle.record.specs.Parts.{together}
+use Rattle.record.specs.With.{withSettings}
+use Rattle.seconds.specs.declared.PassedLent.{PassedLent}
+use Rattle.seconds.specs.Seconds.{passed, lentOf}
+use Rattle.seconds.specs.Laws.{lent-back}
 use borrow.Author.Needs.{needs}
-use Rattle.seconds.specs.Seconds.{passed}
 use Rattle.seconds.proofs.second.Statement.{statement}
 use Rattle.seconds.proofs.second.Tie as tie
 
-in-range-requires : tie.Need-in-range-requires
-in-range-requires c κs = search needs
+small-of-requires : tie.Need-small-of-requires
+small-of-requires c κs = search needs
+
+second-lent-requires : tie.Need-second-lent-requires
+second-lent-requires c κs = search needs
 
 returns : tie.Need-returns
-unfolding passed
-returns c = rw (← c .before .in-range .ensures, c .if1 .taken)
-
-lower-requires : tie.Need-lower-requires
-lower-requires c κs = search needs
-
-returns-2 : tie.Need-returns-2
-unfolding passed
-returns-2 c = rw (← c .before .before .before .in-range .ensures, c .before .before .if1 .left, c .before .lower .ensures)
+returns c =
+    let r = c .before .before .before .before .before .before .before .before .before .before .before .args .t1 in
+    let told : c .before .before .before .before .before .second-lent .result ≡ lentOf (passed r) =
+    c .before .before .before .before .before .second-lent .ensures ∙ ap (λ (s : Small). lentOf (passed (together s (r .text) (r .picture) (r .frame .bytes)))) (c .before .before .before .before .before .before .before .before .before .before .small-of .ensures) in
+    ap (λ (q : PassedLent). record { number = q .number; after = withSettings r (q .small .settings) }) told ∙ lent-back r
 
 pub second-spec : {M : Type 1} → statement M
-second-spec =
-    tie.close
-    (tie.spec
-    in-range-requires
-    returns
-    lower-requires
-    returns-2)
+second-spec = tie.close (tie.spec small-of-requires second-lent-requires returns)

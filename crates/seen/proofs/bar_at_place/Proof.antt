@@ -37,12 +37,12 @@ bar-of-requires : tie.Need-bar-of-requires
 bar-of-requires c κs = search needs
 
 returns : tie.Need-returns
-returns c = rw (c .before .enum-told .given .1, c .bar-of .ensures)
+returns c text picture held frame = rw (c .before .enum-told .given .1, c .bar-of .ensures)
 
 returns-2 : tie.Need-returns-2
-returns-2 c =
+returns-2 c text picture held frame =
     let told = c .before .args in
-    no-bar (told .r) (told .phase) (told .owner) (c .match .keys2)
+    no-bar _ (told .phase) (told .owner) (c .match .keys2)
 
 pub bar-at-place-spec : {M : Type 1} → statement M
 bar-at-place-spec = tie.close (tie.spec enum-told bar-of-requires returns returns-2)

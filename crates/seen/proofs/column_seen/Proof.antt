@@ -1,79 +1,16 @@
 -- `seen::column_seen` keeps its promise. Assumes nothing.
-use Prim.Native.Nat.{ℕ, _≤_}
-use mathlib.Core.Path.{_≡_, sym, _∙_}
-use mathlib.Core.Bool.{false, true≢false, _||_}
-use lib.Dec.{ltb}
-use borrow.Author.Tests.{ltb-false, not-false}
 use borrow.Author.Needs.{needs}
-use Rattle.lists.specs.Tests.{by-test}
-use Rattle.seen.specs.Placed.{owner-placed}
-use Rattle.seen.specs.Columns.{columnSeen}
 use Rattle.seen.proofs.column_seen.Statement.{statement}
 use Rattle.seen.proofs.column_seen.Tie as tie
 
--- A place that is not refused is one of the display's.
-within : (row column : ℕ) → (ltb 6 row || ltb 95 column) ≡ false → (row ≤ 6) × (column ≤ 95)
-within row column e =
-    by-test (ltb 6 row) (λ above. absurd (true≢false (rw above at e))) (λ h. (ltb-false 6 row h, ltb-false 95 column (rw h at e)))
+small-of-requires : tie.Need-small-of-requires
+small-of-requires c κs = search needs
 
-in-range-requires : tie.Need-in-range-requires
-in-range-requires c κs = search needs
-
-no-place-requires : tie.Need-no-place-requires
-no-place-requires c κs = search needs
+column-seen-lent-requires : tie.Need-column-seen-lent-requires
+column-seen-lent-requires c κs = search needs
 
 returns : tie.Need-returns
-unfolding columnSeen
-returns c = rw (← c .before .before .in-range .ensures, c .before .if1 .taken, c .no-place .ensures)
-
-no-place-requires-2 : tie.Need-no-place-requires-2
-no-place-requires-2 c κs = search needs
-
-returns-2 : tie.Need-returns-2
-unfolding columnSeen
-returns-2 c = rw (← c .before .before .before .in-range .ensures, c .before .before .if1 .left, c .before .if2 .taken, c .no-place2 .ensures)
-
-owner-of-requires : tie.Need-owner-of-requires
-owner-of-requires c κs = search needs
-
-shown-at-requires : tie.Need-shown-at-requires
-shown-at-requires c κs =
-    let told = c .before .before .before .before .args in
-    let here : (told .row ≤ 6) × (told .column ≤ 95) = within (told .row) (told .column) (c .before .if2 .left) in
-    (rw (c .owner-of .ensures) (owner-placed (told .r .settings .screen) (told .row) (told .column) (here .0)), sym (c .before .before .before .in-range .ensures) ∙ not-false (c .before .before .before .in-range .result) (c .before .before .if1 .left), here .1)
-
-bar-at-place-requires : tie.Need-bar-at-place-requires
-bar-at-place-requires c κs = search needs
-
-inverse-at-requires : tie.Need-inverse-at-requires
-inverse-at-requires c κs =
-    let told = c .before .before .before .before .before .before .args in
-    rw (c .before .before .owner-of .ensures) (owner-placed (told .r .settings .screen) (told .row) (told .column) (within (told .row) (told .column) (c .before .before .before .if2 .left) .0))
-
-returns-3 : tie.Need-returns-3
-unfolding columnSeen
-returns-3 c =
-    rw (
-      ← c .before .before .before .before .before .before .in-range .ensures,
-      c .before .before .before .before .before .if1 .left,
-      c .before .before .before .before .if2 .left,
-      c .inverse-at .ensures,
-      c .before .bar-at-place .ensures,
-      c .before .before .shown-at .ensures,
-      c .before .before .before .owner-of .ensures,
-    )
+returns c = rw (c .column-seen-lent .ensures, c .before .before .before .before .before .small-of .ensures)
 
 pub column-seen-spec : {M : Type 1} → statement M
-column-seen-spec =
-    tie.close
-    (tie.spec
-    in-range-requires
-    no-place-requires
-    returns
-    no-place-requires-2
-    returns-2
-    owner-of-requires
-    shown-at-requires
-    bar-at-place-requires
-    inverse-at-requires
-    returns-3)
+column-seen-spec = tie.close (tie.spec small-of-requires column-seen-lent-requires returns)

@@ -37,12 +37,12 @@ mark-of-requires : tie.Need-mark-of-requires
 mark-of-requires c κs = ltb-true _ _ (rw (c .before .owner .given .1) at (c .before .before .before .pre))
 
 returns : tie.Need-returns
-returns c = rw (c .before .before .owner .given .1, c .mark-of .ensures)
+returns c text picture held frame = rw (c .before .before .owner .given .1, c .mark-of .ensures)
 
 returns-2 : tie.Need-returns-2
-returns-2 c =
+returns-2 c text picture held frame =
     let told = c .before .args in
-    no-mark (told .r) (told .owner) (c .match .keys2)
+    no-mark _ (told .owner) (c .match .keys2)
 
 pub inverse-at-spec : {M : Type 1} → statement M
 inverse-at-spec = tie.close (tie.spec enum-known-owner mark-of-requires returns returns-2)

@@ -1,55 +1,16 @@
 -- `seen::row_seen` keeps its promise. Assumes nothing.
-use native.Mathlib.Omega.{arith}
-use mathlib.Core.Path.{sym, _∙_}
-use borrow.Author.Tests.{lt-ltb, le-ltb, not-false}
 use borrow.Author.Needs.{needs}
-use Rattle.seen.specs.Placed.{row-owner-placed}
-use Rattle.seen.specs.Rows.{rowSeen}
 use Rattle.seen.proofs.row_seen.Statement.{statement}
 use Rattle.seen.proofs.row_seen.Tie as tie
 
-in-range-requires : tie.Need-in-range-requires
-in-range-requires c κs = search needs
+small-of-requires : tie.Need-small-of-requires
+small-of-requires c κs = search needs
 
-nothing-seen-requires : tie.Need-nothing-seen-requires
-nothing-seen-requires c κs = search needs
+row-seen-lent-requires : tie.Need-row-seen-lent-requires
+row-seen-lent-requires c κs = search needs
 
 returns : tie.Need-returns
-unfolding rowSeen
-returns c = rw (← c .before .before .in-range .ensures, c .before .if1 .taken, c .nothing-seen .ensures)
-
-nothing-seen-requires-2 : tie.Need-nothing-seen-requires-2
-nothing-seen-requires-2 c κs = search needs
-
-returns-2 : tie.Need-returns-2
-unfolding rowSeen
-returns-2 c =
-    let row = c .before .before .before .before .args .row in
-    rw (← c .before .before .before .in-range .ensures, c .before .before .if1 .left, lt-ltb 6 row (omega (arith, c .before .if2 .taken)), c .nothing-seen2 .ensures)
-
-owner-of-row-requires : tie.Need-owner-of-row-requires
-owner-of-row-requires c κs = search needs
-
-contents-of-requires : tie.Need-contents-of-requires
-contents-of-requires c κs =
-    let told = c .before .before .before .before .args in
-    (rw (c .owner-of-row .ensures) (row-owner-placed (told .r .settings .screen) (told .row) (omega (arith, c .before .if2 .left))), sym (c .before .before .before .in-range .ensures) ∙ not-false (c .before .before .before .in-range .result) (c .before .before .if1 .left))
-
-returns-3 : tie.Need-returns-3
-unfolding rowSeen
-returns-3 c =
-    let row = c .before .before .before .before .before .args .row in
-    rw (← c .before .before .before .before .in-range .ensures, c .before .before .before .if1 .left, le-ltb 6 row (omega (arith, c .before .before .if2 .left)), c .contents-of .ensures, c .before .owner-of-row .ensures)
+returns c = rw (c .row-seen-lent .ensures, c .before .before .before .before .before .small-of .ensures)
 
 pub row-seen-spec : {M : Type 1} → statement M
-row-seen-spec =
-    tie.close
-    (tie.spec
-    in-range-requires
-    nothing-seen-requires
-    returns
-    nothing-seen-requires-2
-    returns-2
-    owner-of-row-requires
-    contents-of-requires
-    returns-3)
+row-seen-spec = tie.close (tie.spec small-of-requires row-seen-lent-requires returns)

@@ -1,28 +1,16 @@
 -- `seen::sms_seen` keeps its promise. Assumes nothing.
 use borrow.Author.Needs.{needs}
-use Rattle.seen.specs.Rows.{smsSeen}
 use Rattle.seen.proofs.sms_seen.Statement.{statement}
 use Rattle.seen.proofs.sms_seen.Tie as tie
 
-in-range-requires : tie.Need-in-range-requires
-in-range-requires c κs = search needs
+small-of-requires : tie.Need-small-of-requires
+small-of-requires c κs = search needs
+
+sms-seen-lent-requires : tie.Need-sms-seen-lent-requires
+sms-seen-lent-requires c κs = search needs
 
 returns : tie.Need-returns
-unfolding smsSeen
-returns c = rw (← c .before .in-range .ensures, c .if1 .taken)
-
-sms-panel-requires : tie.Need-sms-panel-requires
-sms-panel-requires c κs = search needs
-
-returns-2 : tie.Need-returns-2
-unfolding smsSeen
-returns-2 c = rw (← c .before .before .in-range .ensures, c .before .if1 .left, c .sms-panel .ensures)
+returns c = rw (c .sms-seen-lent .ensures, c .before .before .before .before .before .small-of .ensures)
 
 pub sms-seen-spec : {M : Type 1} → statement M
-sms-seen-spec =
-    tie.close
-    (tie.spec
-    in-range-requires
-    returns
-    sms-panel-requires
-    returns-2)
+sms-seen-spec = tie.close (tie.spec small-of-requires sms-seen-lent-requires returns)

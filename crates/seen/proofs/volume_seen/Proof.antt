@@ -1,28 +1,16 @@
 -- `seen::volume_seen` keeps its promise. Assumes nothing.
 use borrow.Author.Needs.{needs}
-use Rattle.seen.specs.Rows.{volumeSeen}
 use Rattle.seen.proofs.volume_seen.Statement.{statement}
 use Rattle.seen.proofs.volume_seen.Tie as tie
 
-in-range-requires : tie.Need-in-range-requires
-in-range-requires c κs = search needs
+small-of-requires : tie.Need-small-of-requires
+small-of-requires c κs = search needs
+
+volume-seen-lent-requires : tie.Need-volume-seen-lent-requires
+volume-seen-lent-requires c κs = search needs
 
 returns : tie.Need-returns
-unfolding volumeSeen
-returns c = rw (← c .before .in-range .ensures, c .if1 .taken)
-
-volume-panel-requires : tie.Need-volume-panel-requires
-volume-panel-requires c κs = search needs
-
-returns-2 : tie.Need-returns-2
-unfolding volumeSeen
-returns-2 c = rw (← c .before .before .in-range .ensures, c .before .if1 .left, c .volume-panel .ensures)
+returns c = rw (c .volume-seen-lent .ensures, c .before .before .before .before .before .small-of .ensures)
 
 pub volume-seen-spec : {M : Type 1} → statement M
-volume-seen-spec =
-    tie.close
-    (tie.spec
-    in-range-requires
-    returns
-    volume-panel-requires
-    returns-2)
+volume-seen-spec = tie.close (tie.spec small-of-requires volume-seen-lent-requires returns)

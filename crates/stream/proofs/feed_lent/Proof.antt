@@ -2,9 +2,10 @@
 use mathlib.Core.Path.{_≡_, refl, sym, ap, _∙_}
 use mathlib.Core.Bool.{false}
 use denote.Ref.{now}
+use Rattle.record.specs.Parts.{together}
 use Rattle.record.specs.Range.{inRange}
 use Rattle.stream.specs.declared.Fed.{Fed}
-use Rattle.stream.specs.Stream.{together, lentOf, fedOf, answersAfter}
+use Rattle.stream.specs.Stream.{lentOf, fedOf, answersAfter}
 use Rattle.stream.specs.Demand.{ready, feeds, answers-fed}
 use native.Mathlib.Omega.{arith}
 use borrow.Author.Needs.{needs}
