@@ -45,6 +45,8 @@ use Rattle.writer_ranges.specs.Fitting.{isLabel, isRow}
 use Rattle.choice.specs.Choice.{choiceOf}
 use Rattle.measure.specs.Choices.{brokenFirst}
 use Rattle.writer.specs.Writing.{bodyOf, labelBody, rowBody, frameOf, writtenOf, roomAfter}
+use Rattle.handset.specs.Numbers.{phaseOf, sideOf}
+use Rattle.handset.specs.Calls.{fedIn, loggedIn, passedIn, hookedIn, countedIn, smsIn, volumeIn, rowIn, columnIn, commandWritten, commandRoom, writtenIn, judgedIn, choiceIn}
 use Rattle.record.proofs.small_of as SmallOf
 use Rattle.record.proofs.small_of.Reads as SmallOfReads
 use Rattle.record.proofs.paper_number as PaperNumber
@@ -187,6 +189,40 @@ use Rattle.writer.proofs.write_label as WriteLabel
 use Rattle.writer.proofs.write_label.Reads as WriteLabelReads
 use Rattle.writer.proofs.write_picture_row as WritePictureRow
 use Rattle.writer.proofs.write_picture_row.Reads as WritePictureRowReads
+use Rattle.handset.proofs.handset_power_on as HandsetPowerOn
+use Rattle.handset.proofs.handset_power_on.Reads as HandsetPowerOnReads
+use Rattle.handset.proofs.handset_power_on_former as HandsetPowerOnFormer
+use Rattle.handset.proofs.handset_power_on_former.Reads as HandsetPowerOnFormerReads
+use Rattle.handset.proofs.handset_in_range as HandsetInRange
+use Rattle.handset.proofs.handset_in_range.Reads as HandsetInRangeReads
+use Rattle.handset.proofs.handset_feed as HandsetFeed
+use Rattle.handset.proofs.handset_feed.Reads as HandsetFeedReads
+use Rattle.handset.proofs.handset_take_log as HandsetTakeLog
+use Rattle.handset.proofs.handset_take_log.Reads as HandsetTakeLogReads
+use Rattle.handset.proofs.handset_second as HandsetSecond
+use Rattle.handset.proofs.handset_second.Reads as HandsetSecondReads
+use Rattle.handset.proofs.handset_hook as HandsetHook
+use Rattle.handset.proofs.handset_hook.Reads as HandsetHookReads
+use Rattle.handset.proofs.handset_room_needed as HandsetRoomNeeded
+use Rattle.handset.proofs.handset_room_needed.Reads as HandsetRoomNeededReads
+use Rattle.handset.proofs.handset_sms_seen as HandsetSmsSeen
+use Rattle.handset.proofs.handset_sms_seen.Reads as HandsetSmsSeenReads
+use Rattle.handset.proofs.handset_volume_seen as HandsetVolumeSeen
+use Rattle.handset.proofs.handset_volume_seen.Reads as HandsetVolumeSeenReads
+use Rattle.handset.proofs.handset_row_seen as HandsetRowSeen
+use Rattle.handset.proofs.handset_row_seen.Reads as HandsetRowSeenReads
+use Rattle.handset.proofs.handset_column_seen as HandsetColumnSeen
+use Rattle.handset.proofs.handset_column_seen.Reads as HandsetColumnSeenReads
+use Rattle.handset.proofs.handset_write_command as HandsetWriteCommand
+use Rattle.handset.proofs.handset_write_command.Reads as HandsetWriteCommandReads
+use Rattle.handset.proofs.handset_write_label as HandsetWriteLabel
+use Rattle.handset.proofs.handset_write_label.Reads as HandsetWriteLabelReads
+use Rattle.handset.proofs.handset_write_picture_row as HandsetWritePictureRow
+use Rattle.handset.proofs.handset_write_picture_row.Reads as HandsetWritePictureRowReads
+use Rattle.handset.proofs.handset_judge as HandsetJudge
+use Rattle.handset.proofs.handset_judge.Reads as HandsetJudgeReads
+use Rattle.handset.proofs.handset_check_choice as HandsetCheckChoice
+use Rattle.handset.proofs.handset_check_choice.Reads as HandsetCheckChoiceReads
 
 -- a contract's ensures clause, of the arguments, the result and the arguments at exit, in a model
 abbrev Clause : Ended → Type 2
@@ -206,6 +242,13 @@ abbrev SaysBoth : (t : Ended) → Clause t → Claim t → Claim t → Type 2
 SaysBoth t ensures first second =
     (κs : Lfts (t .signature .lifetimes)) (a : ArgsD (t .signature) κs) (q : ResD (t .signature) κs) (e : AtExit t κs) (w : World)
     → ensures κs a tt q e w ≡ sep (w .𝓤) (fact (w .𝓤) (first κs a q e)) (fact (w .𝓤) (second κs a q e))
+
+abbrev SaysFour : (t : Ended) → Clause t → Claim t → Claim t → Claim t → Claim t → Type 2
+SaysFour t ensures first second third fourth =
+    (κs : Lfts (t .signature .lifetimes)) (a : ArgsD (t .signature) κs) (q : ResD (t .signature) κs) (e : AtExit t κs) (w : World)
+    → ensures κs a tt q e w
+    ≡ sep (w .𝓤) (fact (w .𝓤) (first κs a q e))
+    (sep (w .𝓤) (fact (w .𝓤) (second κs a q e)) (sep (w .𝓤) (fact (w .𝓤) (third κs a q e)) (fact (w .𝓤) (fourth κs a q e))))
 
 abbrev SaysFive : (t : Ended) → Clause t → Claim t → Claim t → Claim t → Claim t → Claim t → Type 2
 SaysFive t ensures first second third fourth fifth =
@@ -509,6 +552,114 @@ pub write-picture-row-says : SaysBoth WritePictureRow.ended WritePictureRowReads
     (λ κs a q e. q ≡ writtenOf (isRow (a .0) (now (a .1 .0))) (frameOf (rowBody (a .0) (now (a .1 .0)))) (now (a .1 .1 .0)))
     (λ κs a q e. now (e .1 .1 .0) ≡ roomAfter (isRow (a .0) (now (a .1 .0))) (frameOf (rowBody (a .0) (now (a .1 .0)))) (now (a .1 .1 .0)))
 write-picture-row-says κs a q e w = refl
+
+-- handset::handset_power_on
+pub handset-power-on-says : SaysFour HandsetPowerOn.ended HandsetPowerOnReads.ensures
+    (λ κs a q e. q ≡ smallOf powerOn)
+    (λ κs a q e. now (e .0) ≡ powerOn .text)
+    (λ κs a q e. now (e .1 .0) ≡ powerOn .picture)
+    (λ κs a q e. now (e .1 .1 .0) ≡ powerOn .frame .bytes)
+handset-power-on-says κs a q e w = refl
+
+-- handset::handset_power_on_former
+pub handset-power-on-former-says : SaysFour HandsetPowerOnFormer.ended HandsetPowerOnFormerReads.ensures
+    (λ κs a q e. q ≡ smallOf formerPowerOn)
+    (λ κs a q e. now (e .0) ≡ formerPowerOn .text)
+    (λ κs a q e. now (e .1 .0) ≡ formerPowerOn .picture)
+    (λ κs a q e. now (e .1 .1 .0) ≡ formerPowerOn .frame .bytes)
+handset-power-on-former-says κs a q e w = refl
+
+-- handset::handset_in_range
+pub handset-in-range-says : Says HandsetInRange.ended HandsetInRangeReads.ensures
+    (λ κs a q e. q ≡ inRange (together (a .0) (now (a .1 .0)) (now (a .1 .1 .0)) (now (a .1 .1 .1 .0))))
+handset-in-range-says κs a q e w = refl
+
+-- handset::handset_feed: the stream call, of the record that the small fields and the lent arrays make
+abbrev fedFrom : (κs : Lfts (HandsetFeed.ended .signature .lifetimes)) → ArgsD (HandsetFeed.ended .signature) κs → Record
+fedFrom κs a = together (a .0) (now (a .1 .0)) (now (a .1 .1 .0)) (now (a .1 .1 .1 .0))
+
+abbrev fedTo : (κs : Lfts (HandsetFeed.ended .signature .lifetimes)) → ArgsD (HandsetFeed.ended .signature) κs → Fed
+fedTo κs a = fedOf (fedFrom κs a) (now (a .1 .1 .1 .1 .0)) (length (now (a .1 .1 .1 .1 .1 .0)))
+
+pub handset-feed-says : SaysFive HandsetFeed.ended HandsetFeedReads.ensures
+    (λ κs a q e. q ≡ fedIn (fedTo κs a))
+    (λ κs a q e. now (e .1 .0) ≡ fedTo κs a .record .text)
+    (λ κs a q e. now (e .1 .1 .0) ≡ fedTo κs a .record .picture)
+    (λ κs a q e. now (e .1 .1 .1 .0) ≡ fedTo κs a .record .frame .bytes)
+    (λ κs a q e. now (e .1 .1 .1 .1 .1 .0) ≡ answersAfter (fedFrom κs a) (now (a .1 .1 .1 .1 .0)) (now (a .1 .1 .1 .1 .1 .0)))
+handset-feed-says κs a q e w = refl
+
+-- handset::handset_take_log: the key log, of the same record
+abbrev loggedTo : (κs : Lfts (HandsetTakeLog.ended .signature .lifetimes)) → ArgsD (HandsetTakeLog.ended .signature) κs → Outcome
+loggedTo κs a = outcome (together (a .0) (now (a .1 .0)) (now (a .1 .1 .0)) (now (a .1 .1 .1 .0))) (now (a .1 .1 .1 .1 .0)) (now (a .1 .1 .1 .1 .1 .0)) (length (now (a .1 .1 .1 .1 .1 .1 .0)))
+
+pub handset-take-log-says : SaysBoth HandsetTakeLog.ended HandsetTakeLogReads.ensures
+    (λ κs a q e. q ≡ loggedIn (handedBack (loggedTo κs a)))
+    (λ κs a q e. now (e .1 .1 .1 .1 .1 .1 .0) ≡ bufferAfter (loggedTo κs a) (now (a .1 .1 .1 .1 .1 .1 .0)))
+handset-take-log-says κs a q e w = refl
+
+-- handset::handset_second
+pub handset-second-says : Says HandsetSecond.ended HandsetSecondReads.ensures
+    (λ κs a q e. q ≡ passedIn (passed (together (a .0) (now (a .1 .0)) (now (a .1 .1 .0)) (now (a .1 .1 .1 .0)))))
+handset-second-says κs a q e w = refl
+
+-- handset::handset_hook
+pub handset-hook-says : Says HandsetHook.ended HandsetHookReads.ensures
+    (λ κs a q e. q ≡ hookedIn (hooked (together (a .0) (now (a .1 .0)) (now (a .1 .1 .0)) (now (a .1 .1 .1 .0))) (a .1 .1 .1 .1 .0)))
+handset-hook-says κs a q e w = refl
+
+-- handset::handset_room_needed
+pub handset-room-needed-says : Says HandsetRoomNeeded.ended HandsetRoomNeededReads.ensures
+    (λ κs a q e. q ≡ countedIn (roomNeeded (together (a .0) (now (a .1 .0)) (now (a .1 .1 .0)) (now (a .1 .1 .1 .0))) (now (a .1 .1 .1 .1 .0))))
+handset-room-needed-says κs a q e w = refl
+
+-- handset::handset_sms_seen
+pub handset-sms-seen-says : Says HandsetSmsSeen.ended HandsetSmsSeenReads.ensures
+    (λ κs a q e. q ≡ smsIn (smsSeen (together (a .0) (now (a .1 .0)) (now (a .1 .1 .0)) (now (a .1 .1 .1 .0))) (phaseOf (a .1 .1 .1 .1 .0))))
+handset-sms-seen-says κs a q e w = refl
+
+-- handset::handset_volume_seen
+pub handset-volume-seen-says : Says HandsetVolumeSeen.ended HandsetVolumeSeenReads.ensures
+    (λ κs a q e. q ≡ volumeIn (volumeSeen (together (a .0) (now (a .1 .0)) (now (a .1 .1 .0)) (now (a .1 .1 .1 .0)))))
+handset-volume-seen-says κs a q e w = refl
+
+-- handset::handset_row_seen
+pub handset-row-seen-says : Says HandsetRowSeen.ended HandsetRowSeenReads.ensures
+    (λ κs a q e. q ≡ rowIn (rowSeen (together (a .0) (now (a .1 .0)) (now (a .1 .1 .0)) (now (a .1 .1 .1 .0))) (a .1 .1 .1 .1 .0) (phaseOf (a .1 .1 .1 .1 .1 .0))))
+handset-row-seen-says κs a q e w = refl
+
+-- handset::handset_column_seen
+pub handset-column-seen-says : Says HandsetColumnSeen.ended HandsetColumnSeenReads.ensures
+    (λ κs a q e. q ≡ columnIn (columnSeen (together (a .0) (now (a .1 .0)) (now (a .1 .1 .0)) (now (a .1 .1 .1 .0))) (a .1 .1 .1 .1 .0) (a .1 .1 .1 .1 .1 .0) (phaseOf (a .1 .1 .1 .1 .1 .1 .0))))
+handset-column-seen-says κs a q e w = refl
+
+-- handset::handset_write_command
+pub handset-write-command-says : SaysBoth HandsetWriteCommand.ended HandsetWriteCommandReads.ensures
+    (λ κs a q e. q ≡ commandWritten (a .0) (a .1 .0) (a .1 .1 .0) (now (a .1 .1 .1 .0)))
+    (λ κs a q e. now (e .1 .1 .1 .0) ≡ commandRoom (a .0) (a .1 .0) (a .1 .1 .0) (now (a .1 .1 .1 .0)))
+handset-write-command-says κs a q e w = refl
+
+-- handset::handset_write_label
+pub handset-write-label-says : SaysBoth HandsetWriteLabel.ended HandsetWriteLabelReads.ensures
+    (λ κs a q e. q ≡ writtenIn (writtenOf (isLabel (now (a .1 .0))) (frameOf (labelBody (sideOf (a .0)) (now (a .1 .0)))) (now (a .1 .1 .0))))
+    (λ κs a q e. now (e .1 .1 .0) ≡ roomAfter (isLabel (now (a .1 .0))) (frameOf (labelBody (sideOf (a .0)) (now (a .1 .0)))) (now (a .1 .1 .0)))
+handset-write-label-says κs a q e w = refl
+
+-- handset::handset_write_picture_row
+pub handset-write-picture-row-says : SaysBoth HandsetWritePictureRow.ended HandsetWritePictureRowReads.ensures
+    (λ κs a q e. q ≡ writtenIn (writtenOf (isRow (a .0) (now (a .1 .0))) (frameOf (rowBody (a .0) (now (a .1 .0)))) (now (a .1 .1 .0))))
+    (λ κs a q e. now (e .1 .1 .0) ≡ roomAfter (isRow (a .0) (now (a .1 .0))) (frameOf (rowBody (a .0) (now (a .1 .0)))) (now (a .1 .1 .0)))
+handset-write-picture-row-says κs a q e w = refl
+
+-- handset::handset_judge
+pub handset-judge-says : Says HandsetJudge.ended HandsetJudgeReads.ensures
+    (λ κs a q e. q ≡ judgedIn (verdictOf (a .0) (now (a .1 .0))))
+handset-judge-says κs a q e w = refl
+
+-- handset::handset_check_choice
+pub handset-check-choice-says : Says HandsetCheckChoice.ended HandsetCheckChoiceReads.ensures
+    (λ κs a q e. q ≡ choiceIn (choiceOf (now (a .0))))
+handset-check-choice-says κs a q e w = refl
 
 -- measure::measure_one_call
 pub one-call-says : SaysBoth OneCall.ended OneCallReads.ensures

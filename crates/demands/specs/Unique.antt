@@ -148,6 +148,40 @@ use Rattle.writer.proofs.write_label as WriteLabel
 use Rattle.writer.proofs.write_label.Reads as WriteLabelReads
 use Rattle.writer.proofs.write_picture_row as WritePictureRow
 use Rattle.writer.proofs.write_picture_row.Reads as WritePictureRowReads
+use Rattle.handset.proofs.handset_power_on as HandsetPowerOn
+use Rattle.handset.proofs.handset_power_on.Reads as HandsetPowerOnReads
+use Rattle.handset.proofs.handset_power_on_former as HandsetPowerOnFormer
+use Rattle.handset.proofs.handset_power_on_former.Reads as HandsetPowerOnFormerReads
+use Rattle.handset.proofs.handset_in_range as HandsetInRange
+use Rattle.handset.proofs.handset_in_range.Reads as HandsetInRangeReads
+use Rattle.handset.proofs.handset_feed as HandsetFeed
+use Rattle.handset.proofs.handset_feed.Reads as HandsetFeedReads
+use Rattle.handset.proofs.handset_take_log as HandsetTakeLog
+use Rattle.handset.proofs.handset_take_log.Reads as HandsetTakeLogReads
+use Rattle.handset.proofs.handset_second as HandsetSecond
+use Rattle.handset.proofs.handset_second.Reads as HandsetSecondReads
+use Rattle.handset.proofs.handset_hook as HandsetHook
+use Rattle.handset.proofs.handset_hook.Reads as HandsetHookReads
+use Rattle.handset.proofs.handset_room_needed as HandsetRoomNeeded
+use Rattle.handset.proofs.handset_room_needed.Reads as HandsetRoomNeededReads
+use Rattle.handset.proofs.handset_sms_seen as HandsetSmsSeen
+use Rattle.handset.proofs.handset_sms_seen.Reads as HandsetSmsSeenReads
+use Rattle.handset.proofs.handset_volume_seen as HandsetVolumeSeen
+use Rattle.handset.proofs.handset_volume_seen.Reads as HandsetVolumeSeenReads
+use Rattle.handset.proofs.handset_row_seen as HandsetRowSeen
+use Rattle.handset.proofs.handset_row_seen.Reads as HandsetRowSeenReads
+use Rattle.handset.proofs.handset_column_seen as HandsetColumnSeen
+use Rattle.handset.proofs.handset_column_seen.Reads as HandsetColumnSeenReads
+use Rattle.handset.proofs.handset_write_command as HandsetWriteCommand
+use Rattle.handset.proofs.handset_write_command.Reads as HandsetWriteCommandReads
+use Rattle.handset.proofs.handset_write_label as HandsetWriteLabel
+use Rattle.handset.proofs.handset_write_label.Reads as HandsetWriteLabelReads
+use Rattle.handset.proofs.handset_write_picture_row as HandsetWritePictureRow
+use Rattle.handset.proofs.handset_write_picture_row.Reads as HandsetWritePictureRowReads
+use Rattle.handset.proofs.handset_judge as HandsetJudge
+use Rattle.handset.proofs.handset_judge.Reads as HandsetJudgeReads
+use Rattle.handset.proofs.handset_check_choice as HandsetCheckChoice
+use Rattle.handset.proofs.handset_check_choice.Reads as HandsetCheckChoiceReads
 
 -- What two things are equal to the same is equal.
 pub two-equal : {A : Type 0} {one other it : A} → one ≡ it → other ≡ it → one ≡ other
@@ -438,6 +472,83 @@ obey-one κs a q q′ e e′ p p′ =
     let same = two-equal (p .same) (p′ .same) in
     let answer = two-equal (p .answer) (p′ .answer) in
     (λ j. record { answer = answer j; settings = same j .settings }, λ j. same j .text, λ j. same j .picture)
+
+-- handset::handset_power_on: text, picture and the frame's bytes
+pub handset-power-on-one : OneEnd HandsetPowerOn.ended (List ℕ × List ℕ × List ℕ) HandsetPowerOnReads.Learnt (λ κs e. (now (e .0), now (e .1 .0), now (e .1 .1 .0)))
+handset-power-on-one κs a q q′ e e′ p p′ = (
+  two-equal (p .0) (p′ .0),
+  λ j. (two-equal (p .1 .0) (p′ .1 .0) j, two-equal (p .1 .1 .0) (p′ .1 .1 .0) j, two-equal (p .1 .1 .1) (p′ .1 .1 .1) j),
+)
+
+-- handset::handset_power_on_former: text, picture and the frame's bytes
+pub handset-power-on-former-one : OneEnd HandsetPowerOnFormer.ended (List ℕ × List ℕ × List ℕ) HandsetPowerOnFormerReads.Learnt (λ κs e. (now (e .0), now (e .1 .0), now (e .1 .1 .0)))
+handset-power-on-former-one κs a q q′ e e′ p p′ = (
+  two-equal (p .0) (p′ .0),
+  λ j. (two-equal (p .1 .0) (p′ .1 .0) j, two-equal (p .1 .1 .0) (p′ .1 .1 .0) j, two-equal (p .1 .1 .1) (p′ .1 .1 .1) j),
+)
+
+-- handset::handset_in_range
+pub handset-in-range-one : OneResult HandsetInRange.ended HandsetInRangeReads.Learnt
+handset-in-range-one κs a q q′ e e′ p p′ = two-equal p p′
+
+-- handset::handset_feed: text, picture, the frame's bytes and the answers
+pub handset-feed-one : OneEnd HandsetFeed.ended (List ℕ × List ℕ × List ℕ × List ℕ) HandsetFeedReads.Learnt (λ κs e. (now (e .1 .0), now (e .1 .1 .0), now (e .1 .1 .1 .0), now (e .1 .1 .1 .1 .1 .0)))
+handset-feed-one κs a q q′ e e′ p p′ = (
+  two-equal (p .0) (p′ .0),
+  λ j. (two-equal (p .1 .0) (p′ .1 .0) j, two-equal (p .1 .1 .0) (p′ .1 .1 .0) j, two-equal (p .1 .1 .1 .0) (p′ .1 .1 .1 .0) j, two-equal (p .1 .1 .1 .1) (p′ .1 .1 .1 .1) j),
+)
+
+-- handset::handset_take_log
+pub handset-take-log-one : OneEnd HandsetTakeLog.ended (List ℕ) HandsetTakeLogReads.Learnt (λ κs e. now (e .1 .1 .1 .1 .1 .1 .0))
+handset-take-log-one κs a q q′ e e′ p p′ = (two-equal (p .0) (p′ .0), two-equal (p .1) (p′ .1))
+
+-- handset::handset_second
+pub handset-second-one : OneResult HandsetSecond.ended HandsetSecondReads.Learnt
+handset-second-one κs a q q′ e e′ p p′ = two-equal p p′
+
+-- handset::handset_hook
+pub handset-hook-one : OneResult HandsetHook.ended HandsetHookReads.Learnt
+handset-hook-one κs a q q′ e e′ p p′ = two-equal p p′
+
+-- handset::handset_room_needed
+pub handset-room-needed-one : OneResult HandsetRoomNeeded.ended HandsetRoomNeededReads.Learnt
+handset-room-needed-one κs a q q′ e e′ p p′ = two-equal p p′
+
+-- handset::handset_sms_seen
+pub handset-sms-seen-one : OneResult HandsetSmsSeen.ended HandsetSmsSeenReads.Learnt
+handset-sms-seen-one κs a q q′ e e′ p p′ = two-equal p p′
+
+-- handset::handset_volume_seen
+pub handset-volume-seen-one : OneResult HandsetVolumeSeen.ended HandsetVolumeSeenReads.Learnt
+handset-volume-seen-one κs a q q′ e e′ p p′ = two-equal p p′
+
+-- handset::handset_row_seen
+pub handset-row-seen-one : OneResult HandsetRowSeen.ended HandsetRowSeenReads.Learnt
+handset-row-seen-one κs a q q′ e e′ p p′ = two-equal p p′
+
+-- handset::handset_column_seen
+pub handset-column-seen-one : OneResult HandsetColumnSeen.ended HandsetColumnSeenReads.Learnt
+handset-column-seen-one κs a q q′ e e′ p p′ = two-equal p p′
+
+-- handset::handset_write_command
+pub handset-write-command-one : OneEnd HandsetWriteCommand.ended (List ℕ) HandsetWriteCommandReads.Learnt (λ κs e. now (e .1 .1 .1 .0))
+handset-write-command-one κs a q q′ e e′ p p′ = (two-equal (p .0) (p′ .0), two-equal (p .1) (p′ .1))
+
+-- handset::handset_write_label
+pub handset-write-label-one : OneEnd HandsetWriteLabel.ended (List ℕ) HandsetWriteLabelReads.Learnt (λ κs e. now (e .1 .1 .0))
+handset-write-label-one κs a q q′ e e′ p p′ = (two-equal (p .0) (p′ .0), two-equal (p .1) (p′ .1))
+
+-- handset::handset_write_picture_row
+pub handset-write-picture-row-one : OneEnd HandsetWritePictureRow.ended (List ℕ) HandsetWritePictureRowReads.Learnt (λ κs e. now (e .1 .1 .0))
+handset-write-picture-row-one κs a q q′ e e′ p p′ = (two-equal (p .0) (p′ .0), two-equal (p .1) (p′ .1))
+
+-- handset::handset_judge
+pub handset-judge-one : OneResult HandsetJudge.ended HandsetJudgeReads.Learnt
+handset-judge-one κs a q q′ e e′ p p′ = two-equal p p′
+
+-- handset::handset_check_choice
+pub handset-check-choice-one : OneResult HandsetCheckChoice.ended HandsetCheckChoiceReads.Learnt
+handset-check-choice-one κs a q q′ e e′ p p′ = two-equal p p′
 
 -- measure::measure_one_call
 pub one-call-one : OneEnd OneCall.ended (List ℕ) OneCallReads.Learnt (λ κs e. now (e .1 .0))
