@@ -1,26 +1,36 @@
 /*
- * The handset and the collector, for programs in C or C++.
+ * The handset and the collector, for programs in C or C++: the calls of libhandset.a, which ./c-build makes. docs/C.md says how to
+ * build and link, and what is proved of it; docs/RULES.md says in full what is only named here: its sections are given in brackets.
  *
- * These are the calls of crates/handset, which are proved; link target/staticlib/libhandset.a. docs/C.md says how, and what a
- * caller must see to. docs/RULES.md says in full what is only named here: its sections are given in brackets.
+ * All that a handset keeps between two calls is one `struct handset`. It is yours: make one, power it on, and lend its address to each
+ * call. A call stores in it all that changes, keeps no pointer, and has no memory of its own.
  *
- * All that a handset keeps between two calls is its record. It crosses in parts: what is small by value (struct handset_small), and
- * three arrays that stay with the caller and are lent to each call: text, picture and frame. A call changes nothing else, keeps no
- * pointer, and has no memory of its own. What it hands back of the small part is to be kept for the next call, with the arrays.
+ * A call that can be refused hands back how it ended, enum handset_number: 0 is done. With any other number it has changed nothing that it
+ * was lent, but that counts and places for an answer hold zero.
  *
  * What must hold at each call, since C can't see to it:
- *   - every bool is 0 or 1, also inside a struct;
- *   - a pointer is not null, also where its length is 0, and there are as many places behind it as the length says;
+ *   - a pointer is not null, also where its count is 0, and there are as many places behind it as the count says;
  *   - what a call may write overlaps nothing else that it is lent, and nobody else uses it until the call is over;
- *   - header and archive are of one edition.
- * No value of any other field can do harm: a record that is out of range is refused with number 1.
+ *   - header and archive are of one interface: compare HANDSET_INTERFACE with handset_interface() once, at the start.
+ * No value in a record can do harm, such as what memory holds after a power cut: a record out of range is refused with number 1.
  */
 #ifndef HANDSET_H
 #define HANDSET_H
 
 #include <stdbool.h>
-#include <stddef.h>
 #include <stdint.h>
+
+/* The number of this interface. It rises when a struct, a call or the meaning of a number changes. */
+#define HANDSET_INTERFACE 2
+
+/* How a call ended wants to be looked at: a compiler that can says where a program does not. */
+#if defined(__cplusplus) && __cplusplus >= 201703L
+#define HANDSET_RESULT [[nodiscard]]
+#elif defined(__GNUC__)
+#define HANDSET_RESULT __attribute__((warn_unused_result))
+#else
+#define HANDSET_RESULT
+#endif
 
 #ifdef __cplusplus
 extern "C" {
@@ -168,7 +178,17 @@ enum handset_sound {
     HANDSET_SOUND_HANDSFREE = 3 /* (1 to 10) */
 };
 
-/* What becomes of a frame. In brackets what `value` is; it is 0 for the others. */
+/* What stands at a place of a stream [3]. */
+enum handset_kind {
+    HANDSET_PART_NONE = 0,      /* the stream ends here, or before */
+    HANDSET_PART_TEXT = 1,      /* a byte of text */
+    HANDSET_PART_SKIPPED = 2,   /* a byte that is skipped */
+    HANDSET_PART_CLOSED = 3,    /* a frame that CR closes */
+    HANDSET_PART_ABANDONED = 4, /* a frame that the next ESC abandons */
+    HANDSET_PART_TAIL = 5       /* a frame that is still open where the stream ends */
+};
+
+/* What becomes of a frame. In brackets what handset_judge stores at `number_out`; it is 0 for the others. */
 enum handset_judged {
     HANDSET_VERDICT_BAD = 0,         /* it is answered with '?' */
     HANDSET_VERDICT_PASSED_OVER = 1, /* (its first number that is out of range) it gets silence, and nothing of it is done */
@@ -319,8 +339,8 @@ struct handset_small {
 };
 
 /*
- * A whole handset in one piece. No call takes it: it is here for those who have no better place for the four. A record that is kept
- * while the power is off, or sent elsewhere, is all of it; copy it as it is, for the padding inside needs no value.
+ * A whole handset. What is kept while the power is off, or sent elsewhere, is all of it; copy it as it is, for the padding inside needs
+ * no value. Programs may look at every field, and set any: what is out of range ends the next call with number 1.
  */
 struct handset {
     struct handset_small small; /* all of it but the arrays */
@@ -329,45 +349,20 @@ struct handset {
     uint8_t frame[250];         /* the bytes of an open frame, none of them 0x1B or 0x0D, and 0 past its length */
 };
 
-/* ---- What calls hand back ---- */
+/* ---- What calls store at an address ---- */
 
-/* How a stream call or a key log ended. */
-struct handset_fed {
-    uint8_t number;             /* enum handset_number: 0; 1; of a key log also 4, 5 */
-    struct handset_small small; /* the small part as it is now: keep it */
-    size_t used;                /* how many bytes or entries were taken: offer the others again, before new ones */
-    size_t written;             /* how many answer bytes or key codes were put in the room: send them */
-};
-
-/* How a second or the hook call ended. */
-struct handset_after {
-    uint8_t number;             /* enum handset_number: 0, 1 */
-    struct handset_small small; /* the small part as it is now: keep it */
-};
-
-/* How a writer or the count of room ended. */
-struct handset_count {
-    uint8_t number; /* enum handset_number: of the count 0, 1; of a writer 0, 2, 3 */
-    size_t count;   /* the bytes that were written, or that are needed; 0 if the number is not 0 */
-};
-
-/* What becomes of a frame. */
-struct handset_verdict {
-    uint8_t verdict; /* enum handset_judged: 0 bad, 1 passed over, 2 obeyed */
-    uint16_t value;  /* of one that is passed over its first number out of range, 0 to 999; else 0 */
-};
-
-/* Whether a stream keeps the rules of the choice screen. */
-struct handset_choice {
-    uint8_t rule;  /* enum handset_rule: 0 for yes, else the rule that is broken first, 1 to 4 */
-    size_t offset; /* where: the place of the part; at most the stream's length, and 0 for yes */
+/* The part of a stream that stands at a place [3]. Where there is none, all three places are the one that was asked for. */
+struct handset_part {
+    uint8_t kind;      /* enum handset_kind */
+    uint64_t end;      /* where the next part begins */
+    uint64_t body;     /* of a frame: where the bytes behind its ESC begin; of a single byte as `end` */
+    uint64_t body_end; /* of a frame: where they end, before the CR that closes it; of a single byte as `end` */
 };
 
 /* What a panel of the icon bar shows. */
 struct handset_panel {
-    uint8_t number; /* enum handset_number: 0, 1 */
-    uint8_t panel;  /* of messages enum handset_sms, of the volume enum handset_sound */
-    uint8_t level;  /* 0 to 10; 0 where there is none */
+    uint8_t panel; /* of messages enum handset_sms, of the volume enum handset_sound */
+    uint8_t level; /* 0 to 10; 0 where there is none */
 };
 
 /* The icon bar. */
@@ -382,7 +377,6 @@ struct handset_bar {
 
 /* What a display row shows. All that its owner does not use is 0. */
 struct handset_row {
-    uint8_t number;             /* enum handset_number: 0, 1, 4 */
     uint8_t owner;              /* enum handset_owner */
     uint8_t place;              /* the row, or half of the large line, of the owner */
     bool inverse;               /* whether it is a text row that is seen inverse */
@@ -396,7 +390,6 @@ struct handset_row {
 
 /* What a place of the display shows. */
 struct handset_column {
-    uint8_t number;         /* enum handset_number: 0, 1, 4 */
     uint8_t owner;          /* enum handset_owner */
     uint8_t place;          /* the row, or half of the large line, of the owner */
     uint8_t shown;          /* enum handset_shown */
@@ -405,90 +398,108 @@ struct handset_column {
     struct handset_bar bar; /* of the icon bar, else 0 */
 };
 
+/* ---- The interface ---- */
+
+/* The HANDSET_INTERFACE of the header that the archive was made with. Where it is another than yours, make no other call. */
+HANDSET_RESULT uint32_t handset_interface(void);
+
 /* ---- Power-on ---- */
 
-/* The power-on record: fills the three arrays, answers the small part. */
-struct handset_small handset_power_on(uint8_t text[104], uint8_t picture[672], uint8_t frame[250]);
+/* Stores the power-on record. */
+void handset_power_on(struct handset *h);
 
 /* The same with the former defaults of the key times: Time2 is 12, so that a key which is held down repeats. */
-struct handset_small handset_power_on_former(uint8_t text[104], uint8_t picture[672], uint8_t frame[250]);
+void handset_power_on_former(struct handset *h);
 
-/* ---- Calls of a handset. For a record out of range each ends with 1 and changes nothing. ---- */
+/* ---- Calls of a handset. For a record out of range each ends with 1. ---- */
 
-/* Whether all fields of a record are in their ranges. Writes nothing. */
-bool handset_in_range(struct handset_small small, const uint8_t text[104], const uint8_t picture[672], const uint8_t frame[250]);
-
-/*
- * The stream call [3]: takes bytes from the cord and puts answers in the room. It stops before the byte whose whole answer has no
- * place in the room; else it uses all bytes. It changes text, picture and frame in place, and of the room the first `written`
- * bytes. How a stream is cut into calls makes no difference.
- */
-struct handset_fed handset_feed(struct handset_small small, uint8_t text[104], uint8_t picture[672], uint8_t frame[250],
-                                const uint8_t *bytes, size_t bytes_len, uint8_t *answers, size_t answers_len);
+/* Whether all fields of a record are in their ranges. */
+HANDSET_RESULT bool handset_in_range(const struct handset *h);
 
 /*
- * The key log [6]: for each entry a reading of the 10 ms clock and an edge. It puts key codes in the room and stops before the entry
- * whose code has no place there. The two lengths are to be the same: else it ends with 5, and with 4 for an edge that is not listed.
- * The three arrays are only read; of the room the first `written` places are changed.
+ * The stream call [3]: takes `count` bytes from the cord and puts answers in the room, which has `size` places. It stops before the
+ * byte whose whole answer has no place in the room; else it uses all bytes. `used` is how many it took: offer the others again, before
+ * new ones. `written` is how many bytes of the room hold answers: send them; the rest of the room stays as it was. How a stream is cut
+ * into calls makes no difference. With less room than HANDSET_LONGEST_ANSWER it never gets past &V. Ends with 0, 1.
  */
-struct handset_fed handset_take_log(struct handset_small small, const uint8_t text[104], const uint8_t picture[672],
-                                    const uint8_t frame[250], const uint16_t *ticks, size_t ticks_len, const uint8_t *edges,
-                                    size_t edges_len, uint8_t *codes, size_t codes_len);
+HANDSET_RESULT uint8_t handset_feed(struct handset *h, const uint8_t *bytes, uint64_t count, uint8_t *room, uint64_t size, uint64_t *used,
+                                    uint64_t *written);
 
-/* A second passes [7]: one of the backlight's seconds is taken off, if one is left. Writes nothing. */
-struct handset_after handset_second(struct handset_small small, const uint8_t text[104], const uint8_t picture[672],
-                                    const uint8_t frame[250]);
+/*
+ * The key log [6]: for each entry a reading of the 10 ms clock and an edge, enum handset_edge. It puts key codes in the room, and stops
+ * before the entry whose code has no place there; `used` and `written` as above. The two counts are to be the same: else it ends with 5,
+ * and with 4 for an edge that is not listed, anywhere in the log. Ends with 0, 1, 4, 5.
+ */
+HANDSET_RESULT uint8_t handset_take_log(struct handset *h, const uint16_t *ticks, uint64_t tick_count, const uint8_t *edges,
+                                        uint64_t edge_count, uint8_t *room, uint64_t size, uint64_t *used, uint64_t *written);
 
-/* The handset is hung up (on is true) or lifted (false) [7]. Writes nothing. */
-struct handset_after handset_hook(struct handset_small small, const uint8_t text[104], const uint8_t picture[672],
-                                  const uint8_t frame[250], bool on);
+/* A second passes [7]: one of the backlight's seconds is taken off, if one is left. Ends with 0, 1. */
+HANDSET_RESULT uint8_t handset_second(struct handset *h);
+
+/* The same on a backlight alone, which is judged by its own ranges. Ends with 0, 1. */
+HANDSET_RESULT uint8_t handset_light_second(struct handset_backlight *light);
+
+/* The handset is lifted (on is 0) or hung up (any other number) [7]. Ends with 0, 1. */
+HANDSET_RESULT uint8_t handset_hook(struct handset *h, uint8_t on);
 
 /*
  * How much room the answers to these bytes can need where no frame is a question [3]. For each question add its answer's length: 6
- * at most for IA, 5 for IH, 29 for &V. Writes nothing.
+ * at most for IA, 5 for IH, 29 for &V. Ends with 0, 1.
  */
-struct handset_count handset_room_needed(struct handset_small small, const uint8_t text[104], const uint8_t picture[672],
-                                         const uint8_t frame[250], const uint8_t *bytes, size_t bytes_len);
+HANDSET_RESULT uint8_t handset_room_needed(const struct handset *h, const uint8_t *bytes, uint64_t count, uint64_t *needed);
 
-/* ---- What is seen [8]. These write nothing. phase is enum handset_phase. ---- */
+/* ---- What is seen [8]. phase is enum handset_phase. ---- */
 
-/* What the SMS panel shows, whether or not the display is on. */
-struct handset_panel handset_sms_seen(struct handset_small small, const uint8_t text[104], const uint8_t picture[672],
-                                      const uint8_t frame[250], uint8_t phase);
+/* What the SMS panel shows, whether or not the display is on. Ends with 0, 1. */
+HANDSET_RESULT uint8_t handset_sms_seen(const struct handset *h, uint8_t phase, struct handset_panel *seen);
 
-/* What the volume panel shows, whether or not the display is on. */
-struct handset_panel handset_volume_seen(struct handset_small small, const uint8_t text[104], const uint8_t picture[672],
-                                         const uint8_t frame[250]);
+/* What the volume panel shows, whether or not the display is on. Ends with 0, 1. */
+HANDSET_RESULT uint8_t handset_volume_seen(const struct handset *h, struct handset_panel *seen);
 
-/* Who owns a display row, 0 to 6, and what it shows. Ends with 4 for a row above 6. */
-struct handset_row handset_row_seen(struct handset_small small, const uint8_t text[104], const uint8_t picture[672],
-                                    const uint8_t frame[250], uint8_t row, uint8_t phase);
+/* Who owns a display row, 0 to 6, and what it shows. Ends with 0, 1, and with 4 for a row above 6. */
+HANDSET_RESULT uint8_t handset_row_seen(const struct handset *h, uint8_t row, uint8_t phase, struct handset_row *seen);
 
-/* Who owns a place, row 0 to 6 and column 0 to 95, and what stands there. Ends with 4 for a row above 6 or a column above 95. */
-struct handset_column handset_column_seen(struct handset_small small, const uint8_t text[104], const uint8_t picture[672],
-                                          const uint8_t frame[250], uint8_t row, uint8_t column, uint8_t phase);
+/* Who owns a place, row 0 to 6 and column 0 to 95, and what stands there. Ends with 0, 1, and with 4 for a row above 6 or a column
+ * above 95. */
+HANDSET_RESULT uint8_t handset_column_seen(const struct handset *h, uint8_t row, uint8_t column, uint8_t phase,
+                                           struct handset_column *seen);
 
 /*
  * ---- Writers [9], for a collector. Each writes ESC, the frame, CR LF at the start of the room, whole or not at all, and leaves every
- * place past it. It ends with 2 for what is out of range, then with 3 for a frame longer than the room. ----
+ * place past it; `written` is its length. It ends with 2 for what is out of range, then with 3 for a frame longer than the room.
+ * HANDSET_LONGEST_WRITTEN is room enough. ----
  */
 
 /* A command: kind is enum handset_command, and any other number is out of range. */
-struct handset_count handset_write_command(uint8_t kind, uint16_t a, uint16_t b, uint8_t *room, size_t room_len);
+HANDSET_RESULT uint8_t handset_write_command(uint8_t kind, uint16_t a, uint16_t b, uint8_t *room, uint64_t size, uint64_t *written);
 
 /* A label: side is enum handset_side, codes are 0 to 7, each 0x20 to 0xFF. */
-struct handset_count handset_write_label(uint8_t side, const uint8_t *codes, size_t codes_len, uint8_t *room, size_t room_len);
+HANDSET_RESULT uint8_t handset_write_label(uint8_t side, const uint8_t *codes, uint64_t count, uint8_t *room, uint64_t size,
+                                           uint64_t *written);
 
 /* A picture row, 0 to 6, from its column 0 on: 1 to 96 columns, in row 6 below 32. */
-struct handset_count handset_write_picture_row(uint8_t row, const uint8_t *columns, size_t columns_len, uint8_t *room, size_t room_len);
+HANDSET_RESULT uint8_t handset_write_picture_row(uint8_t row, const uint8_t *columns, uint64_t count, uint8_t *room, uint64_t size,
+                                                 uint64_t *written);
 
-/* ---- Questions about a stream, without a record. These write nothing. ---- */
+/* ---- Questions about a stream, without a record. None can be refused: each hands back its answer. ---- */
 
-/* What becomes of a frame, all between ESC and CR, in a text mode [4]. */
-struct handset_verdict handset_judge(uint8_t mode, const uint8_t *frame, size_t frame_len);
+/*
+ * What becomes of a frame, all between ESC and CR, in a text mode [4]: enum handset_judged. At `number_out` it stores the first number
+ * that is out of range, 0 to 999, of one that is passed over, else 0.
+ */
+HANDSET_RESULT uint8_t handset_judge(uint8_t mode, const uint8_t *frame, uint64_t count, uint16_t *number_out);
 
-/* Whether a collector's stream keeps the rules of the choice screen, and if not, where it breaks which [11]. */
-struct handset_choice handset_check_choice(const uint8_t *bytes, size_t bytes_len);
+/*
+ * Whether a collector's stream keeps the rules of the choice screen [11]: enum handset_rule, 0 for yes, else the rule that is broken
+ * first. At `offset` it stores where, at most the stream's length, and 0 for yes.
+ */
+HANDSET_RESULT uint8_t handset_check_choice(const uint8_t *bytes, uint64_t count, uint64_t *offset);
+
+/*
+ * The part of a stream that stands at a place [3]: enum handset_kind, which is stored too. All the parts, from place 0 on and each from
+ * the end of the one before, are the stream.
+ */
+HANDSET_RESULT uint8_t handset_part_at(const uint8_t *bytes, uint64_t count, uint64_t place, struct handset_part *part);
 
 #ifdef __cplusplus
 }

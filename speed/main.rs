@@ -1,9 +1,13 @@
 //! Times the handset's stream call against a plain Rust reader of the same language and against the terminal parsers that are
-//! installed, on the same work, in one run; and going over a stream's parts against that call. `./bench` builds and runs it;
-//! nothing here is part of the gate.
-//! Each figure is the best of many; the candidates take turns, so that a slow moment of the machine meets them all.
+//! installed, on the same work, in one run; going over a stream's parts and the choice check against that call; and each call of the
+//! C library by itself. Ours are the calls of include/handset.h. `./bench` builds and runs it; nothing here is part of the gate.
 
+mod calls;
+mod count;
+mod door;
 mod plain;
+mod race;
+mod reader;
 mod streams;
 #[cfg(feature = "tsm")]
 mod tsm;
@@ -12,149 +16,60 @@ mod vte_screen;
 #[cfg(feature = "vterm")]
 mod vterm;
 
-use plain::Handset;
-use std::hint::black_box;
+use race::{race, report, Candidate};
+use reader::{in_one_call, in_short_calls, mark, same, Feed, Reader, CALL};
 
-// The proved functions of crates/measure; a lent slice passes as a pointer and a length.
-extern "C" {
-    fn measure_one_call(bytes: *const u8, len: usize, answers: *mut u8, room: usize) -> u64;
-    fn measure_short_calls(bytes: *const u8, len: usize, answers: *mut u8, room: usize) -> u64;
-    fn measure_range_checks(bytes: *const u8, len: usize) -> u64;
-    fn count_parts(bytes: *const u8, len: usize) -> usize;
-    fn measure_choice(bytes: *const u8, len: usize) -> usize;
+const OPERATIONS: usize = 20_000;
+
+/// Room for a call's answers.
+fn room() -> [u8; 64] {
+    [0; 64]
 }
 
-const CALL: usize = 64;
-
-#[repr(C)]
-struct Time {
-    seconds: i64,
-    nanoseconds: i64,
+fn one_call<R: Reader>(feed: Feed<R>, bytes: &[u8]) -> u64 {
+    mark(in_one_call(feed, bytes, &mut room()))
 }
 
-extern "C" {
-    fn clock_gettime(clock: i32, time: *mut Time) -> i32;
+fn short_calls<R: Reader>(feed: Feed<R>, bytes: &[u8]) -> u64 {
+    mark(in_short_calls(feed, bytes, &mut room()))
 }
 
-// What this thread has had of a processor, in nanoseconds: other programs' turns are not counted.
-fn processor_time() -> f64 {
-    const OF_THIS_THREAD: i32 = 3;
-    let mut time = Time { seconds: 0, nanoseconds: 0 };
-    unsafe { clock_gettime(OF_THIS_THREAD, &mut time) };
-    time.seconds as f64 * 1e9 + time.nanoseconds as f64
-}
-
-fn ours(bytes: &[u8], answers: &mut [u8]) -> u64 {
-    unsafe { measure_one_call(bytes.as_ptr(), bytes.len(), answers.as_mut_ptr(), answers.len()) }
-}
-
-fn ours_short(bytes: &[u8], answers: &mut [u8]) -> u64 {
-    unsafe { measure_short_calls(bytes.as_ptr(), bytes.len(), answers.as_mut_ptr(), answers.len()) }
-}
-
-fn ours_parts(bytes: &[u8]) -> u64 {
-    unsafe { count_parts(bytes.as_ptr(), bytes.len()) as u64 }
-}
-
-fn ours_choice(bytes: &[u8]) -> u64 {
-    unsafe { measure_choice(bytes.as_ptr(), bytes.len()) as u64 }
+fn ours(bytes: &[u8]) -> u64 {
+    one_call(door::Handset::feed, bytes)
 }
 
 fn plain_parts(bytes: &[u8]) -> u64 {
     plain::Parts(bytes).count() as u64
 }
 
-type Feed = fn(&mut Handset, &[u8], &mut [u8]) -> plain::Fed;
-
-fn plain_one(feed: Feed, bytes: &[u8], answers: &mut [u8]) -> u64 {
-    let mut handset = Handset::power_on();
-    let fed = feed(&mut handset, bytes, answers);
-    handset.mark(&fed)
-}
-
-// As measure_short_calls: full calls of 64 bytes, then one with what is left over.
-fn plain_short(feed: Feed, bytes: &[u8], answers: &mut [u8]) -> u64 {
-    let mut handset = Handset::power_on();
-    let full = bytes.len() / CALL * CALL;
-    for piece in bytes[..full].chunks_exact(CALL) {
-        black_box(feed(&mut handset, piece, answers));
-    }
-    let fed = feed(&mut handset, &bytes[full..], answers);
-    handset.mark(&fed)
-}
-
-struct Candidate<'a> {
-    name: &'static str,
-    bytes: usize,
-    work: Box<dyn FnMut() -> u64 + 'a>,
-    best: f64,
-}
-
-impl<'a> Candidate<'a> {
-    fn new(name: &'static str, bytes: usize, work: impl FnMut() -> u64 + 'a) -> Candidate<'a> {
-        Candidate { name, bytes, work: Box::new(work), best: f64::INFINITY }
+// What speed/door.rs says of the header is what the archive does: the two readers have the same record at power-on, and the same after
+// a stream that gives every field a value of its own.
+fn check_door() {
+    same("the interface", true, door::is_of_this_interface());
+    same("the length of a record", true, door::is_as_long());
+    for stream in [Vec::new(), streams::every_field()] {
+        let (plain, _) = in_one_call(plain::Handset::feed, &stream, &mut room());
+        let (ours, _) = in_one_call(door::Handset::feed, &stream, &mut room());
+        same("the record", plain.record(), ours.record());
     }
 }
 
-// The best time of each in nanoseconds, by turns.
-fn race(candidates: &mut [Candidate], rounds: usize) {
-    for _ in 0..rounds {
-        for candidate in candidates.iter_mut() {
-            let start = processor_time();
-            black_box((candidate.work)());
-            candidate.best = candidate.best.min(processor_time() - start);
-        }
-    }
-}
-
-// One line for each candidate; the ratio is the first one's time over its time.
-fn report(candidates: &[Candidate]) {
-    let first = candidates[0].best;
-    for (i, c) in candidates.iter().enumerate() {
-        let each = c.best / c.bytes as f64;
-        if i == 0 {
-            println!("  {:<44}{:>9.1} us {:>7.2} ns a byte", c.name, c.best / 1000.0, each);
-        } else {
-            println!("  {:<44}{:>9.1} us {:>7.2} ns a byte   ours takes {:.2} of it", c.name, c.best / 1000.0, each, first / c.best);
-        }
-    }
-}
-
-fn same(what: &str, expected: u64, found: u64) {
-    if expected != found {
-        eprintln!("bench: {what}: the readers differ ({expected}, {found})");
-        std::process::exit(1);
-    }
-}
-
-fn rounds() -> usize {
-    std::env::args().nth(1).and_then(|n| n.parse().ok()).unwrap_or(100)
-}
-
-fn main() {
-    let rounds = rounds();
-    let work = streams::mixed(20_000);
+// Hands back the best time of our call.
+fn mixed(work: &streams::Work, rounds: usize) -> f64 {
     let (stream, ansi) = (&work.handset[..], &work.ansi[..]);
-    let room = || vec![0u8; 64];
-
-    let expected = plain_one(Handset::feed, stream, &mut room());
-    same("plain, frames where they stand", expected, plain_one(Handset::feed_where_it_stands, stream, &mut room()));
-    same("ours, one call", expected, ours(stream, &mut room()));
-    let expected_short = plain_short(Handset::feed, stream, &mut room());
-    same("plain, short calls, frames where they stand", expected_short, plain_short(Handset::feed_where_it_stands, stream, &mut room()));
-    same("ours, short calls", expected_short, ours_short(stream, &mut room()));
+    let expected = one_call(plain::Handset::feed, stream);
+    same("plain, frames where they stand", expected, one_call(plain::Handset::feed_where_it_stands, stream));
+    same("ours, one call", expected, ours(stream));
 
     println!("20,000 mixed operations: {} bytes for the handset, {} bytes as ANSI; best of {rounds}", stream.len(), ansi.len());
-    let mut answers: Vec<Vec<u8>> = (0..8).map(|_| room()).collect();
-    let [a, b, c, d, e, f, ..] = &mut answers[..] else { unreachable!() };
     let mut all = vec![
-        Candidate::new("ours, one call", stream.len(), || ours(stream, a)),
-        Candidate::new("plain Rust, one call", stream.len(), || plain_one(Handset::feed, stream, b)),
-        Candidate::new("plain Rust, frames read where they stand", stream.len(), || plain_one(Handset::feed_where_it_stands, stream, c)),
+        Candidate::new("ours, one call", stream.len(), || ours(stream)),
+        Candidate::new("plain Rust, one call", stream.len(), || one_call(plain::Handset::feed, stream)),
+        Candidate::new("plain Rust, frames read where they stand", stream.len(), || one_call(plain::Handset::feed_where_it_stands, stream)),
     ];
     #[cfg(feature = "vte")]
     {
-        vte_screen::agrees(&work);
+        vte_screen::agrees(work);
         all.push(Candidate::new("vte and a small screen, the same in ANSI", ansi.len(), || vte_screen::run(ansi)));
     }
     #[cfg(feature = "vterm")]
@@ -169,74 +84,116 @@ fn main() {
     }
     race(&mut all, rounds);
     report(&all);
-    let one_call = all[0].best;
-    drop(all);
+    all[0].best
+}
+
+fn in_calls(stream: &[u8], rounds: usize, one_call_took: f64) {
+    let expected = short_calls(plain::Handset::feed, stream);
+    same("plain, short calls, frames where they stand", expected, short_calls(plain::Handset::feed_where_it_stands, stream));
+    same("ours, short calls", expected, short_calls(door::Handset::feed, stream));
 
     println!("\nThe same stream in calls of {CALL} bytes");
     let mut all = vec![
-        Candidate::new("ours", stream.len(), || ours_short(stream, d)),
-        Candidate::new("plain Rust", stream.len(), || plain_short(Handset::feed, stream, e)),
-        Candidate::new("plain Rust, frames read where they stand", stream.len(), || plain_short(Handset::feed_where_it_stands, stream, f)),
+        Candidate::new("ours", stream.len(), || short_calls(door::Handset::feed, stream)),
+        Candidate::new("plain Rust", stream.len(), || short_calls(plain::Handset::feed, stream)),
+        Candidate::new("plain Rust, frames read where they stand", stream.len(), || {
+            short_calls(plain::Handset::feed_where_it_stands, stream)
+        }),
     ];
+    #[cfg(target_arch = "x86_64")]
+    {
+        same("behind the door, short calls", expected, short_calls(door::Handset::feed_behind_the_door, stream));
+        all.push(Candidate::new("the proved call behind the door", stream.len(), || {
+            short_calls(door::Handset::feed_behind_the_door, stream)
+        }));
+    }
     race(&mut all, rounds);
     report(&all);
-    let calls = stream.len() / CALL;
-    println!("  ours against one call: {:.2} times; a call costs {:.0} ns beside its bytes", all[0].best / one_call, (all[0].best - one_call) / calls as f64);
-    drop(all);
+    let [times, more] = [all[0].best / one_call_took, all[0].best - one_call_took];
+    println!("  ours against one call: {times:.2} times; a call costs {:.0} ns beside its bytes", more / (stream.len() / CALL) as f64);
+}
 
+fn pictures(rounds: usize) {
     let pictures = streams::pictures(2_000);
-    let mut picture_answers = room();
-    same("pictures", plain_one(Handset::feed, &pictures, &mut room()), ours(&pictures, &mut room()));
+    same("pictures", one_call(plain::Handset::feed, &pictures), ours(&pictures));
     println!("\n2,000 picture frames: {} bytes", pictures.len());
-    let mut all = vec![
-        Candidate::new("ours", pictures.len(), || ours(&pictures, &mut picture_answers)),
-        Candidate::new("plain Rust", pictures.len(), || plain_one(Handset::feed, &pictures, b)),
+    let mut all = [
+        Candidate::new("ours", pictures.len(), || ours(&pictures)),
+        Candidate::new("plain Rust", pictures.len(), || one_call(plain::Handset::feed, &pictures)),
     ];
     race(&mut all, rounds);
     report(&all);
-    drop(all);
+}
 
+fn parts(stream: &[u8], rounds: usize) {
     // The longer stream is cut anywhere, so it may end in a tail.
     let twice = streams::mixed_of(2 * stream.len());
-    let parts = plain_parts(stream);
-    same("parts", parts, ours_parts(stream));
-    same("parts of a stream of double length", plain_parts(&twice), ours_parts(&twice));
-    println!("\nThe mixed stream part by part, each asked for where the one before ends: {parts} parts");
-    let mut all = vec![
-        Candidate::new("ours", stream.len(), || ours_parts(stream)),
+    let count = plain_parts(stream);
+    same("parts", count, door::count_parts(stream));
+    same("parts of a stream of double length", plain_parts(&twice), door::count_parts(&twice));
+    println!("\nThe mixed stream part by part, each asked for where the one before ends: {count} parts");
+    let mut all = [
+        Candidate::new("ours, a call for each part", stream.len(), || door::count_parts(stream)),
         Candidate::new("plain Rust", stream.len(), || plain_parts(stream)),
-        Candidate::new("the stream call, ours, one call", stream.len(), || ours(stream, b)),
-        Candidate::new("ours, a stream of double length", twice.len(), || ours_parts(&twice)),
+        Candidate::new("the stream call, ours, one call", stream.len(), || ours(stream)),
+        Candidate::new("ours, a stream of double length", twice.len(), || door::count_parts(&twice)),
     ];
     race(&mut all, rounds);
     report(&all[..3]);
     let [parts, call, longer] = [all[0].best, all[2].best, all[3].best];
-    println!("  parts: {:.3} ms, {:.2} of the stream call; at double length {:.2} times as long", parts / 1e6, parts / call, longer / parts);
-    drop(all);
+    let [of_the_call, of_the_parts] = [parts / call, longer / parts];
+    println!("  parts: {:.3} ms, {of_the_call:.2} of the stream call; at double length {of_the_parts:.2} times as long", parts / 1e6);
+}
 
+fn choice_screens(rounds: usize) {
     let screens = streams::screens(4_000);
-    same("a stream of choice screens breaks no rule", 0, ours_choice(&screens));
-    same("one without its last label breaks one at its end", screens.len() as u64 - 30, ours_choice(&screens[..screens.len() - 30]));
+    let short_of_a_label = screens.len() - 30;
+    same("a stream of choice screens breaks no rule", 0, door::choice_broken_at(&screens));
+    let broken_at = door::choice_broken_at(&screens[..short_of_a_label]);
+    same("one without its last label breaks one at its end", short_of_a_label as u64, broken_at);
     println!("\n4,000 choice screens: {} bytes, checked against the shop's rules", screens.len());
-    let mut all = vec![
-        Candidate::new("the choice check", screens.len(), || ours_choice(&screens)),
-        Candidate::new("the stream call, ours, one call", screens.len(), || ours(&screens, b)),
+    let mut all = [
+        Candidate::new("the choice check", screens.len(), || door::choice_broken_at(&screens)),
+        Candidate::new("the stream call, ours, one call", screens.len(), || ours(&screens)),
     ];
     race(&mut all, rounds);
     report(&all);
-    println!("  the check: {:.2} bytes a nanosecond, {:.2} of the stream call", screens.len() as f64 / all[0].best, all[0].best / all[1].best);
-    drop(all);
+    println!("  the check: {:.2} bytes a nanosecond, {:.2} of the stream call", 1.0 / all[0].for_each_byte(), all[0].best / all[1].best);
+}
 
+fn growth(rounds: usize) {
     println!("\nGrowth with length: the mixed stream, one call");
-    for length in [100_000usize, 1_000_000, 10_000_000] {
+    for length in [100_000, 1_000_000, 10_000_000] {
         let long = streams::mixed_of(length);
-        let mut all = [Candidate::new("", long.len(), || ours(&long, b))];
+        let mut all = [Candidate::new("", long.len(), || ours(&long))];
         race(&mut all, (rounds * 400_000 / length).max(8));
-        println!("  {:>10} bytes {:>7.2} ns a byte", long.len(), all[0].best / long.len() as f64);
+        println!("  {:>10} bytes {:>7.2} ns a byte", long.len(), all[0].for_each_byte());
     }
+}
 
-    let codes = vec![b'A'; 4096];
-    let mut all = [Candidate::new("", codes.len(), || unsafe { measure_range_checks(codes.as_ptr(), codes.len()) })];
-    race(&mut all, rounds);
-    println!("\nThe range check alone, of a record of 1,080 bytes: {:.0} ns", all[0].best / codes.len() as f64);
+fn times(rounds: usize) {
+    let work = streams::mixed(OPERATIONS);
+    let one_call_took = mixed(&work, rounds);
+    in_calls(&work.handset, rounds, one_call_took);
+    pictures(rounds);
+    parts(&work.handset, rounds);
+    choice_screens(rounds);
+    growth(rounds);
+    calls::times(rounds);
+}
+
+fn number(word: &str) -> usize {
+    word.parse().expect("a number")
+}
+
+// The words are ./bench's, but for those by which the count runs this program again.
+fn main() {
+    check_door();
+    let words: Vec<String> = std::env::args().skip(1).collect();
+    match words.iter().map(String::as_str).collect::<Vec<_>>()[..] {
+        ["--count"] => count::table(),
+        ["repeat", work, count] => count::repeat(work, number(count)),
+        [rounds] => times(number(rounds)),
+        _ => panic!("words that ./bench does not say"),
+    }
 }

@@ -1,6 +1,9 @@
 //! A reader of the handset's language as one writes it in Rust by hand: one struct, changed in place, no allocation, safe code,
-//! no proof. It shares nothing with crates/. It keeps the same rules: the record is judged first, a frame may be cut anywhere,
+//! no proof. It shares no code with crates/. It keeps the same rules: the record is judged first, a frame may be cut anywhere,
 //! the call stops before an answer that has no room, and the places of the frame that are not used hold zero.
+
+use crate::door;
+use crate::reader::{Fed, Reader};
 
 const ESCAPE: u8 = 0x1B;
 const CARRIAGE_RETURN: u8 = 0x0D;
@@ -10,6 +13,7 @@ const LIMIT: usize = 250;
 const LARGE: u8 = 10;
 const LINE: usize = 80;
 
+// In the order of the header's numbers for it.
 #[derive(Clone, Copy, PartialEq)]
 enum Reading {
     Text,
@@ -35,6 +39,10 @@ impl Label {
 
     fn in_range(&self) -> bool {
         self.len <= 7 && self.codes[..self.len].iter().all(|&b| b >= 0x20) && self.codes[self.len..].iter().all(|&b| b == 0)
+    }
+
+    fn record(&self) -> door::Label {
+        door::Label { len: self.len as u8, codes: self.codes }
     }
 }
 
@@ -97,13 +105,6 @@ pub struct Handset {
     reading: Reading,
     len: usize,
     frame: [u8; LIMIT],
-}
-
-pub struct Fed {
-    #[allow(dead_code)]
-    pub number: u8,
-    pub used: usize,
-    pub written: usize,
 }
 
 fn number(digits: &[u8]) -> Option<u16> {
@@ -433,8 +434,8 @@ impl Display {
     }
 }
 
-impl Handset {
-    pub fn power_on() -> Handset {
+impl Reader for Handset {
+    fn power_on() -> Handset {
         let label = || Label { len: 0, codes: [0; 7] };
         Handset {
             display: Display {
@@ -463,6 +464,34 @@ impl Handset {
         }
     }
 
+    fn record(&self) -> door::Handset {
+        let d = &self.display;
+        let [s, u, f, r, p, w] = d.icons;
+        let [time1, time2] = d.times;
+        let Volume { which, level, mute, hidden } = d.volume;
+        let Backlight { mode, duration, left, keypad } = d.backlight;
+        let settings = door::Settings {
+            screen: door::Screen { display: d.on, mode: d.mode, overlay: d.overlay, row: d.row as u8, column: d.column as u8 },
+            shown: d.shown,
+            left: d.labels[0].record(),
+            right: d.labels[1].record(),
+            icons: door::Icons { s, u, f, r, p, w },
+            volume: door::Volume { which, level, mute, hidden },
+            times: door::Times { time1, time2 },
+            buzzer: d.buzzer,
+            backlight: door::Backlight { mode, duration, left, keypad },
+            contrast: d.contrast,
+            hook: d.on_hook,
+            inverse: d.inverse,
+        };
+        let Held { down, key, tick, long } = self.held;
+        let held = door::Held { down, key, tick, long_stage: long };
+        let small = door::Small { settings, held, state: self.reading as u8, len: self.len as u8 };
+        door::Handset { small, text: d.text, picture: d.picture, frame: self.frame }
+    }
+}
+
+impl Handset {
     fn in_range(&self) -> bool {
         let h = &self.held;
         let held = if h.down { h.key <= 18 } else { h.key == 0 && h.tick == 0 && !h.long };
@@ -489,7 +518,7 @@ impl Handset {
             used += 1;
         }
         self.frame[self.len..].fill(0);
-        Fed { number: 0, used, written }
+        Fed { number: 0, used: used as u64, written: written as u64 }
     }
 
     // One byte; false where its answer has no room.
@@ -548,33 +577,7 @@ impl Handset {
             used += 1;
         }
         self.frame[self.len..].fill(0);
-        Fed { number: 0, used, written }
-    }
-
-    /// The number that crates/measure takes from what a call left.
-    pub fn mark(&self, fed: &Fed) -> u64 {
-        const PRIME: u64 = 1_000_003;
-        let d = &self.display;
-        let small = [
-            d.mode,
-            d.overlay,
-            d.row as u8,
-            d.column as u8,
-            d.labels[0].len as u8,
-            d.labels[1].len as u8,
-            d.icons[0],
-            d.icons[1],
-            d.icons[2],
-            d.icons[3],
-            d.icons[4],
-            d.icons[5],
-            d.volume.which,
-            d.volume.level,
-        ];
-        let bytes = d.text.iter().chain(&d.picture).chain(&d.labels[0].codes).chain(&d.labels[1].codes).chain(&small);
-        let counts = [fed.used as u64, fed.written as u64];
-        let numbers = bytes.map(|&b| b as u64).chain(counts);
-        numbers.fold(0, |mark, n| (mark * 31 + n % PRIME) % PRIME)
+        Fed { number: 0, used: used as u64, written: written as u64 }
     }
 
     /// What a peer's screen is compared with: the rows of text, both labels and icon P.

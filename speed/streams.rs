@@ -116,3 +116,16 @@ pub fn screens(count: usize) -> Vec<u8> {
     }
     stream
 }
+
+/// Gives each field of a record that a stream can set a value of its own, and leaves a frame open.
+pub fn every_field() -> Vec<u8> {
+    let mut stream = Vec::new();
+    let screen = ["ID5", "ID13", "IDD", "[3;2H", "&C", "IK1Keep", "IK2Neither", "IZ4", "Gr2,01020304z"];
+    let icons = ["IS1", "IU255", "IF6", "IR1", "IP19", "IW3", "IJ9", "IM1"];
+    let others = ["IT23;34", "IB222", "IE111", "IEA", "IE99", "IEe", "IA17"];
+    for frame in screen.iter().chain(&icons).chain(&others) {
+        command(&mut stream, frame.as_bytes());
+    }
+    stream.extend_from_slice(b"Which?\x1bIK2Half");
+    stream
+}

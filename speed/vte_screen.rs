@@ -2,6 +2,7 @@
 //! commands for the labels (1, 2) and icon P (3).
 
 use crate::plain::Handset;
+use crate::reader::Reader;
 use crate::streams::Work;
 use vte::{Params, Parser, Perform};
 

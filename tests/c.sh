@@ -1,16 +1,17 @@
 #!/usr/bin/env bash
-# Holds include/handset.h against crates/handset, and tries the archive from C: c-build's words, the listing and the places of every
-# field, what each call does, the examples, and streams cut by chance. A line for each test; the last line has the counts.
+# Holds include/handset.h, door/handset.c and crates/handset together, and tries the archive from C: c-build's words, the listing and the
+# places of every field, what each call does, the examples, and streams cut by chance. A line for each test; the last line has the counts.
 #
-# Header and crate could part in two ways: in what they say, and in where a field lies. So there are three tests of it.
-#   1. Both texts are turned into one listing, of every field of every struct that crosses and of every call, and the two must be the
-#      same. A field that is added, removed, renamed, exchanged with its neighbour or given another type or length in one of them alone
-#      makes them differ; so does a call's parameter or result.
+# Header and door on one side and the crate on the other could part in what they say, and in where a field lies. So there are three tests.
+#   1. Both sides are turned into one listing, of every field of every struct that crosses and of every proved call, and the two must be
+#      the same. A field that is added, removed, renamed, exchanged with its neighbour or given another type or length in one of them
+#      alone makes them differ; so does a call's parameter or result. Header and door are compared call by call in the same way.
 #   2. Where a field lies is asked of both compilers. For C it is offsetof and sizeof. For Rattle a crate is made from the very
 #      structs, with a function for each field that hands back what it finds there; it is proved and built like any other, and C hands it
 #      an image in which each byte tells its place (tests/c/where.c). So neither side's rule of layout is taken on trust.
 #   3. The archive itself is tried (tests/c/calls.c): every frame or call that sets a field must change the places that the header gives
-#      it, and no other, and no place may be left that nothing has set. So an archive of another edition is found as well.
+#      it, and no other, and no place may be left that nothing has set; a refused call must change nothing. So a door that hands on or
+#      stores the wrong thing is found, and an archive of another edition as well.
 # usage: tests/c.sh [STREAMS]      (so many streams by chance; 60 if nothing is said)
 # ARCHIVE=FILE.a has that archive tried, and none built.
 set -u
@@ -19,7 +20,8 @@ streams=${1:-60}
 work=$(mktemp -d) || exit 2
 trap 'rm -rf "$work"' EXIT
 export LC_ALL=C
-sources='crates/record/src/lib.rt crates/handset/src/lib.rt'
+# the record's first, which has the names of sizes and arrays
+sources="crates/record/src/lib.rt $(grep -l '^#\[repr(C)\]' crates/*/src/lib.rt | grep -v '^crates/record/')"
 
 # A test may end in a part of a pipe, so its verdict goes to a file.
 verdict() { # ok|FAILED TEST
@@ -46,7 +48,7 @@ ends() { # TEST STATUS TEXT COMMAND...: a command's status, and the last line th
 finish() {
     local passed failed
     passed=$(grep -c '^ok' "$work/verdicts")
-    failed=$(grep -vc '^ok' "$work/verdicts")
+    failed=$(grep -c '^FAILED' "$work/verdicts")
     echo "$passed passed, $failed failed"
     [ "$failed" -eq 0 ]
     exit
@@ -64,7 +66,7 @@ program() { # FILE [WORDS...]: under the kit's own loader and C library, as ./ru
 # ./c-build: its own words
 ends "./c-build --help has status 0 and complains of nothing" 0 '' ./c-build --help
 head -n 1 "$work/out" >"$work/first"
-echo 'usage: ./c-build [--cc COMPILER] [--archive FILE.a] FILE.c... -o PROGRAM' | same "./c-build --help has the usage" "$work/first"
+echo 'usage: ./c-build [--target NAME] [--cc COMPILER] [--archive FILE.a] FILE.c... [FILE.ld] -o PROGRAM' | same "./c-build --help has the usage" "$work/first"
 ends "./c-build with an unknown option" 2 'c-build: this word is not taken: --no_such_option' ./c-build --no_such_option
 ends "./c-build with a word that is no C file" 2 'c-build: this word is not taken: a.o' ./c-build a.o -o "$work/x"
 ends "./c-build without -o" 2 'c-build: a C file and -o PROGRAM are wanted' ./c-build a.c
@@ -80,27 +82,50 @@ for tool in sh dirname readlink; do ln -s "$(command -v $tool)" "$work/no_kit/$t
 ends "./c-build without the kit" 2 'c-build: the Rattle kit is missing: its command rt is not on the PATH' \
     env PATH="$work/no_kit" ./c-build tests/c/calls.c -o "$work/x"
 
-# the header by itself
-alone() { # TEST COMPILER-WORDS...
-    local test=$1
-    shift
-    succeeds "$test" "$@" -Wall -Wextra -Werror -pedantic -fsyntax-only include/handset.h
+# 1. what header, door and crate say
+awk -f tests/c/header.awk include/handset.h door/handset.c | sort >"$work/c_says"
+# shellcheck disable=SC2086
+awk -f tests/c/rattle.awk $sources | sort >"$work/crate_says"
+grep -E '^[^(]* handset_[a-z_]+\(.*;$' "$work/c_says" >"$work/declared"
+names() { # PREFIX [PARAMETERS]: the declared calls with that prefix whose parameters begin so
+    sed -n "s/^[^(]* $1\([a-z_]*\)(${2:-}.*;\$/\1/p" "$work/c_says" | sort
+}
+grep -Ev '\{$| handset_[a-z_]+\(' "$work/c_says" | same "header and door have the structs and proved calls of the crate" "$work/crate_says"
+sed -n 's/ {$/;/p' "$work/c_says" | same "the door defines every call as the header declares it" "$work/declared"
+names proved_ >"$work/text"
+names handset_ | grep -vx interface | same "each call of the header has a proved one, and each proved one has its own" "$work/text"
+# shellcheck disable=SC2086
+cat $sources | grep -c '^pub extern "C" fn ' >"$work/text"
+grep -c ');$' "$work/crate_says" | same "every call of the crate was listed" "$work/text"
+echo many >"$work/text"
+awk '!/\(/ { fields++ } END { print (fields > 80 ? "many" : "few") }' "$work/crate_says" | same "the fields were listed" "$work/text"
+for call in $(names handset_); do grep -qw "handset_$call" tests/c/calls.c || echo "$call"; done |
+    same "tests/c/calls.c tries every call" /dev/null
+for call in $(names handset_ '\(const \)*struct handset \*h' | grep -v '^power_on'); do
+    grep -q "REFUSES(!*handset_$call(" tests/c/calls.c || echo "$call"
+done | same "and every one that takes a record, with one that is out of range" /dev/null
+
+# the header by itself: it has no warnings, and a program that ignores what a call hands back has one for each call
+awk 'BEGIN { print "#include \"handset.h\"\nvoid ignore(void);\nvoid ignore(void)\n{" }
+    { places = /\(void\)/ ? "" : "0"; for (k = gsub(/,/, ""); k > 0; k--) places = places ", 0"; sub(/\(.*/, ""); print $NF "(" places ");" }
+    END { print "}" }' "$work/declared" >"$work/ignoring"
+grep -vc '^void' "$work/declared" >"$work/results"
+alone() { # WHOSE LANGUAGE STANDARD COMPILER-WORDS...
+    local whose=$1 language=$2 standard=$3
+    shift 3
+    succeeds "the header as $standard, $whose" "$@" -x "$language" -std="$standard" -Wall -Wextra -Werror -pedantic -fsyntax-only \
+        include/handset.h
+    "$@" -x "$language" -std="$standard" -I include -c "$work/ignoring" -o /dev/null 2>&1 | grep -c '\[-Wunused-result\]' |
+        same "a warning for each result that is ignored in $standard, $whose" "$work/results"
 }
 kit_clang=("$tools/bin/clang" --target=x86_64-unknown-linux-gnu --no-default-config -nostdinc -isystem include/kit)
-alone "the header as C99" "${kit_clang[@]}" -std=c99 -x c
-alone "the header as C11" "${kit_clang[@]}" -std=c11 -x c
-alone "the header as C++98" "${kit_clang[@]}" -std=c++98 -x c++
-alone "the header as C++20" "${kit_clang[@]}" -std=c++20 -x c++
-
-# 1. what header and crate say
-# shellcheck disable=SC2086
-awk -f tests/c/rattle.awk $sources >"$work/crate_says"
-awk -f tests/c/header.awk include/handset.h | same "header and crate have the same structs and calls" "$work/crate_says"
-exported=$(grep -c '^pub extern "C" fn ' crates/handset/src/lib.rt)
-echo "$exported" >"$work/text"
-grep -c '(.*);$' "$work/crate_says" | same "every call of the crate was listed" "$work/text"
-grep -c '' "$work/crate_says" | awk -v calls="$exported" '{ print ($1 > calls + 50 ? "many" : "few") }' >"$work/fields"
-echo many | same "the fields were listed" "$work/fields"
+for standard in c99 c11 c++98 c++17 c++20; do
+    case $standard in c++*) language=c++ system=c++ ;; *) language=c system=cc ;; esac
+    alone "by the kit's clang" $language $standard "${kit_clang[@]}"
+    if command -v $system >/dev/null; then alone "by the system's $system" $language $standard $system; fi
+done
+succeeds "the door as c99, by the kit's clang" "${kit_clang[@]}" -std=c99 -Wall -Wextra -Werror -pedantic -I include -fsyntax-only \
+    door/handset.c
 
 # 2. where each field lies
 mkdir -p "$work/layout/crates/layout/src"
@@ -109,7 +134,7 @@ echo 'layout:' >"$work/layout/crates.txt"
 awk -v crate=1 -f tests/c/rattle.awk $sources >"$work/layout/crates/layout/src/lib.rt"
 # shellcheck disable=SC2086
 awk -v asking=1 -f tests/c/rattle.awk $sources >"$work/asked_of_rattle.h"
-awk -v asking=1 -f tests/c/header.awk include/handset.h >"$work/asked_of_c.h"
+awk -v asking=1 -f tests/c/header.awk include/handset.h door/handset.c >"$work/asked_of_c.h"
 places() { # the two programs that tell where fields lie
     (cd "$work/layout" && rt staticlib layout) &&
         CFLAGS="-DASKED=\"$work/asked_of_rattle.h\"" ./c-build --archive "$work/layout/target/staticlib/liblayout.a" tests/c/where.c \
@@ -118,20 +143,23 @@ places() { # the two programs that tell where fields lie
             -o "$work/where_in_c"
 }
 if succeeds "both compilers can be asked where a field lies" places; then
-    program "$work/where_in_rattle" >"$work/rattle_places"
-    program "$work/where_in_c" | same "each field lies at the same place for both, each struct has the same size" "$work/rattle_places"
+    program "$work/where_in_rattle" | sort >"$work/rattle_places"
+    program "$work/where_in_c" | sort | same "each field lies at the same place for both, each struct has the same size" "$work/rattle_places"
 fi
 
 # the archive
 archive=${ARCHIVE:-target/staticlib/libhandset.a}
 [ -n "${ARCHIVE:-}" ] || succeeds "./c-build builds the archive" ./c-build || finish
-built() { # NAME FILE.c [CFLAGS]
-    CFLAGS=${3:-} succeeds "$2 is compiled and linked" ./c-build --archive "$archive" "$2" -o "$work/$1"
+built() { # NAME CFLAGS FILE.c...
+    local name=$1 flags=$2
+    shift 2
+    CFLAGS=$flags succeeds "$* is compiled and linked" ./c-build --archive "$archive" "$@" -o "$work/$name"
 }
 
-# It asks nothing of C but these two, and has nothing that is written to: else the linker, which is given only them, refuses.
+# It asks nothing of C but these three, and has nothing that is written to: else the linker, which is given only them, refuses.
 cat >"$work/bare.c" <<'C'
 void *memcpy(void *to, const void *from, unsigned long count) { return count ? to : (void *)from; }
+void *memmove(void *to, const void *from, unsigned long count) { return count ? to : (void *)from; }
 void *memset(void *to, int code, unsigned long count) { return count + (unsigned long)code ? to : 0; }
 C
 cat >"$work/bare.ld" <<'LD'
@@ -147,31 +175,33 @@ bare() {
         "$tools/bin/ld.lld" --no-undefined -T "$work/bare.ld" -e handset_feed --whole-archive "$archive" --no-whole-archive "$work/bare.o" \
             -o "$work/bare"
 }
-succeeds "the archive needs memcpy and memset alone, and has no data of its own" bare
+succeeds "the archive needs memcpy, memmove and memset alone, and has no data of its own" bare
 
 # 3. what the archive does
-if built calls tests/c/calls.c -Werror; then
-    program "$work/calls" | tee -a "$work/verdicts"
-    tail -n 1 "$work/verdicts" >"$work/last"
-    echo 'ok     key: ON/OFF' | same "the calls were tried to the end" "$work/last"
+awk -v flags=1 -f tests/c/header.awk include/handset.h >"$work/flags.h"
+if built calls "-Werror -DFLAGS=\"$work/flags.h\"" tests/c/calls.c; then
+    succeeds "the calls are tried to the end" program "$work/calls"
+    tee -a "$work/verdicts" <"$work/said"
 fi
 
 # the examples, with the kit's tools and with the system's
-for example in firmware collector; do
-    built $example examples/$example/main.c -Werror &&
-        program "$work/$example" | same "examples/$example writes what is stored" examples/$example/stdout
-    [ "$(uname -m)" = x86_64 ] && command -v cc >/dev/null || continue
-    CFLAGS=-Werror succeeds "examples/$example with the system's cc" \
-        ./c-build --cc cc --archive "$archive" examples/$example/main.c -o "$work/$example.cc" &&
-        "$work/$example.cc" | same "examples/$example with the system's cc writes the same" examples/$example/stdout
-done
+example() { # NAME FILE.c...
+    local name=$1
+    shift
+    built "$name" -Werror "$@" && program "$work/$name" | same "examples/$name writes what is stored" "examples/$name/stdout"
+    [ "$(uname -m)" = x86_64 ] && command -v cc >/dev/null || return
+    CFLAGS=-Werror succeeds "examples/$name with the system's cc" ./c-build --cc cc --archive "$archive" "$@" -o "$work/$name.cc" &&
+        "$work/$name.cc" | same "examples/$name with the system's cc writes the same" "examples/$name/stdout"
+}
+example firmware examples/firmware/loop.c examples/firmware/linux.c
+example collector examples/collector/main.c
 
 # how deep the calls go: docs/C.md tells the figure
-told=$(sed -n 's/.*no call goes deeper than \([0-9]*\) bytes.*/\1/p' docs/C.md)
-if built stack tests/c/stack.c; then
+told=$(sed -n 's/.*[Oo]n x86-64 no call goes deeper than \([0-9,]*\) bytes.*/\1/p' docs/C.md | tr -d ,)
+if built stack '' tests/c/stack.c; then
     program "$work/stack" >"$work/depths"
-    echo "$((exported - 1))" >"$work/text"
-    grep -c '^handset_' "$work/depths" | same "the depth of each call was measured, of the two power-on records that of one" "$work/text"
+    names handset_ >"$work/text"
+    sed 's/^handset_//; s/ .*//' "$work/depths" | sort | same "the depth of each call was measured" "$work/text"
     awk -v told="${told:-0}" '$2 > told { print }' "$work/depths" | same "no call goes deeper into the stack than docs/C.md says" /dev/null
 fi
 
@@ -235,7 +265,7 @@ answered() { # some of the streams are answered, or they would show little
         program "$work/feed" $seed <"$work/stream" | head -n 1
     done | grep -qv 'REPLIES 0'
 }
-if built feed tests/c/feed.c -Werror; then
+if built feed -Werror tests/c/feed.c; then
     [ -f target/bin/list_screen ] || succeeds "list_screen is built" rt check list_screen
     succeeds "the examples' streams, cut by chance, are listed as list_screen lists them" examples
     succeeds "$streams streams by chance, cut by chance, are listed as list_screen lists them" chosen

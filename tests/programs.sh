@@ -37,7 +37,7 @@ length=$(wc -c <$stream)
 
 # ./run: its own words
 names=$(cd crates && printf '%s\n' */src/main.rt | cut -d / -f 1)
-readers='check_choice count_room drive explain list_screen show_screen write_frame'
+readers='check_choice count_room explain list_screen show_screen write_frame'
 without_progress() { # what was said on standard error, but for how far the proofs are, which a slow machine is told
     grep -Ev '^run: (proving|waiting)' "$work/err"
 }
@@ -99,8 +99,6 @@ ends "./run check_choice FILE" 0 '' ./run check_choice crates/check_choice/stdin
 same "./run check_choice FILE prints the rule" crates/check_choice/stdout <"$work/out"
 ends "./run write_frame FILE" 0 '' ./run write_frame examples/menu.words
 same "./run write_frame FILE writes the frames" examples/menu.stream <"$work/out"
-ends "./run drive FILE" 0 '' ./run drive crates/drive/stdin
-same "./run drive FILE prints the answers" crates/drive/stdout <"$work/out"
 cp $stream "$work/a name with  blanks"
 ends "./run list_screen, a name with blanks" 0 '' ./run list_screen "$work/a name with  blanks"
 same "./run list_screen, a name with blanks: the fields" crates/list_screen/stdout <"$work/out"

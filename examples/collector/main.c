@@ -5,6 +5,7 @@
  */
 #include "handset.h"
 
+#include <stddef.h>
 #include <stdio.h>
 #include <string.h>
 
@@ -38,26 +39,32 @@ static size_t room_left(const struct stream *stream)
     return sizeof stream->bytes - stream->count;
 }
 
-/* A writer wrote its frame whole or not at all. */
-static void written(struct stream *stream, struct handset_count count)
+/* A writer wrote its frame whole, or ended with another number than 0 and wrote nothing. */
+static void add(struct stream *stream, uint8_t number, uint64_t written)
 {
-    stream->count += count.count;
-    stream->whole = stream->whole && count.number == HANDSET_DONE;
+    stream->count += (size_t)written;
+    stream->whole = stream->whole && number == HANDSET_DONE;
 }
 
 static void command(struct stream *stream, uint8_t kind, uint16_t a, uint16_t b)
 {
-    written(stream, handset_write_command(kind, a, b, room(stream), room_left(stream)));
+    uint64_t written;
+    uint8_t number = handset_write_command(kind, a, b, room(stream), room_left(stream), &written);
+    add(stream, number, written);
 }
 
 static void label(struct stream *stream, uint8_t side, const char *codes)
 {
-    written(stream, handset_write_label(side, (const uint8_t *)codes, strlen(codes), room(stream), room_left(stream)));
+    uint64_t written;
+    uint8_t number = handset_write_label(side, (const uint8_t *)codes, strlen(codes), room(stream), room_left(stream), &written);
+    add(stream, number, written);
 }
 
 static void picture_row(struct stream *stream, uint8_t row, const uint8_t *columns, size_t count)
 {
-    written(stream, handset_write_picture_row(row, columns, count, room(stream), room_left(stream)));
+    uint64_t written;
+    uint8_t number = handset_write_picture_row(row, columns, count, room(stream), room_left(stream), &written);
+    add(stream, number, written);
 }
 
 /* Text is no frame: its codes go out as they are. */
@@ -95,11 +102,12 @@ static void write_screen(struct stream *stream, bool with_right_label)
 static bool keeps_the_rules(const struct stream *stream)
 {
     static const char *const rules[] = {"yes", "no screen first", "a label is missing", "a question mark", "a frame is open"};
-    struct handset_choice choice = handset_check_choice(stream->bytes, stream->count);
-    printf("checked %d bytes: %s", (int)stream->count, rules[choice.rule]);
-    if (choice.rule != HANDSET_RULE_NONE) printf(", rule %d at %d", choice.rule, (int)choice.offset);
+    uint64_t offset;
+    uint8_t rule = handset_check_choice(stream->bytes, stream->count, &offset);
+    printf("checked %d bytes: %s", (int)stream->count, rules[rule]);
+    if (rule != HANDSET_RULE_NONE) printf(", rule %d at %d", rule, (int)offset);
     putchar('\n');
-    return choice.rule == HANDSET_RULE_NONE;
+    return rule == HANDSET_RULE_NONE;
 }
 
 static struct handset phone;
@@ -114,15 +122,16 @@ static void show_answers(const uint8_t *bytes, size_t count)
     putchar('\n');
 }
 
-/* Answers how many bytes the handset used; the others are to be sent again. */
+/* How many bytes the handset used; the others are to be sent again. With room for the longest answer it uses one at least, so none means
+ * that it refused the call. */
 static size_t send_piece(const uint8_t *bytes, size_t count)
 {
     uint8_t answers[HANDSET_LONGEST_ANSWER];
-    struct handset_fed fed =
-        handset_feed(phone.small, phone.text, phone.picture, phone.frame, bytes, count, answers, sizeof answers);
-    phone.small = fed.small;
-    show_answers(answers, fed.written);
-    return fed.used;
+    uint64_t used, written;
+    uint8_t number = handset_feed(&phone, bytes, count, answers, sizeof answers, &used, &written);
+    if (number != HANDSET_DONE) printf("refused with %d\n", number);
+    show_answers(answers, (size_t)written);
+    return (size_t)used;
 }
 
 static void send(const struct stream *stream)
@@ -130,14 +139,17 @@ static void send(const struct stream *stream)
     size_t sent = 0;
     while (sent < stream->count) {
         size_t left = stream->count - sent;
-        sent += send_piece(stream->bytes + sent, left < PIECE ? left : PIECE);
+        size_t used = send_piece(stream->bytes + sent, left < PIECE ? left : PIECE);
+        if (used == 0) return;
+        sent += used;
     }
     printf("sent\n");
 }
 
 static void show_row(uint8_t display_row)
 {
-    struct handset_row row = handset_row_seen(phone.small, phone.text, phone.picture, phone.frame, display_row, HANDSET_LIT);
+    struct handset_row row;
+    if (handset_row_seen(&phone, display_row, HANDSET_LIT, &row) != HANDSET_DONE) return;
     if (row.owner == HANDSET_OWNER_TEXT_ROW) printf("row %d text [%.16s]\n", display_row, (const char *)row.codes);
     if (row.owner == HANDSET_OWNER_PICTURE_ROW) printf("row %d picture, columns from %02X on\n", display_row, row.columns[0]);
     if (row.owner == HANDSET_OWNER_SOFT_KEYS)
@@ -158,7 +170,11 @@ static void ask(bool with_right_label)
 
 int main(void)
 {
-    phone.small = handset_power_on(phone.text, phone.picture, phone.frame);
+    if (handset_interface() != HANDSET_INTERFACE) {
+        printf("header and archive have different interfaces\n");
+        return 1;
+    }
+    handset_power_on(&phone);
     ask(false);
     ask(true);
     return 0;

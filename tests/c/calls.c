@@ -1,590 +1,843 @@
 /*
- * Tries through include/handset.h what the archive does, so that a field or a number that stands elsewhere in one of them is found:
- *   - each frame, key, hook or second that sets a field is sent to a power-on record, and exactly the places that the header gives
- *     that field must change, to the value that was sent. At the end no place of the small part may be left that nothing has set;
- *   - each field of what a call hands back is read off an answer in which it has a value of its own;
- *   - each number that crosses is tried by what it does.
- * A line for each test; tests/c.sh counts them.
+ * Tries through include/handset.h what the archive does, so that a field or a number that stands elsewhere in header, door or crate is
+ * found. All that a call can be lent is one struct, and there are two of it: `now` is lent, and in `wanted` a test says what is to become
+ * of it. Then both are compared byte by byte, so that a call is also held to what it must leave alone.
+ *   - Each frame or call that sets a field of a record is tried on its own, and at the end no place of the record may be left that
+ *     nothing has set.
+ *   - Each field of an answer, and each number that crosses, is tried by a value of its own.
+ *   - Each call that takes a record is to refuse one that is out of range, and leave it.
+ * FLAGS names a table of every flag of a record, which awk made from the header. A line for each test; tests/c.sh counts them.
  */
 #include "handset.h"
 
+#include <stddef.h>
 #include <stdio.h>
 #include <string.h>
 
-enum { ROOM = 256, STREAM = 512, MOST_PLACES = 8, ESC = 0x1B };
+#define COUNT(table) (sizeof(table) / sizeof *(table))
+#define FRAME(body) "\033" body "\r"
 
-static struct handset phone;
-static uint8_t room[ROOM];
+enum { ROOM = HANDSET_LONGEST_WRITTEN + 1, PAINT = 0x5A, ESC = 0x1B };
 
-/* which places of the small part some test has set */
-static bool reached[sizeof(struct handset_small)];
+struct lent {
+    struct handset h;
+    struct handset_backlight light;
+    uint8_t room[ROOM];
+    struct {
+        uint64_t used, written;
+    } fed;
+    uint64_t needed, offset;
+    uint16_t number_out;
+    struct handset_part part;
+    struct handset_panel panel;
+    struct handset_row row;
+    struct handset_column column;
+    uint8_t number; /* what the call handed back */
+};
+
+#define AT(field) offsetof(struct lent, field)
+
+static struct lent before, now, wanted;
+
+/* which places of the record some test has set */
+static bool reached[sizeof(struct handset)];
 
 static void verdict(bool ok, const char *group, const char *test)
 {
     printf("%-6s %s: %s\n", ok ? "ok" : "FAILED", group, test);
 }
 
-static void power_on(void)
+/* From here on it counts what changes. */
+static void begin(void)
 {
-    memset(&phone, 0, sizeof phone);
-    phone.small = handset_power_on(phone.text, phone.picture, phone.frame);
+    memcpy(&before, &now, sizeof now);
+    memcpy(&wanted, &now, sizeof now);
 }
 
-static struct handset_fed feed(const uint8_t *bytes, size_t count)
+/* the places inside that belong to no field */
+static bool padding(size_t at)
 {
-    struct handset_fed fed = handset_feed(phone.small, phone.text, phone.picture, phone.frame, bytes, count, room, sizeof room);
-    phone.small = fed.small;
-    return fed;
+    return (at > AT(h.small.held.long_stage) && at < AT(h.small.state)) || (at > AT(part.kind) && at < AT(part.end));
+}
+
+static bool as_wanted(void)
+{
+    const uint8_t *was = (const uint8_t *)&before, *is = (const uint8_t *)&now, *to_be = (const uint8_t *)&wanted;
+    bool ok = true;
+    for (size_t at = 0; at < sizeof now; at++) {
+        if (padding(at)) continue;
+        if (ok && is[at] != to_be[at]) {
+            printf("  place %d is %d and not %d\n", (int)at, is[at], to_be[at]);
+            ok = false;
+        }
+        if (at < sizeof reached && was[at] != to_be[at]) reached[at] = true;
+    }
+    begin();
+    return ok;
+}
+
+static void check(const char *group, const char *test)
+{
+    verdict(as_wanted(), group, test);
+}
+
+/* A call, and what it is to hand back. */
+#define MAKE(call, with) (now.number = (call), wanted.number = (with))
+
+/* A call that is refused leaves all as it was, but that it stores zero where it would answer: at this place of struct lent, so long. */
+#define REFUSED(group, test, call, with, answer) (MAKE(call, with), cleared(answer), check(group, test))
+#define ANSWER(field) AT(field), sizeof now.field
+#define NO_ANSWER 0, 0
+
+static void cleared(size_t answer, size_t size)
+{
+    memset((uint8_t *)&wanted + answer, 0, size);
+}
+
+/* The counts, and what the room is to begin with. */
+static void counted(uint64_t used, const void *written, size_t count)
+{
+    wanted.fed.used = used;
+    wanted.fed.written = count;
+    memcpy(wanted.room, written, count);
+}
+
+/* where a call stores its counts */
+#define FED &now.fed.used, &now.fed.written
+
+/* A stream that is taken whole and not answered, if the test does not say otherwise. */
+static void feed(const void *bytes, size_t count)
+{
+    MAKE(handset_feed(&now.h, bytes, count, now.room, ROOM, FED), HANDSET_DONE);
+    counted(count, "", 0);
 }
 
 /* ESC, a frame and CR */
-static struct handset_fed send(const char *frame)
+static void send(const char *frame)
 {
-    uint8_t bytes[STREAM];
+    uint8_t bytes[64];
     size_t count = strlen(frame);
     bytes[0] = ESC;
     memcpy(bytes + 1, frame, count);
     bytes[count + 1] = '\r';
-    return feed(bytes, count + 2);
+    feed(bytes, count + 2);
 }
 
-static struct handset_fed log_key(uint16_t tick, uint8_t edge)
+/* A key log of one entry, which is taken and sends nothing, if the test does not say otherwise. */
+static void log_entry(uint16_t tick, uint8_t edge)
 {
-    struct handset_fed fed =
-        handset_take_log(phone.small, phone.text, phone.picture, phone.frame, &tick, 1, &edge, 1, room, sizeof room);
-    phone.small = fed.small;
-    return fed;
+    MAKE(handset_take_log(&now.h, &tick, 1, &edge, 1, now.room, ROOM, FED), HANDSET_DONE);
+    counted(1, "", 0);
 }
 
-/* ---- Fields of the small part ---- */
+/* A handset after power-on and this stream. All else is painted, so that whatever a call stores there is seen. */
+static void prepare(const char *stream)
+{
+    struct handset h;
+    memset(&now, PAINT, sizeof now);
+    handset_power_on(&now.h);
+    feed(stream, strlen(stream));
+    if (now.number != HANDSET_DONE || now.fed.used != strlen(stream)) verdict(false, "prepare", "the next test's stream");
+    memcpy(&h, &now.h, sizeof h);
+    memset(&now, PAINT, sizeof now);
+    memcpy(&now.h, &h, sizeof h);
+    begin();
+}
+
+/* ---- Fields of the record ---- */
 
 struct place {
+    bool set;
     size_t at;
     uint8_t value;
 };
 
-#define FIELD(field) offsetof(struct handset_small, field)
-
-/* the one place inside that belongs to no field */
-static bool padding(size_t at)
-{
-    return at == FIELD(held.long_stage) + sizeof(bool) && at < FIELD(state);
-}
-
-static void changed(const struct handset_small *before, const struct place *places, size_t count, const char *test)
-{
-    uint8_t expected[sizeof *before], got[sizeof *before];
-    bool ok = true;
-    memcpy(expected, before, sizeof expected);
-    memcpy(got, &phone.small, sizeof got);
-    for (size_t i = 0; i < count; i++) {
-        ok = ok && expected[places[i].at] != places[i].value;
-        expected[places[i].at] = places[i].value;
-        reached[places[i].at] = true;
-    }
-    for (size_t at = 0; at < sizeof got; at++) ok = ok && (padding(at) || got[at] == expected[at]);
-    verdict(ok, "field", test);
-}
+#define SET(field, value) {true, AT(h.small.settings.field), value}
+#define SET_LABEL(side, code)                                                                                                          \
+    SET(side.len, 7), SET(side.codes[0], code), SET(side.codes[1], code + 1), SET(side.codes[2], code + 2),                            \
+        SET(side.codes[3], code + 3), SET(side.codes[4], code + 4), SET(side.codes[5], code + 5), SET(side.codes[6], code + 6)
 
 struct step {
-    const char *first; /* a frame that prepares, or null */
+    const char *first; /* what prepares */
     const char *frame;
-    struct place places[MOST_PLACES];
-    size_t count;
+    struct place places[8];
 };
 
 static const struct step steps[] = {
-    {NULL, "IDD", {{FIELD(settings.screen.display), 0}}, 1},
-    {NULL, "ID5", {{FIELD(settings.screen.mode), 5}}, 1},
-    {NULL, "ID13", {{FIELD(settings.screen.overlay), 13}}, 1},
-    {NULL, "[2;7H", {{FIELD(settings.screen.row), 2}, {FIELD(settings.screen.column), 7}}, 2},
-    {NULL, "&C", {{FIELD(settings.shown), 1}}, 1},
-    {NULL,
-     "IK1ABCDEFG",
-     {{FIELD(settings.left.len), 7},
-      {FIELD(settings.left.codes[0]), 'A'},
-      {FIELD(settings.left.codes[1]), 'B'},
-      {FIELD(settings.left.codes[2]), 'C'},
-      {FIELD(settings.left.codes[3]), 'D'},
-      {FIELD(settings.left.codes[4]), 'E'},
-      {FIELD(settings.left.codes[5]), 'F'},
-      {FIELD(settings.left.codes[6]), 'G'}},
-     8},
-    {NULL,
-     "IK2abcdefg",
-     {{FIELD(settings.right.len), 7},
-      {FIELD(settings.right.codes[0]), 'a'},
-      {FIELD(settings.right.codes[1]), 'b'},
-      {FIELD(settings.right.codes[2]), 'c'},
-      {FIELD(settings.right.codes[3]), 'd'},
-      {FIELD(settings.right.codes[4]), 'e'},
-      {FIELD(settings.right.codes[5]), 'f'},
-      {FIELD(settings.right.codes[6]), 'g'}},
-     8},
-    {NULL, "IS1", {{FIELD(settings.icons.s), 1}}, 1},
-    {NULL, "IU255", {{FIELD(settings.icons.u), 255}}, 1},
-    {NULL, "IF6", {{FIELD(settings.icons.f), 6}}, 1},
-    {NULL, "IR1", {{FIELD(settings.icons.r), 1}}, 1},
-    {NULL, "IP19", {{FIELD(settings.icons.p), 19}}, 1},
-    {NULL, "IW3", {{FIELD(settings.icons.w), 3}}, 1},
-    {NULL, "IL7", {{FIELD(settings.volume.which), HANDSET_WHICH_PRIVATE}, {FIELD(settings.volume.level), 7}}, 2},
-    {NULL, "IJ9", {{FIELD(settings.volume.which), HANDSET_WHICH_HANDSFREE}, {FIELD(settings.volume.level), 9}}, 2},
-    {NULL, "IM1", {{FIELD(settings.volume.mute), 1}}, 1},
-    {NULL, "IL0", {{FIELD(settings.volume.hidden), 1}}, 1},
-    {NULL, "IT4;50", {{FIELD(settings.times.time1), 4}, {FIELD(settings.times.time2), 50}}, 2},
-    {NULL, "IB200", {{FIELD(settings.buzzer), 200}}, 1},
-    {NULL, "IEE", {{FIELD(settings.backlight.mode), HANDSET_LIGHT_ON}}, 1},
-    {NULL, "IES", {{FIELD(settings.backlight.mode), HANDSET_LIGHT_AUTO}}, 1},
-    {NULL, "IE77", {{FIELD(settings.backlight.duration), 77}}, 1},
-    {"IES", "IEA", {{FIELD(settings.backlight.left), 30}}, 1},
-    {NULL, "IEe", {{FIELD(settings.backlight.keypad), 1}}, 1},
-    {NULL, "IA20", {{FIELD(settings.contrast), 20}}, 1},
-    {NULL, "IZ1", {{FIELD(settings.inverse[0]), 1}}, 1},
-    {NULL, "IZ2", {{FIELD(settings.inverse[1]), 1}}, 1},
-    {NULL, "IZ3", {{FIELD(settings.inverse[2]), 1}}, 1},
-    {NULL, "IZ4", {{FIELD(settings.inverse[3]), 1}}, 1},
-    {"ID5", "IZ5", {{FIELD(settings.inverse[4]), 1}}, 1},
+    {"", "IDD", {SET(screen.display, 0)}},
+    {FRAME("IDD"), "IDE", {SET(screen.display, 1)}},
+    {"", "ID1", {SET(screen.mode, HANDSET_MODE_1)}},
+    {"", "ID5", {SET(screen.mode, HANDSET_MODE_5)}},
+    {"", "ID6", {SET(screen.mode, HANDSET_MODE_6)}},
+    {"", "ID10", {SET(screen.mode, HANDSET_MODE_LARGE)}},
+    {FRAME("ID5"), "ID0", {SET(screen.mode, HANDSET_MODE_0)}},
+    {"", "ID11", {SET(screen.overlay, HANDSET_OVERLAY_FIRST)}},
+    {"", "ID18", {SET(screen.overlay, HANDSET_OVERLAY_LAST)}},
+    {FRAME("ID13"), "ID0", {SET(screen.overlay, HANDSET_OVERLAY_NONE)}},
+    {"", "[2;7H", {SET(screen.row, 2), SET(screen.column, 7)}},
+    {"", "&C", {SET(shown, 1)}},
+    {"", "IK1ABCDEFG", {SET_LABEL(left, 'A')}},
+    {"", "IK2abcdefg", {SET_LABEL(right, 'a')}},
+    {"", "IS1", {SET(icons.s, 1)}},
+    {"", "IU255", {SET(icons.u, 255)}},
+    {"", "IF6", {SET(icons.f, 6)}},
+    {"", "IR1", {SET(icons.r, 1)}},
+    {"", "IP19", {SET(icons.p, 19)}},
+    {"", "IW3", {SET(icons.w, 3)}},
+    {"", "IL7", {SET(volume.which, HANDSET_WHICH_PRIVATE), SET(volume.level, 7)}},
+    {"", "IJ9", {SET(volume.which, HANDSET_WHICH_HANDSFREE), SET(volume.level, 9)}},
+    {FRAME("IJ9"), "IL0", {SET(volume.which, HANDSET_WHICH_NONE), SET(volume.level, 0), SET(volume.hidden, 1)}},
+    {"", "IM1", {SET(volume.mute, 1)}},
+    {"", "IT4;50", {SET(times.time1.tenths, 4), SET(times.time2.tenths, 50)}},
+    {"", "IB200", {SET(buzzer.hundredths, 200)}},
+    {"", "IEE", {SET(backlight.mode, HANDSET_LIGHT_ON)}},
+    {"", "IES", {SET(backlight.mode, HANDSET_LIGHT_AUTO)}},
+    {FRAME("IEE"), "IE0", {SET(backlight.mode, HANDSET_LIGHT_OFF)}},
+    {"", "IE77", {SET(backlight.duration.seconds, 77)}},
+    {FRAME("IES"), "IEA", {SET(backlight.left.seconds, 30)}},
+    {"", "IEe", {SET(backlight.keypad, 1)}},
+    {"", "IA20", {SET(contrast, 20)}},
+    {"", "IZ1", {SET(inverse[0], 1)}},
+    {"", "IZ2", {SET(inverse[1], 1)}},
+    {"", "IZ3", {SET(inverse[2], 1)}},
+    {"", "IZ4", {SET(inverse[3], 1)}},
+    {FRAME("ID5"), "IZ5", {SET(inverse[4], 1)}},
 };
 
 static void try_step(const struct step *step)
 {
-    struct handset_small before;
-    power_on();
-    if (step->first) send(step->first);
-    before = phone.small;
+    prepare(step->first);
     send(step->frame);
-    changed(&before, step->places, step->count, step->frame);
+    for (const struct place *place = step->places; place < step->places + COUNT(step->places) && place->set; place++)
+        ((uint8_t *)&wanted)[place->at] = place->value;
+    check("field", step->frame);
 }
 
 static void try_hook(void)
 {
-    struct handset_small before;
-    struct handset_after after;
-    const struct place lifted = {FIELD(settings.hook), 0};
-    power_on();
-    before = phone.small;
-    after = handset_hook(phone.small, phone.text, phone.picture, phone.frame, false);
-    phone.small = after.small;
-    changed(&before, &lifted, 1, "the hook");
-    verdict(after.number == HANDSET_DONE, "after", "the hook call is done");
+    static const uint8_t on[] = {1, 2, 128, 255};
+    for (size_t i = 0; i < COUNT(on); i++) {
+        prepare("");
+        MAKE(handset_hook(&now.h, 0), HANDSET_DONE);
+        wanted.h.small.settings.hook = false;
+        check("field", "it is lifted");
+        MAKE(handset_hook(&now.h, on[i]), HANDSET_DONE);
+        wanted.h.small.settings.hook = true;
+        check("field", "it is hung up");
+    }
 }
 
 static void try_second(void)
 {
-    struct handset_small before;
-    struct handset_after after;
-    const struct place left = {FIELD(settings.backlight.left), 29};
-    power_on();
-    send("IEA");
-    before = phone.small;
-    after = handset_second(phone.small, phone.text, phone.picture, phone.frame);
-    phone.small = after.small;
-    changed(&before, &left, 1, "a second");
-    verdict(after.number == HANDSET_DONE, "after", "a second is done");
+    prepare(FRAME("IEA"));
+    MAKE(handset_second(&now.h), HANDSET_DONE);
+    wanted.h.small.settings.backlight.left.seconds = 29;
+    check("field", "a second");
 }
 
 static void try_held(void)
 {
-    struct handset_small before;
-    const struct place pressed[] = {
-        {FIELD(held.down), 1}, {FIELD(held.key), HANDSET_KEY_HASH}, {FIELD(held.tick), 0xCD}, {FIELD(held.tick) + 1, 0xAB}};
-    const struct place lengthened[] = {{FIELD(held.tick), 0x45}, {FIELD(held.tick) + 1, 0xAC}, {FIELD(held.long_stage), 1}};
-    power_on();
-    before = phone.small;
-    log_key(0xABCD, HANDSET_PRESS + HANDSET_KEY_HASH);
-    changed(&before, pressed, 4, "a press");
-    before = phone.small;
-    log_key(0xABCD + 120, HANDSET_POLL);
-    changed(&before, lengthened, 3, "a long key");
+    struct handset_held *held = &wanted.h.small.held;
+    prepare("");
+    log_entry(0xABCD, HANDSET_PRESS + HANDSET_KEY_HASH);
+    held->down = true;
+    held->key = HANDSET_KEY_HASH;
+    held->tick.tick = 0xABCD;
+    check("field", "a press");
+    log_entry(0xABCD + 120, HANDSET_POLL);
+    held->tick.tick = 0xABCD + 120;
+    held->long_stage = true;
+    counted(1, "\xA3", 1);
+    check("field", "a long key");
+    log_entry(0xABCD + 121, HANDSET_RELEASE + HANDSET_KEY_HASH);
+    memset(held, 0, sizeof *held);
+    check("field", "its release");
 }
 
-static void try_open_frame(void)
+/* Codes that are neither 0, blank, ESC nor CR. */
+static void try_arrays(void)
 {
-    struct handset_small before;
-    const uint8_t bytes[] = {ESC, 'I', 'K', '1'};
-    const struct place open[] = {{FIELD(state), HANDSET_FRAME_OPEN}, {FIELD(len), 3}};
-    power_on();
-    before = phone.small;
-    feed(bytes, sizeof bytes);
-    changed(&before, open, 2, "an open frame");
-    verdict(memcmp(phone.frame, bytes + 1, 3) == 0 && phone.frame[3] == 0, "array", "the bytes of an open frame");
-}
+    uint8_t codes[HANDSET_FRAME_SIZE];
+    for (size_t i = 0; i < sizeof codes; i++) codes[i] = (uint8_t)('!' + i % 200);
 
-static void try_overlong_frame(void)
-{
-    struct handset_small before;
-    uint8_t bytes[1 + HANDSET_FRAME_SIZE + 1];
-    const struct place overlong = {FIELD(state), HANDSET_FRAME_OVERLONG};
-    memset(bytes, 'x', sizeof bytes);
-    bytes[0] = ESC;
-    power_on();
-    before = phone.small;
-    feed(bytes, sizeof bytes);
-    changed(&before, &overlong, 1, "an overlong frame");
-}
-
-static void try_all_reached(void)
-{
-    bool ok = true;
-    for (size_t at = 0; at < sizeof(struct handset_small); at++) {
-        if (reached[at] || padding(at)) continue;
-        printf("nothing has set the place %d of struct handset_small\n", (int)at);
-        ok = false;
+    prepare(FRAME("ID5"));
+    for (int row = 0; row < HANDSET_TEXT_ROWS; row++) {
+        char position[] = "[0;0H";
+        position[1] = (char)('0' + row);
+        send(position);
+        feed(codes + row * HANDSET_TEXT_ROW_SIZE, HANDSET_TEXT_ROW_SIZE);
     }
-    verdict(ok, "field", "every place of the small part was set by something");
+    memcpy(wanted.h.text, codes, HANDSET_TEXT_ROWS * HANDSET_TEXT_ROW_SIZE);
+    wanted.h.small.settings.screen.row = 4;
+    wanted.h.small.settings.screen.column = HANDSET_TEXT_ROW_SIZE;
+    check("field", "the text rows");
+
+    prepare(FRAME("ID10"));
+    feed(codes, HANDSET_LARGE_LINE_SIZE);
+    memcpy(wanted.h.text + 80, codes, HANDSET_LARGE_LINE_SIZE);
+    wanted.h.small.settings.screen.column = HANDSET_LARGE_LINE_SIZE;
+    check("field", "the large line");
+
+    prepare("\033");
+    feed(codes, HANDSET_FRAME_SIZE);
+    memcpy(wanted.h.frame, codes, HANDSET_FRAME_SIZE);
+    wanted.h.small.len = HANDSET_FRAME_SIZE;
+    check("field", "the bytes of a frame");
+    feed("x", 1);
+    memset(wanted.h.frame, 0, HANDSET_FRAME_SIZE);
+    wanted.h.small.state = HANDSET_FRAME_OVERLONG;
+    wanted.h.small.len = 0;
+    check("field", "an overlong frame");
+    feed("\r\033", 2);
+    counted(2, "?", 1);
+    wanted.h.small.state = HANDSET_FRAME_OPEN;
+    check("field", "an open frame");
+    feed("&C\r", 3);
+    wanted.h.small.settings.shown = true;
+    wanted.h.small.state = HANDSET_FRAME_NONE;
+    check("field", "no frame");
+}
+
+/* Through the writer, whose answer is the stream. */
+static void try_picture(void)
+{
+    prepare("");
+    for (uint8_t row = 0; row < HANDSET_DISPLAY_ROWS; row++) {
+        uint8_t columns[HANDSET_DISPLAY_COLUMNS], bytes[HANDSET_LONGEST_WRITTEN];
+        uint64_t count;
+        for (size_t i = 0; i < sizeof columns; i++) columns[i] = (uint8_t)(1 + (i + row) % 31);
+        if (handset_write_picture_row(row, columns, sizeof columns, bytes, sizeof bytes, &count) == HANDSET_DONE) feed(bytes, count);
+        memcpy(wanted.h.picture + row * HANDSET_DISPLAY_COLUMNS, columns, sizeof columns);
+    }
+    check("field", "the picture rows");
 }
 
 static void try_fields(void)
 {
-    for (size_t i = 0; i < sizeof steps / sizeof *steps; i++) try_step(&steps[i]);
+    bool ok = true;
+    for (size_t i = 0; i < COUNT(steps); i++) try_step(&steps[i]);
     try_hook();
     try_second();
     try_held();
-    try_open_frame();
-    try_overlong_frame();
-    try_all_reached();
+    try_arrays();
+    try_picture();
+    for (size_t at = 0; at < sizeof reached; at++) {
+        if (reached[at] || padding(at)) continue;
+        printf("  nothing has set the place %d of struct handset\n", (int)at);
+        ok = false;
+    }
+    verdict(ok, "field", "every place of the record was set by something");
 }
 
-/* ---- Arrays and power-on ---- */
-
-static bool all_are(const uint8_t *places, size_t count, uint8_t value)
+static void try_sizes(void)
 {
-    for (size_t i = 0; i < count; i++)
-        if (places[i] != value) return false;
-    return true;
+    static const size_t sizes[][2] = {
+        {sizeof now.h.text, HANDSET_TEXT_SIZE},
+        {sizeof now.h.text, HANDSET_TEXT_ROWS * HANDSET_TEXT_ROW_SIZE + HANDSET_LARGE_LINE_SIZE},
+        {sizeof now.h.picture, HANDSET_PICTURE_SIZE},
+        {sizeof now.h.picture, HANDSET_DISPLAY_ROWS * HANDSET_DISPLAY_COLUMNS},
+        {sizeof now.h.frame, HANDSET_FRAME_SIZE},
+        {sizeof now.h.small.settings.left.codes, HANDSET_LABEL_SIZE},
+        {sizeof now.h.small.settings.inverse, HANDSET_TEXT_ROWS},
+        {sizeof now.row.codes, HANDSET_TEXT_ROW_SIZE},
+        {sizeof now.row.columns, HANDSET_DISPLAY_COLUMNS},
+    };
+    bool ok = true;
+    for (size_t i = 0; i < COUNT(sizes); i++) ok = ok && sizes[i][0] == sizes[i][1];
+    verdict(ok, "sizes", "those of the arrays");
 }
 
-static void try_power_on(void)
+static void try_power_on(void (*power_on)(struct handset *), uint8_t time2, const char *test)
 {
-    struct handset_small small;
-    memset(&phone, 0x5A, sizeof phone);
-    small = handset_power_on(phone.text, phone.picture, phone.frame);
-    verdict(all_are(phone.text, sizeof phone.text, ' '), "power-on", "the text is blank");
-    verdict(all_are(phone.picture, sizeof phone.picture, 0), "power-on", "the picture is empty");
-    verdict(all_are(phone.frame, sizeof phone.frame, 0), "power-on", "there is no frame");
-    verdict(small.settings.times.time1.tenths == 12 && small.settings.times.time2.tenths == 0, "power-on", "Time1 12, Time2 0");
-    verdict(handset_in_range(small, phone.text, phone.picture, phone.frame), "power-on", "the record is in range");
-    small = handset_power_on_former(phone.text, phone.picture, phone.frame);
-    verdict(small.settings.times.time1.tenths == 12 && small.settings.times.time2.tenths == 12, "power-on", "the former Time2 is 12");
+    struct handset_settings *settings = &wanted.h.small.settings;
+    memset(&now, PAINT, sizeof now);
+    begin();
+    power_on(&now.h);
+    memset(&wanted.h, 0, sizeof wanted.h);
+    memset(wanted.h.text, ' ', sizeof wanted.h.text);
+    settings->screen.display = true;
+    settings->times.time1.tenths = 12;
+    settings->times.time2.tenths = time2;
+    settings->backlight.duration.seconds = 30;
+    settings->contrast = 10;
+    settings->hook = true;
+    check("power-on", test);
+    MAKE(handset_in_range(&now.h), true);
+    check("power-on", "it is in range");
 }
 
-static void try_arrays(void)
+/* ---- How calls end, counts and room ---- */
+
+static void try_fed(void)
 {
-    power_on();
-    send("ID5");
-    send("[4;15H");
-    feed((const uint8_t *)"z", 1);
-    verdict(phone.text[79] == 'z' && all_are(phone.text, 79, ' '), "array", "the last code of text row 4");
-    send("ID10");
-    feed((const uint8_t *)"0123456789abcdefghijklmn", 24);
-    verdict(memcmp(phone.text + 80, "0123456789abcdefghijklmn", 24) == 0, "array", "the large line");
-    send("Gr6,yFFyFFyFFp1Fz");
-    verdict(all_are(phone.picture, 576, 0) && all_are(phone.picture + 576, 95, 31) && phone.picture[671] == 0, "array", "picture row 6");
-    phone.text[103] = 0x1F;
-    verdict(!handset_in_range(phone.small, phone.text, phone.picture, phone.frame), "array", "the last code of the text is judged");
-    phone.text[103] = ' ';
-    phone.picture[671] = 32;
-    verdict(!handset_in_range(phone.small, phone.text, phone.picture, phone.frame), "array", "the last column of the picture is judged");
-    phone.picture[671] = 31;
-    phone.frame[249] = 1;
-    verdict(!handset_in_range(phone.small, phone.text, phone.picture, phone.frame), "array", "the last byte of the frame is judged");
-    phone.frame[249] = 0;
-    verdict(handset_in_range(phone.small, phone.text, phone.picture, phone.frame), "array", "all of them in range");
+    const uint8_t *version = (const uint8_t *)FRAME("&V");
+    prepare("");
+    feed("a\033Q\rb\033IH\rc", 10);
+    counted(10, "?\033IHH\r", 6);
+    memcpy(wanted.h.text, "abc", 3);
+    wanted.h.small.settings.screen.column = 3;
+    check("fed", "all bytes, two answers");
+
+    prepare("");
+    MAKE(handset_feed(&now.h, version, 4, now.room, HANDSET_LONGEST_ANSWER - 1, FED), HANDSET_DONE);
+    counted(3, "", 0);
+    wanted.h.small.state = HANDSET_FRAME_OPEN;
+    wanted.h.small.len = 2;
+    memcpy(wanted.h.frame, "&V", 2);
+    check("fed", "a byte less than the longest answer");
+    MAKE(handset_feed(&now.h, version + 3, 1, now.room, HANDSET_LONGEST_ANSWER, FED), HANDSET_DONE);
+    counted(1, FRAME("&VHA209 V.01.01 11.07.2006") "\n", HANDSET_LONGEST_ANSWER);
+    wanted.h.small.state = HANDSET_FRAME_NONE;
+    wanted.h.small.len = 0;
+    memset(wanted.h.frame, 0, 2);
+    check("fed", "the longest answer");
+
+    prepare("");
+    MAKE(handset_room_needed(&now.h, (const uint8_t *)"\033\033\033\r", 4, &now.needed), HANDSET_DONE);
+    wanted.needed = 3;
+    check("needed", "room for three question marks");
 }
 
-/* ---- What calls hand back ---- */
-
-static void try_numbers(void)
+static void try_log(void)
 {
-    struct handset_fed fed;
-    struct handset_small broken;
-    const uint16_t ticks[] = {1, 2};
-    const uint8_t edges[] = {HANDSET_POLL, HANDSET_KEY_ON_OFF + 1};
-    power_on();
-    fed = feed((const uint8_t *)"a\033Q\rb\033&V\rc", 10);
-    verdict(fed.number == HANDSET_DONE && fed.used == 10 && fed.written == 1 + HANDSET_LONGEST_ANSWER, "fed", "all bytes, two answers");
-    power_on();
-    fed = handset_feed(phone.small, phone.text, phone.picture, phone.frame, (const uint8_t *)"\033&V\r", 4, room, 28);
-    verdict(fed.number == HANDSET_DONE && fed.used == 3 && fed.written == 0, "fed", "28 bytes are too few for the longest answer");
-    power_on();
-    broken = phone.small;
-    broken.settings.contrast = 0;
-    fed = handset_feed(broken, phone.text, phone.picture, phone.frame, (const uint8_t *)"a", 1, room, sizeof room);
-    verdict(fed.number == HANDSET_FIELD_OUT_OF_RANGE && fed.used == 0, "fed", "a field out of range");
-    fed = handset_take_log(phone.small, phone.text, phone.picture, phone.frame, ticks, 1, edges, 2, room, sizeof room);
-    verdict(fed.number == HANDSET_UNEQUAL_LENGTHS && fed.used == 0, "fed", "unequal lengths");
-    fed = handset_take_log(phone.small, phone.text, phone.picture, phone.frame, ticks, 2, edges, 2, room, sizeof room);
-    verdict(fed.number == HANDSET_NOT_LISTED && fed.used == 0, "fed", "an edge that is not listed");
-    fed = handset_take_log(phone.small, phone.text, phone.picture, phone.frame, ticks, 1, edges, 1, room, sizeof room);
-    verdict(fed.number == HANDSET_DONE && fed.used == 1 && fed.written == 0, "fed", "a poll with no key");
+    static const uint16_t ticks[] = {1, 2, 3};
+    static const uint8_t edges[] = {HANDSET_PRESS, HANDSET_RELEASE, HANDSET_KEY_ON_OFF + 1};
+    prepare("");
+    MAKE(handset_take_log(&now.h, ticks, 2, edges, 2, now.room, 1, FED), HANDSET_DONE);
+    counted(2, "L", 1);
+    check("log", "a press and a release");
+    MAKE(handset_take_log(&now.h, ticks, 2, edges, 2, now.room, 0, FED), HANDSET_DONE);
+    counted(1, "", 0);
+    wanted.h.small.held.down = true;
+    wanted.h.small.held.tick.tick = 1;
+    check("log", "no room for the code");
+    REFUSED("log", "unequal lengths", handset_take_log(&now.h, ticks, 1, edges, 2, now.room, ROOM, FED), HANDSET_UNEQUAL_LENGTHS,
+            ANSWER(fed));
+    REFUSED("log", "an edge that is not listed", handset_take_log(&now.h, ticks, 3, edges, 3, now.room, ROOM, FED), HANDSET_NOT_LISTED,
+            ANSWER(fed));
 }
 
-static void try_counts(void)
+static void try_lights(void)
 {
-    struct handset_count count;
-    power_on();
-    count = handset_room_needed(phone.small, phone.text, phone.picture, phone.frame, (const uint8_t *)"\033\033\r", 3);
-    verdict(count.number == HANDSET_DONE && count.count == 2, "count", "room for two question marks");
-    count = handset_write_command(HANDSET_COMMAND_MODE, 5, 0, room, 5);
-    verdict(count.number == HANDSET_NO_ROOM && count.count == 0, "count", "no room");
-    count = handset_write_command(HANDSET_COMMAND_MODE, 4, 0, room, sizeof room);
-    verdict(count.number == HANDSET_COMMAND_OUT_OF_RANGE && count.count == 0, "count", "a command out of range");
-    count = handset_write_command(HANDSET_COMMAND_INVERSE + 1, 0, 0, room, sizeof room);
-    verdict(count.number == HANDSET_COMMAND_OUT_OF_RANGE && count.count == 0, "count", "a kind that is not known");
+    static const struct {
+        uint8_t mode, duration, left, keypad, number, left_after;
+        const char *test;
+    } lights[] = {
+        {HANDSET_LIGHT_AUTO, 30, 5, 1, HANDSET_DONE, 4, "a second is taken off"},
+        {HANDSET_LIGHT_AUTO, 30, 0, 0, HANDSET_DONE, 0, "none is left"},
+        {HANDSET_LIGHT_ON, 30, 5, 1, HANDSET_FIELD_OUT_OF_RANGE, 5, "seconds in on"},
+        {HANDSET_LIGHT_AUTO, 0, 5, 1, HANDSET_FIELD_OUT_OF_RANGE, 5, "duration 0"},
+        {HANDSET_LIGHT_AUTO, 30, 5, 2, HANDSET_FIELD_OUT_OF_RANGE, 5, "flag 2"},
+        {HANDSET_LIGHT_AUTO, 30, 5, 3, HANDSET_FIELD_OUT_OF_RANGE, 5, "flag 3"},
+        {HANDSET_LIGHT_AUTO, 30, 5, 128, HANDSET_FIELD_OUT_OF_RANGE, 5, "flag 128"},
+        {HANDSET_LIGHT_AUTO, 30, 5, 255, HANDSET_FIELD_OUT_OF_RANGE, 5, "flag 255"},
+    };
+    for (size_t i = 0; i < COUNT(lights); i++) {
+        prepare("");
+        now.light.mode = lights[i].mode;
+        now.light.duration.seconds = lights[i].duration;
+        now.light.left.seconds = lights[i].left;
+        memset(&now.light.keypad, lights[i].keypad, 1);
+        begin();
+        MAKE(handset_light_second(&now.light), lights[i].number);
+        wanted.light.left.seconds = lights[i].left_after;
+        check("light", lights[i].test);
+    }
 }
 
-static bool is_written(struct handset_count count, const char *frame)
+/* ---- Records out of range ---- */
+
+struct spoilt {
+    const char *field;
+    size_t at;
+    uint8_t values[4];
+};
+
+#define FLAG(field) {#field, AT(h.field), {2, 3, 128, 255}},
+
+static const struct spoilt flags[] = {
+#include FLAGS
+};
+
+static const struct spoilt fields[] = {
+    {"the contrast", AT(h.small.settings.contrast), {0, 21, 128, 255}},
+    {"the last code of the text", AT(h.text[103]), {0, 1, 2, 31}},
+    {"the last column of the picture", AT(h.picture[671]), {32, 33, 128, 255}},
+    {"the last byte of the frame", AT(h.frame[249]), {1, 2, 128, 255}},
+};
+
+/* In text mode 5 and with a key held since tick 0 every flag may be 0 or 1. So a number that was taken for one of these is not refused
+ * for something else. */
+static void spoil(const struct spoilt *field, uint8_t value)
 {
-    size_t length = strlen(frame);
-    return count.number == HANDSET_DONE && count.count == length + 3 && room[0] == ESC && memcmp(room + 1, frame, length) == 0 &&
-           memcmp(room + 1 + length, "\r\n", 2) == 0;
+    prepare(FRAME("ID5") FRAME("IEA"));
+    now.h.small.held.down = true;
+    ((uint8_t *)&now)[field->at] = value;
+    begin();
 }
 
-/* Columns of which no two neighbours are equal take most room. */
-static void try_longest(void)
+static bool holds(bool ok, const char *call, uint8_t value)
 {
-    uint8_t columns[HANDSET_DISPLAY_COLUMNS];
-    struct handset_count count;
-    for (size_t i = 0; i < sizeof columns; i++) columns[i] = (uint8_t)i;
-    count = handset_write_picture_row(0, columns, sizeof columns, room, HANDSET_LONGEST_WRITTEN);
-    verdict(count.number == HANDSET_DONE && count.count == HANDSET_LONGEST_WRITTEN, "count", "the longest frame");
-    count = handset_write_picture_row(6, columns, 31, room, sizeof room);
-    verdict(count.number == HANDSET_DONE && room[3] == '6', "count", "a picture row of 31 columns");
-    count = handset_write_label(HANDSET_LEFT, (const uint8_t *)"Keep", 4, room, sizeof room);
-    verdict(is_written(count, "IK1Keep"), "count", "a left label");
-    count = handset_write_label(HANDSET_RIGHT, (const uint8_t *)"Skip", 4, room, sizeof room);
-    verdict(is_written(count, "IK2Skip"), "count", "a right label");
+    if (!ok) printf("  with %d: %s\n", value, call);
+    return ok;
 }
 
-static void try_judged(void)
+#define REFUSES(call, answer)                                                                                                          \
+    (spoil(field, value), MAKE(call, HANDSET_FIELD_OUT_OF_RANGE), cleared(answer), holds(as_wanted(), #call, value))
+
+/* Every call that takes a record, such that it would store something if the record were in range. */
+static bool all_refuse(const struct spoilt *field, uint8_t value)
 {
-    struct handset_verdict judged = handset_judge(0, (const uint8_t *)"IP0001", 6);
-    verdict(judged.verdict == HANDSET_VERDICT_BAD && judged.value == 0, "verdict", "bad");
-    judged = handset_judge(0, (const uint8_t *)"IP987", 5);
-    verdict(judged.verdict == HANDSET_VERDICT_PASSED_OVER && judged.value == 987, "verdict", "passed over");
-    judged = handset_judge(5, (const uint8_t *)"[4;0H", 5);
-    verdict(judged.verdict == HANDSET_VERDICT_OBEYED && judged.value == 0, "verdict", "obeyed");
+    static const uint8_t bytes[] = {'a', ESC, ESC}, edges[] = {HANDSET_PRESS, HANDSET_RELEASE};
+    static const uint16_t ticks[] = {0, 1};
+    bool ok = REFUSES(!handset_in_range(&now.h), NO_ANSWER);
+    ok = REFUSES(handset_feed(&now.h, bytes, 3, now.room, ROOM, FED), ANSWER(fed)) && ok;
+    ok = REFUSES(handset_take_log(&now.h, ticks, 2, edges, 2, now.room, ROOM, FED), ANSWER(fed)) && ok;
+    ok = REFUSES(handset_second(&now.h), NO_ANSWER) && ok;
+    ok = REFUSES(handset_hook(&now.h, 0), NO_ANSWER) && ok;
+    ok = REFUSES(handset_room_needed(&now.h, bytes, 3, &now.needed), ANSWER(needed)) && ok;
+    ok = REFUSES(handset_sms_seen(&now.h, HANDSET_LIT, &now.panel), ANSWER(panel)) && ok;
+    ok = REFUSES(handset_volume_seen(&now.h, &now.panel), ANSWER(panel)) && ok;
+    ok = REFUSES(handset_row_seen(&now.h, 1, HANDSET_LIT, &now.row), ANSWER(row)) && ok;
+    return REFUSES(handset_column_seen(&now.h, 1, 0, HANDSET_LIT, &now.column), ANSWER(column)) && ok;
 }
 
-static void try_choice(const char *stream, uint8_t rule, size_t offset, const char *test)
+static void try_spoilt(const struct spoilt *field)
 {
-    struct handset_choice choice = handset_check_choice((const uint8_t *)stream, strlen(stream));
-    verdict(choice.rule == rule && choice.offset == offset, "choice", test);
+    bool ok = true;
+    for (size_t i = 0; i < COUNT(field->values); i++) ok = all_refuse(field, field->values[i]) && ok;
+    verdict(ok, "refused", field->field);
 }
 
-static void try_choices(void)
+static void try_flag(const struct spoilt *flag)
 {
-    try_choice("\033ID0\r\nHello", HANDSET_RULE_NONE, 0, "yes");
-    try_choice("Hello", HANDSET_RULE_NO_SCREEN, 0, "no screen");
-    try_choice("\033ID0\r\033ID5\r\033IK1a\rx", HANDSET_RULE_LABEL_MISSING, 16, "a label is missing");
-    try_choice("\033ID0\rab\033Q\r", HANDSET_RULE_QUESTION_MARK, 7, "a question mark");
-    try_choice("\033ID0\rabc\033IK", HANDSET_RULE_FRAME_OPEN, 8, "a frame is left open");
+    bool ok = true;
+    for (uint8_t value = 0; value <= 1; value++) {
+        spoil(flag, value);
+        ok = holds(handset_in_range(&now.h), "handset_in_range", value) && ok;
+    }
+    verdict(ok, "taken", flag->field);
+    try_spoilt(flag);
 }
 
-static struct handset_row row_seen(uint8_t row, uint8_t phase)
+/* ---- What is seen ---- */
+
+static void see_row(uint8_t row, uint8_t phase, uint8_t owner, uint8_t place)
 {
-    return handset_row_seen(phone.small, phone.text, phone.picture, phone.frame, row, phase);
+    begin();
+    MAKE(handset_row_seen(&now.h, row, phase, &now.row), HANDSET_DONE);
+    cleared(ANSWER(row));
+    wanted.row.owner = owner;
+    wanted.row.place = place;
 }
 
-static struct handset_column column_seen(uint8_t row, uint8_t column)
-{
-    return handset_column_seen(phone.small, phone.text, phone.picture, phone.frame, row, column, HANDSET_LIT);
-}
-
-static bool is_bar(struct handset_bar bar)
-{
-    return bar.f == 6 && bar.p == 19 && bar.r == 1 && bar.sms == HANDSET_SMS_UNREAD && bar.volume == HANDSET_SOUND_HANDSFREE &&
-           bar.level == 7;
-}
-
-static void try_bar(void)
-{
-    struct handset_panel panel;
-    power_on();
-    send("IF6");
-    send("IP19");
-    send("IR1");
-    send("IU255");
-    send("IS1");
-    send("IJ7");
-    verdict(row_seen(0, HANDSET_LIT).owner == HANDSET_OWNER_ICON_BAR && is_bar(row_seen(0, HANDSET_LIT).bar), "row", "the icon bar");
-    verdict(row_seen(0, HANDSET_PAUSE).bar.sms == HANDSET_SMS_READ, "row", "the icon bar in the pause");
-    verdict(column_seen(0, 95).shown == HANDSET_SHOWN_BAR && is_bar(column_seen(0, 95).bar), "column", "the icon bar");
-    panel = handset_sms_seen(phone.small, phone.text, phone.picture, phone.frame, HANDSET_LIT);
-    verdict(panel.number == HANDSET_DONE && panel.panel == HANDSET_SMS_UNREAD && panel.level == 0, "panel", "unread");
-    panel = handset_sms_seen(phone.small, phone.text, phone.picture, phone.frame, HANDSET_PAUSE);
-    verdict(panel.panel == HANDSET_SMS_READ, "panel", "read");
-    panel = handset_volume_seen(phone.small, phone.text, phone.picture, phone.frame);
-    verdict(panel.number == HANDSET_DONE && panel.panel == HANDSET_SOUND_HANDSFREE && panel.level == 7, "panel", "handsfree");
-    send("IL4");
-    panel = handset_volume_seen(phone.small, phone.text, phone.picture, phone.frame);
-    verdict(panel.panel == HANDSET_SOUND_PRIVATE && panel.level == 4, "panel", "private");
-    send("IM1");
-    panel = handset_volume_seen(phone.small, phone.text, phone.picture, phone.frame);
-    verdict(panel.panel == HANDSET_SOUND_MUTE && panel.level == 0, "panel", "mute");
-    send("IL0");
-    panel = handset_volume_seen(phone.small, phone.text, phone.picture, phone.frame);
-    verdict(panel.panel == HANDSET_SOUND_NOTHING && panel.level == 0, "panel", "no volume");
-}
+static const struct handset_bar bar = {6, 19, 1, HANDSET_SMS_UNREAD, HANDSET_SOUND_HANDSFREE, 7};
+#define BAR FRAME("IF6") FRAME("IP19") FRAME("IR1") FRAME("IU255") FRAME("IS1") FRAME("IJ7")
+#define SOFT_KEYS FRAME("IK1ABCDEFG") FRAME("IK2abcdefg") FRAME("IW2")
 
 static void try_rows(void)
 {
-    struct handset_row row;
-    power_on();
-    send("[3;0H");
-    feed((const uint8_t *)"0123456789abcdef", 16);
-    send("IZ4");
-    row = row_seen(4, HANDSET_LIT);
-    verdict(row.number == HANDSET_DONE && row.owner == HANDSET_OWNER_TEXT_ROW && row.place == 3 && row.inverse &&
-                memcmp(row.codes, "0123456789abcdef", 16) == 0,
-            "row", "a text row");
-    send("IK1Left");
-    send("IK2Right");
-    send("IW2");
-    row = row_seen(5, HANDSET_LIT);
-    verdict(row.owner == HANDSET_OWNER_SOFT_KEYS && row.left.len == 4 && memcmp(row.left.codes, "Left", 4) == 0 && row.right.len == 5 &&
-                memcmp(row.right.codes, "Right", 5) == 0 && row.w == 2,
-            "row", "the soft keys");
-    verdict(row_seen(6, HANDSET_LIT).owner == HANDSET_OWNER_NOTHING, "row", "nothing");
-    row = row_seen(7, HANDSET_LIT);
-    verdict(row.number == HANDSET_NOT_LISTED && row.owner == HANDSET_OWNER_NOTHING, "row", "a row that is not listed");
-    send("Gr5,yA5yA5yA5pA5C3z");
-    send("ID14");
-    row = row_seen(5, HANDSET_LIT);
-    verdict(row.owner == HANDSET_OWNER_PICTURE_WITH_ROCKER && row.place == 5 && row.columns[0] == 0xA5 && row.columns[41] == 0xA5 &&
-                all_are(row.columns + 42, 12, 0) && row.columns[54] == 0xA5 && row.columns[95] == 0xC3 && row.w == 2,
-            "row", "a picture with the rocker");
-    verdict(row_seen(2, HANDSET_LIT).owner == HANDSET_OWNER_PICTURE_ROW && row_seen(2, HANDSET_LIT).place == 2, "row", "a picture row");
-    send("ID10");
-    feed((const uint8_t *)"xx12345678", 10);
-    row = row_seen(1, HANDSET_LIT);
-    verdict(row.owner == HANDSET_OWNER_SMALL_LINE && row.codes[1] == 'x' && row.codes[2] == ' ', "row", "the small codes");
-    row = row_seen(3, HANDSET_LIT);
-    verdict(row.owner == HANDSET_OWNER_BIG_LINE && row.place == 1 && memcmp(row.codes, "12345678", HANDSET_BIG_CODES) == 0, "row",
-            "the big codes");
+    uint8_t columns[HANDSET_DISPLAY_COLUMNS];
+    prepare(BAR);
+    see_row(0, HANDSET_LIT, HANDSET_OWNER_ICON_BAR, 0);
+    wanted.row.bar = bar;
+    check("row", "the icon bar");
+    for (int phase = HANDSET_PAUSE; phase < 256; phase += 127) {
+        see_row(0, (uint8_t)phase, HANDSET_OWNER_ICON_BAR, 0);
+        wanted.row.bar = bar;
+        wanted.row.bar.sms = HANDSET_SMS_READ;
+        check("row", "the icon bar in the pause");
+    }
+
+    prepare(FRAME("[3;0H") "0123456789abcdef" FRAME("IZ4") SOFT_KEYS);
+    see_row(4, HANDSET_LIT, HANDSET_OWNER_TEXT_ROW, 3);
+    wanted.row.inverse = true;
+    memcpy(wanted.row.codes, "0123456789abcdef", sizeof wanted.row.codes);
+    check("row", "a text row");
+    see_row(5, HANDSET_LIT, HANDSET_OWNER_SOFT_KEYS, 0);
+    wanted.row.left = now.h.small.settings.left;
+    wanted.row.right = now.h.small.settings.right;
+    wanted.row.w = 2;
+    check("row", "the soft keys");
+    see_row(6, HANDSET_LIT, HANDSET_OWNER_NOTHING, 0);
+    check("row", "nothing");
+    REFUSED("row", "a row that is not listed", handset_row_seen(&now.h, 7, HANDSET_LIT, &now.row), HANDSET_NOT_LISTED, ANSWER(row));
+
+    prepare(FRAME("IW2") FRAME("ID14"));
+    for (size_t i = 0; i < sizeof columns; i++) columns[i] = (uint8_t)(i + 1);
+    memcpy(now.h.picture + 2 * sizeof columns, columns, sizeof columns);
+    memcpy(now.h.picture + 5 * sizeof columns, columns, sizeof columns);
+    see_row(2, HANDSET_LIT, HANDSET_OWNER_PICTURE_ROW, 2);
+    memcpy(wanted.row.columns, columns, sizeof columns);
+    check("row", "a picture row");
+    see_row(5, HANDSET_LIT, HANDSET_OWNER_PICTURE_WITH_ROCKER, 5);
+    memset(columns + 42, 0, 12);
+    memcpy(wanted.row.columns, columns, sizeof columns);
+    wanted.row.w = 2;
+    check("row", "a picture with the rocker");
+
+    prepare(FRAME("ID10") "xx12345678");
+    see_row(1, HANDSET_LIT, HANDSET_OWNER_SMALL_LINE, 0);
+    memcpy(wanted.row.codes, "xx              ", sizeof wanted.row.codes);
+    check("row", "the small codes");
+    for (uint8_t half = 0; half < 2; half++) {
+        see_row((uint8_t)(2 + half), HANDSET_LIT, HANDSET_OWNER_BIG_LINE, half);
+        memcpy(wanted.row.codes, "12345678", HANDSET_BIG_CODES);
+        check("row", "the big codes");
+    }
 }
 
-static bool is_at(struct handset_column column, uint8_t owner, uint8_t place, uint8_t shown, uint8_t value, bool inverse)
-{
-    return column.number == HANDSET_DONE && column.owner == owner && column.place == place && column.shown == shown &&
-           column.value == value && column.inverse == inverse;
-}
+static const struct {
+    const char *first;
+    uint8_t row, column;
+    struct handset_column seen;
+    const char *test;
+} places[] = {
+    {FRAME("[2;0H") "abc" FRAME("IZ3"), 3, 12, {HANDSET_OWNER_TEXT_ROW, 2, HANDSET_SHOWN_CODE, 'c', true, {0}}, "a code"},
+    {SOFT_KEYS, 5, 6, {HANDSET_OWNER_SOFT_KEYS, 0, HANDSET_SHOWN_LEFT_LABEL, 'B', false, {0}}, "the left label"},
+    {SOFT_KEYS, 5, 42, {HANDSET_OWNER_SOFT_KEYS, 0, HANDSET_SHOWN_ROCKER, 2, false, {0}}, "the rocker"},
+    {SOFT_KEYS, 5, 54, {HANDSET_OWNER_SOFT_KEYS, 0, HANDSET_SHOWN_RIGHT_LABEL, 'a', false, {0}}, "the right label"},
+    {SOFT_KEYS, 6, 0, {HANDSET_OWNER_NOTHING, 0, HANDSET_SHOWN_NOTHING, 0, false, {0}}, "nothing"},
+    {FRAME("Gr1,00B7z") FRAME("ID11"), 1, 1, {HANDSET_OWNER_PICTURE_ROW, 1, HANDSET_SHOWN_COLUMN, 0xB7, false, {0}}, "a picture's column"},
+};
 
 static void try_columns(void)
 {
-    power_on();
-    send("[2;0H");
-    feed((const uint8_t *)"abc", 3);
-    send("IZ3");
-    send("IK1Left");
-    send("IK2Right");
-    send("IW3");
-    verdict(is_at(column_seen(3, 12), HANDSET_OWNER_TEXT_ROW, 2, HANDSET_SHOWN_CODE, 'c', true), "column", "a code of a text row");
-    verdict(is_at(column_seen(5, 6), HANDSET_OWNER_SOFT_KEYS, 0, HANDSET_SHOWN_LEFT_LABEL, 'e', false), "column", "the left label");
-    verdict(is_at(column_seen(5, 42), HANDSET_OWNER_SOFT_KEYS, 0, HANDSET_SHOWN_ROCKER, 3, false), "column", "the rocker");
-    verdict(is_at(column_seen(5, 54), HANDSET_OWNER_SOFT_KEYS, 0, HANDSET_SHOWN_RIGHT_LABEL, 'R', false), "column", "the right label");
-    verdict(is_at(column_seen(6, 0), HANDSET_OWNER_NOTHING, 0, HANDSET_SHOWN_NOTHING, 0, false), "column", "nothing");
-    send("Gr1,00B7z");
-    send("ID11");
-    verdict(is_at(column_seen(1, 1), HANDSET_OWNER_PICTURE_ROW, 1, HANDSET_SHOWN_COLUMN, 0xB7, false), "column", "a picture's column");
-    verdict(column_seen(0, 96).number == HANDSET_NOT_LISTED, "column", "a column that is not listed");
+    for (size_t i = 0; i < COUNT(places); i++) {
+        prepare(places[i].first);
+        MAKE(handset_column_seen(&now.h, places[i].row, places[i].column, HANDSET_LIT, &now.column), HANDSET_DONE);
+        wanted.column = places[i].seen;
+        check("column", places[i].test);
+    }
+    prepare(BAR);
+    for (uint8_t phase = HANDSET_LIT; phase <= HANDSET_PAUSE; phase++) {
+        MAKE(handset_column_seen(&now.h, 0, 95, phase, &now.column), HANDSET_DONE);
+        wanted.column = (struct handset_column){HANDSET_OWNER_ICON_BAR, 0, HANDSET_SHOWN_BAR, 0, false, bar};
+        if (phase == HANDSET_PAUSE) wanted.column.bar.sms = HANDSET_SMS_READ;
+        check("column", "the icon bar");
+    }
+    REFUSED("column", "a column that is not listed", handset_column_seen(&now.h, 0, 96, HANDSET_LIT, &now.column), HANDSET_NOT_LISTED,
+            ANSWER(column));
+    prepare(BAR);
+    REFUSED("column", "a row that is not listed", handset_column_seen(&now.h, 7, 0, HANDSET_LIT, &now.column), HANDSET_NOT_LISTED,
+            ANSWER(column));
 }
 
-/* ---- Kinds of commands and keys, each by what it writes or sends ---- */
+static void try_panel(const char *first, int phase, uint8_t panel, uint8_t level, const char *test)
+{
+    prepare(first);
+    MAKE(phase < 0 ? handset_volume_seen(&now.h, &now.panel) : handset_sms_seen(&now.h, (uint8_t)phase, &now.panel), HANDSET_DONE);
+    wanted.panel.panel = panel;
+    wanted.panel.level = level;
+    check("panel", test);
+}
 
-struct spelt {
+static void try_panels(void)
+{
+    enum { VOLUME = -1 };
+    try_panel("", HANDSET_LIT, HANDSET_SMS_NOTHING, 0, "no messages");
+    try_panel(BAR, HANDSET_LIT, HANDSET_SMS_UNREAD, 0, "unread");
+    try_panel(BAR, HANDSET_PAUSE, HANDSET_SMS_READ, 0, "read");
+    try_panel("", VOLUME, HANDSET_SOUND_NOTHING, 0, "no volume");
+    try_panel(BAR, VOLUME, HANDSET_SOUND_HANDSFREE, 7, "handsfree");
+    try_panel(FRAME("IL4"), VOLUME, HANDSET_SOUND_PRIVATE, 4, "private");
+    try_panel(FRAME("IL4") FRAME("IM1"), VOLUME, HANDSET_SOUND_MUTE, 0, "mute");
+}
+
+/* ---- Writers ---- */
+
+/* ESC, a frame, CR and LF */
+static void wrote(const char *frame)
+{
+    size_t length = strlen(frame);
+    wanted.number = HANDSET_DONE;
+    wanted.fed.written = length + 3;
+    wanted.room[0] = ESC;
+    memcpy(wanted.room + 1, frame, length);
+    memcpy(wanted.room + 1 + length, "\r\n", 2);
+}
+
+static const struct spelt {
     uint8_t kind;
     uint16_t a, b;
     const char *frame;
-};
-
-static const struct spelt commands[] = {
-    {HANDSET_COMMAND_DISPLAY_OFF, 0, 0, "IDD"},
-    {HANDSET_COMMAND_DISPLAY_ON, 0, 0, "IDE"},
-    {HANDSET_COMMAND_MODE, HANDSET_MODE_LARGE, 0, "ID10"},
-    {HANDSET_COMMAND_CURSOR_SHOWN, 0, 0, "&C"},
-    {HANDSET_COMMAND_CURSOR_HIDDEN, 0, 0, "&D"},
-    {HANDSET_COMMAND_CLEAR, 0, 0, "&#"},
-    {HANDSET_COMMAND_POSITION, 4, 15, "[4;15H"},
-    {HANDSET_COMMAND_LABELS_EMPTY, 0, 0, "IK0"},
-    {HANDSET_COMMAND_ICON_S, 1, 0, "IS1"},
-    {HANDSET_COMMAND_ICON_U, 255, 0, "IU255"},
-    {HANDSET_COMMAND_ICON_F, 6, 0, "IF6"},
-    {HANDSET_COMMAND_ICON_R, 1, 0, "IR1"},
-    {HANDSET_COMMAND_ICON_P, 19, 0, "IP19"},
-    {HANDSET_COMMAND_ICON_W, 3, 0, "IW3"},
-    {HANDSET_COMMAND_PRIVATE, 10, 0, "IL10"},
-    {HANDSET_COMMAND_HANDSFREE, 10, 0, "IJ10"},
-    {HANDSET_COMMAND_HANDSFREE_OF_NOTE, 10, 0, "II10"},
-    {HANDSET_COMMAND_MUTE, 1, 0, "IM1"},
-    {HANDSET_COMMAND_KEY_TIMES, 4, 50, "IT4;50"},
-    {HANDSET_COMMAND_BUZZER, 255, 0, "IB255"},
-    {HANDSET_COMMAND_LIGHT, 255, 0, "IE255"},
-    {HANDSET_COMMAND_LIGHT_ON, 0, 0, "IEE"},
-    {HANDSET_COMMAND_LIGHT_AUTO_START, 0, 0, "IEA"},
-    {HANDSET_COMMAND_LIGHT_AUTO, 0, 0, "IES"},
-    {HANDSET_COMMAND_DEFAULT_DURATION, 0, 0, "IER"},
-    {HANDSET_COMMAND_KEYPAD_SET, 0, 0, "IEe"},
-    {HANDSET_COMMAND_KEYPAD_CLEARED, 0, 0, "IEr"},
-    {HANDSET_COMMAND_CONTRAST, 20, 0, "IA20"},
-    {HANDSET_COMMAND_CONTRAST_ASKED, 0, 0, "IA"},
-    {HANDSET_COMMAND_HOOK_ASKED, 0, 0, "IH"},
-    {HANDSET_COMMAND_VERSION_ASKED, 0, 0, "&V"},
-    {HANDSET_COMMAND_CLEAR_LINE, 0, 0, "[K"},
+} commands[] = {
+    {HANDSET_COMMAND_DISPLAY_OFF, 0, 0, "IDD"},            {HANDSET_COMMAND_DISPLAY_ON, 0, 0, "IDE"},
+    {HANDSET_COMMAND_MODE, HANDSET_MODE_LARGE, 0, "ID10"}, {HANDSET_COMMAND_CURSOR_SHOWN, 0, 0, "&C"},
+    {HANDSET_COMMAND_CURSOR_HIDDEN, 0, 0, "&D"},           {HANDSET_COMMAND_CLEAR, 0, 0, "&#"},
+    {HANDSET_COMMAND_POSITION, 4, 15, "[4;15H"},           {HANDSET_COMMAND_LABELS_EMPTY, 0, 0, "IK0"},
+    {HANDSET_COMMAND_ICON_S, 1, 0, "IS1"},                 {HANDSET_COMMAND_ICON_U, 255, 0, "IU255"},
+    {HANDSET_COMMAND_ICON_F, 6, 0, "IF6"},                 {HANDSET_COMMAND_ICON_R, 1, 0, "IR1"},
+    {HANDSET_COMMAND_ICON_P, 19, 0, "IP19"},               {HANDSET_COMMAND_ICON_W, 3, 0, "IW3"},
+    {HANDSET_COMMAND_PRIVATE, 10, 0, "IL10"},              {HANDSET_COMMAND_HANDSFREE, 10, 0, "IJ10"},
+    {HANDSET_COMMAND_HANDSFREE_OF_NOTE, 10, 0, "II10"},    {HANDSET_COMMAND_MUTE, 1, 0, "IM1"},
+    {HANDSET_COMMAND_KEY_TIMES, 4, 50, "IT4;50"},          {HANDSET_COMMAND_BUZZER, 255, 0, "IB255"},
+    {HANDSET_COMMAND_LIGHT, 255, 0, "IE255"},              {HANDSET_COMMAND_LIGHT_ON, 0, 0, "IEE"},
+    {HANDSET_COMMAND_LIGHT_AUTO_START, 0, 0, "IEA"},       {HANDSET_COMMAND_LIGHT_AUTO, 0, 0, "IES"},
+    {HANDSET_COMMAND_DEFAULT_DURATION, 0, 0, "IER"},       {HANDSET_COMMAND_KEYPAD_SET, 0, 0, "IEe"},
+    {HANDSET_COMMAND_KEYPAD_CLEARED, 0, 0, "IEr"},         {HANDSET_COMMAND_CONTRAST, 20, 0, "IA20"},
+    {HANDSET_COMMAND_CONTRAST_ASKED, 0, 0, "IA"},          {HANDSET_COMMAND_HOOK_ASKED, 0, 0, "IH"},
+    {HANDSET_COMMAND_VERSION_ASKED, 0, 0, "&V"},           {HANDSET_COMMAND_CLEAR_LINE, 0, 0, "[K"},
     {HANDSET_COMMAND_INVERSE, 5, 0, "IZ5"},
 };
 
 static void try_commands(void)
 {
-    for (size_t i = 0; i < sizeof commands / sizeof *commands; i++) {
-        const struct spelt *c = &commands[i];
-        verdict(is_written(handset_write_command(c->kind, c->a, c->b, room, sizeof room), c->frame), "command", c->frame);
+    uint64_t *written = &now.fed.written;
+    for (const struct spelt *c = commands; c < commands + COUNT(commands); c++) {
+        prepare("");
+        MAKE(handset_write_command(c->kind, c->a, c->b, now.room, strlen(c->frame) + 3, written), HANDSET_DONE);
+        wrote(c->frame);
+        check("command", c->frame);
     }
-    verdict(sizeof commands / sizeof *commands == HANDSET_COMMAND_INVERSE + 1, "command", "each kind was tried");
+    verdict(COUNT(commands) == HANDSET_COMMAND_INVERSE + 1, "command", "each kind was tried");
+    REFUSED("command", "no room", handset_write_command(HANDSET_COMMAND_MODE, 5, 0, now.room, 5, written), HANDSET_NO_ROOM,
+            ANSWER(fed.written));
+    REFUSED("command", "out of range", handset_write_command(HANDSET_COMMAND_MODE, 0x105, 0, now.room, ROOM, written),
+            HANDSET_COMMAND_OUT_OF_RANGE, ANSWER(fed.written));
+    REFUSED("command", "a kind that is not known", handset_write_command(HANDSET_COMMAND_INVERSE + 1, 0, 0, now.room, ROOM, written),
+            HANDSET_COMMAND_OUT_OF_RANGE, ANSWER(fed.written));
 }
 
-struct code {
-    uint8_t key;
-    uint8_t code;
-    const char *name;
-};
-
-static const struct code keys[] = {
-    {HANDSET_KEY_LEFT_SOFT, 'L', "left soft"}, {HANDSET_KEY_RIGHT_SOFT, 'R', "right soft"},
-    {HANDSET_KEY_ESC, 'E', "ESC"},             {HANDSET_KEY_ENTER, 'A', "ENTER"},
-    {HANDSET_KEY_UP, 'U', "up"},               {HANDSET_KEY_DOWN, 'D', "down"},
-    {HANDSET_KEY_1, '1', "1"},                 {HANDSET_KEY_2, '2', "2"},
-    {HANDSET_KEY_3, '3', "3"},                 {HANDSET_KEY_4, '4', "4"},
-    {HANDSET_KEY_5, '5', "5"},                 {HANDSET_KEY_6, '6', "6"},
-    {HANDSET_KEY_7, '7', "7"},                 {HANDSET_KEY_8, '8', "8"},
-    {HANDSET_KEY_9, '9', "9"},                 {HANDSET_KEY_0, '0', "0"},
-    {HANDSET_KEY_STAR, '*', "*"},              {HANDSET_KEY_HASH, '#', "#"},
-    {HANDSET_KEY_ON_OFF, 'O', "ON/OFF"},
-};
-
-static void try_key(const struct code *key)
+static void try_labels(void)
 {
-    struct handset_fed fed;
-    power_on();
-    log_key(7, HANDSET_PRESS + key->key);
-    fed = log_key(9, HANDSET_RELEASE + key->key);
-    verdict(fed.used == 1 && fed.written == 1 && room[0] == key->code, "key", key->name);
+    static const uint8_t sides[] = {HANDSET_LEFT, HANDSET_RIGHT, 2, 255}, codes[] = "Keep it";
+    uint64_t *written = &now.fed.written;
+    for (size_t i = 0; i < COUNT(sides); i++) {
+        prepare("");
+        MAKE(handset_write_label(sides[i], codes, 7, now.room, 13, written), HANDSET_DONE);
+        wrote(sides[i] == HANDSET_LEFT ? "IK1Keep it" : "IK2Keep it");
+        check("label", sides[i] == HANDSET_LEFT ? "left" : "right");
+    }
+    REFUSED("label", "no room", handset_write_label(HANDSET_LEFT, codes, 7, now.room, 12, written), HANDSET_NO_ROOM,
+            ANSWER(fed.written));
+    REFUSED("label", "out of range", handset_write_label(HANDSET_LEFT, codes, 8, now.room, ROOM, written), HANDSET_COMMAND_OUT_OF_RANGE,
+            ANSWER(fed.written));
+}
+
+/* Columns of which no two neighbours are equal take most room: column i is i. */
+static void wrote_row(char row, size_t count)
+{
+    char frame[HANDSET_LONGEST_WRITTEN] = "Gr0,";
+    frame[2] = row;
+    for (size_t i = 0; i < count; i++) {
+        frame[4 + 2 * i] = "0123456789ABCDEF"[i / 16];
+        frame[5 + 2 * i] = "0123456789ABCDEF"[i % 16];
+    }
+    frame[4 + 2 * count] = 'z';
+    wrote(frame);
+}
+
+static void try_picture_rows(void)
+{
+    uint64_t *written = &now.fed.written;
+    uint8_t columns[HANDSET_DISPLAY_COLUMNS];
+    for (size_t i = 0; i < sizeof columns; i++) columns[i] = (uint8_t)i;
+    prepare("");
+    MAKE(handset_write_picture_row(0, columns, sizeof columns, now.room, HANDSET_LONGEST_WRITTEN, written), HANDSET_DONE);
+    wrote_row('0', sizeof columns);
+    verdict(wanted.fed.written == HANDSET_LONGEST_WRITTEN, "picture", "the longest frame is so long");
+    check("picture", "the longest frame");
+    MAKE(handset_write_picture_row(6, columns, 32, now.room, ROOM, written), HANDSET_DONE);
+    wrote_row('6', 32);
+    check("picture", "row 6");
+    REFUSED("picture", "no room", handset_write_picture_row(0, columns, sizeof columns, now.room, HANDSET_LONGEST_WRITTEN - 1, written),
+            HANDSET_NO_ROOM, ANSWER(fed.written));
+    REFUSED("picture", "out of range", handset_write_picture_row(6, columns, 33, now.room, ROOM, written), HANDSET_COMMAND_OUT_OF_RANGE,
+            ANSWER(fed.written));
+}
+
+/* ---- Questions about a stream ---- */
+
+static void try_judge(uint8_t mode, const char *frame, uint8_t judged, uint16_t number_out, const char *test)
+{
+    prepare("");
+    MAKE(handset_judge(mode, (const uint8_t *)frame, strlen(frame), &now.number_out), judged);
+    wanted.number_out = number_out;
+    check("verdict", test);
+}
+
+static void try_choice(const char *stream, uint8_t rule, size_t offset, const char *test)
+{
+    prepare("");
+    MAKE(handset_check_choice((const uint8_t *)stream, strlen(stream), &now.offset), rule);
+    wanted.offset = offset;
+    check("choice", test);
+}
+
+static void try_part(const char *stream, uint64_t place, const struct handset_part *part, const char *test)
+{
+    prepare("");
+    MAKE(handset_part_at((const uint8_t *)stream, strlen(stream), place, &now.part), part->kind);
+    wanted.part = *part;
+    check("part", test);
+}
+
+static void try_questions(void)
+{
+    static const uint64_t far = 0x123456789ABCDEF0;
+    static const struct handset_part parts[] = {
+        {HANDSET_PART_TEXT, 1, 1, 1},      {HANDSET_PART_SKIPPED, 2, 2, 2}, {HANDSET_PART_CLOSED, 7, 3, 6},
+        {HANDSET_PART_ABANDONED, 9, 8, 9}, {HANDSET_PART_TAIL, 12, 10, 12}, {HANDSET_PART_NONE, 12, 12, 12},
+    };
+    static const char *const names[] = {"text", "skipped", "closed", "abandoned", "tail", "none"};
+    const struct handset_part none = {HANDSET_PART_NONE, far, far, far};
+
+    try_judge(HANDSET_MODE_0, "IP0001", HANDSET_VERDICT_BAD, 0, "bad");
+    try_judge(HANDSET_MODE_0, "IP987", HANDSET_VERDICT_PASSED_OVER, 987, "passed over");
+    try_judge(HANDSET_MODE_0, "[4;0H", HANDSET_VERDICT_PASSED_OVER, 4, "passed over in this mode");
+    try_judge(HANDSET_MODE_5, "[4;0H", HANDSET_VERDICT_OBEYED, 0, "obeyed");
+
+    try_choice(FRAME("ID0") "\nHello", HANDSET_RULE_NONE, 0, "yes");
+    try_choice("Hello", HANDSET_RULE_NO_SCREEN, 0, "no screen");
+    try_choice(FRAME("ID0") FRAME("ID5") FRAME("IK1a") "x", HANDSET_RULE_LABEL_MISSING, 16, "a label is missing");
+    try_choice(FRAME("ID0") "ab" FRAME("Q"), HANDSET_RULE_QUESTION_MARK, 7, "a question mark");
+    try_choice(FRAME("ID0") "abc\033IK", HANDSET_RULE_FRAME_OPEN, 8, "a frame is left open");
+
+    for (size_t i = 0; i < COUNT(parts); i++)
+        try_part("a\n" FRAME("IDE") "\033I\033IK", i == 0 ? 0 : parts[i - 1].end, &parts[i], names[i]);
+    try_part("a", far, &none, "far behind the end");
+}
+
+/* ---- Keys, each by its code ---- */
+
+static const char codes[] = {
+    [HANDSET_KEY_LEFT_SOFT] = 'L', [HANDSET_KEY_RIGHT_SOFT] = 'R', [HANDSET_KEY_ESC] = 'E',    [HANDSET_KEY_ENTER] = 'A',
+    [HANDSET_KEY_UP] = 'U',        [HANDSET_KEY_DOWN] = 'D',       [HANDSET_KEY_1] = '1',      [HANDSET_KEY_2] = '2',
+    [HANDSET_KEY_3] = '3',         [HANDSET_KEY_4] = '4',          [HANDSET_KEY_5] = '5',      [HANDSET_KEY_6] = '6',
+    [HANDSET_KEY_7] = '7',         [HANDSET_KEY_8] = '8',          [HANDSET_KEY_9] = '9',      [HANDSET_KEY_0] = '0',
+    [HANDSET_KEY_STAR] = '*',      [HANDSET_KEY_HASH] = '#',       [HANDSET_KEY_ON_OFF] = 'O',
+};
+
+static void try_key(uint8_t key)
+{
+    const char name[] = {codes[key], 0};
+    prepare("");
+    log_entry(7, (uint8_t)(HANDSET_PRESS + key));
+    log_entry(9, (uint8_t)(HANDSET_RELEASE + key));
+    counted(1, name, 1);
+    check("key", name);
 }
 
 int main(void)
 {
+    verdict(handset_interface() == HANDSET_INTERFACE, "interface", "header and archive are of one");
+    try_sizes();
     try_fields();
-    try_power_on();
-    try_arrays();
-    try_numbers();
-    try_counts();
-    try_longest();
-    try_judged();
-    try_choices();
-    try_bar();
+    try_power_on(handset_power_on, 0, "the record");
+    try_power_on(handset_power_on_former, 12, "the former record");
+    try_fed();
+    try_log();
+    try_lights();
+    for (size_t i = 0; i < COUNT(flags); i++) try_flag(&flags[i]);
+    for (size_t i = 0; i < COUNT(fields); i++) try_spoilt(&fields[i]);
     try_rows();
     try_columns();
+    try_panels();
     try_commands();
-    for (size_t i = 0; i < sizeof keys / sizeof *keys; i++) try_key(&keys[i]);
+    try_labels();
+    try_picture_rows();
+    try_questions();
+    for (uint8_t key = 0; key < COUNT(codes); key++) try_key(key);
     return 0;
 }

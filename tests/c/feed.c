@@ -54,16 +54,13 @@ static void paint(uint8_t *room, size_t count)
 static bool feed(size_t most, size_t room_size)
 {
     uint8_t room[MOST_ROOM];
-    size_t offered = waits < most ? waits : most;
-    struct handset_fed fed;
+    uint64_t offered = waits < most ? waits : most, used, written;
     paint(room, sizeof room);
-    fed = handset_feed(phone.small, phone.text, phone.picture, phone.frame, waiting, offered, room, room_size);
-    if (fed.number != HANDSET_DONE || fed.used > offered || fed.written > room_size) return false;
-    if (!paint_is_whole(room, fed.written, sizeof room)) return false;
-    phone.small = fed.small;
-    for (size_t i = 0; i < fed.written; i++) count_answer_byte(room[i]);
-    memmove(waiting, waiting + fed.used, waits - fed.used);
-    waits -= fed.used;
+    if (handset_feed(&phone, waiting, offered, room, room_size, &used, &written) != HANDSET_DONE) return false;
+    if (used > offered || written > room_size || !paint_is_whole(room, written, sizeof room)) return false;
+    for (size_t i = 0; i < written; i++) count_answer_byte(room[i]);
+    memmove(waiting, waiting + used, waits - used);
+    waits -= used;
     return true;
 }
 
@@ -120,7 +117,7 @@ int main(int count, char **words)
 {
     if (count != 2) return 2;
     chance = (uint32_t)strtoul(words[1], NULL, 10);
-    phone.small = handset_power_on(phone.text, phone.picture, phone.frame);
+    handset_power_on(&phone);
     if (!hear()) {
         printf("a call ended as none should\n");
         return 1;

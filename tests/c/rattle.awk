@@ -1,21 +1,24 @@
 # The structs and calls that cross to C, as the Rattle sources have them. Sources: those that declare `#[repr(C)]` structs and
 # `#[no_mangle] pub extern "C"` functions, in the layout of rt fmt.
-#   awk -f rattle.awk SOURCES              "STRUCT FIELD TYPE" for each field and "RESULT NAME(PARAMETERS);" for each call, in C's words
+#   awk -f rattle.awk SOURCES              "STRUCT PLACE FIELD TYPE" for each field, where the first place is 1, and "RESULT
+#                                          NAME(PARAMETERS);" for each call, in C's words
 #   awk -v crate=1 -f rattle.awk SOURCES   a crate that tells where each field lies: the structs as they stand, and for each field an
 #                                          exported function at_STRUCT_FIELD that takes the struct, with 256 bytes behind it, and hands
-#                                          back the first value in that field; at_STRUCT_end hands back the first byte behind it
+#                                          back the first value in that field; size_of_STRUCT hands back the first byte behind it
 #   awk -v asking=1 -f rattle.awk SOURCES  a table of these functions in C, for where.c
-# Only structs that a call takes or hands back, and those inside them, are listed.
+# Only structs that a call takes or hands back, and those inside them, are listed, and struct handset, in which C keeps what
+# proved_in_range takes: all of a record.
 
-# handset_fed for HandsetFed, handset_small for Small
-function c_name(type) {
-    sub(/^Handset/, "", type)
-    return "handset_" tolower(type)
+# proved_fed for ProvedFed, handset_row for HandsetRow, handset_small for Small
+function c_name(type,    owner) {
+    owner = type ~ /^Proved/ ? "proved_" : "handset_"
+    sub(/^(Proved|Handset)/, "", type)
+    return owner tolower(type)
 }
 function c_type(type) {
     if (type == "u8") return "uint8_t"
     if (type == "u16") return "uint16_t"
-    if (type == "usize") return "size_t"
+    if (type == "usize") return "uint64_t"
     if (type == "bool") return "bool"
     return "struct " c_name(type)
 }
@@ -36,9 +39,9 @@ function parameter(text,    name, type, lent) {
     sub(/^&(mut )?/, "", type)
     if (type ~ /;/) return lent c_type(element(type)) " " name "[" places(type) "]"
     gsub(/[][]/, "", type)
-    return lent c_type(type) " *" name ", size_t " name "_len"
+    return lent c_type(type) " *" name ", uint64_t " name "_len"
 }
-function call(text,    name, inside, result, part, n, k, line) {
+function call(text,    name, inside, result, part, n, k, line, field) {
     name = text
     sub(/.* fn /, "", name)
     sub(/[<(].*/, "", name)
@@ -52,8 +55,11 @@ function call(text,    name, inside, result, part, n, k, line) {
     n = split(inside, part, /, */)
     for (k = 1; k <= n; k++) {
         line = line (k > 1 ? ", " : "") parameter(part[k])
-        sub(/^[^:]*: /, "", part[k])
+        field = part[k]
+        sub(/:.*/, "", field)
+        sub(/^[^:]*: (&'a )?/, "", part[k])
         crosses(part[k])
+        if (name == "proved_in_range") calls[++call_count] = "struct handset " k " " field " " listed(part[k])
     }
     calls[++call_count] = c_type(result) " " name "(" line ");"
 }
@@ -82,6 +88,27 @@ function first_type(type) {
     return first_type(field_type[type, 1])
 }
 
+# A size or a lent array may have a name: its value, or the array itself, is put in its place.
+function without_names(text,    name) {
+    for (name in named)
+        while (match(text, "(^|[^A-Za-z_])" name "($|[^A-Za-z_])")) {
+            if (substr(text, RSTART, length(name)) != name) RSTART++
+            text = substr(text, 1, RSTART - 1) named[name] substr(text, RSTART + length(name))
+        }
+    return text
+}
+/^pub const [A-Z_]+: usize = [0-9]+;/ {
+    named[substr($3, 1, length($3) - 1)] = substr($6, 1, length($6) - 1)
+    next
+}
+/^pub type [A-Za-z]+ = \[/ {
+    array = $0
+    sub(/^[^=]*= /, "", array)
+    sub(/;$/, "", array)
+    named[$3] = without_names(array)
+    next
+}
+{ $0 = without_names($0) }
 /^#\[repr\(C\)\]/ { marked = 1; next }
 marked && /^pub struct [A-Za-z]*\(pub [a-z0-9]*\);/ {
     struct = $3
@@ -146,11 +173,11 @@ END {
                 read_first(field_name[struct, k], type)
                 printf "}\n\n"
             } else if (asking) printf "ASK_%s(%s, %s, %s, \"%s\")\n", toupper(leaf), at, short, c_called[struct, k], listed(type)
-            else print "struct " short, c_called[struct, k], listed(type)
+            else print "struct " short, k, c_called[struct, k], listed(type)
         }
-        at = "at_" short "_end"
+        at = "size_of_" short
         if (crate) printf "#[no_mangle]\npub extern \"C\" fn %s(with: With%s) -> u8 {\n    with.behind[0]\n}\n\n", at, struct
-        else if (asking) printf "ASK_U8(%s, %s, end, \"\")\n", at, short
+        else if (asking) printf "ASK_U8(%s, %s, size, \"\")\n", at, short
     }
     if (!crate && !asking) for (k = 1; k <= call_count; k++) print calls[k]
 }

@@ -1,7 +1,8 @@
 /*
- * Prints for each field of each struct where it lies, and each struct's size: "STRUCT FIELD TYPE OFFSET", "STRUCT end SIZE". With
+ * Prints for each field of each struct where it lies, and each struct's size: "STRUCT FIELD TYPE OFFSET", "STRUCT size SIZE". With
  * HEADER defined as the compiler of C has them, through include/handset.h; else as the Rattle compiler does, through functions
- * of a crate that was made from the sources (rattle.awk). ASKED names the table of fields, which awk made.
+ * of a crate that was made from the sources (rattle.awk). ASKED names the table of fields, which awk made; for C the structs that
+ * door/handset.c keeps to itself stand before it.
  *
  * A Rattle function is handed a struct with 256 bytes behind it, as an image in which each byte tells its place, and hands back
  * what it finds in its field: so the value is the place. A flag may only be 0 or 1; it is asked for each place alone.
@@ -17,7 +18,7 @@
 #include "handset.h"
 
 #define FIELD(struct_, field, type) printf("struct " #struct_ " " #field " " type " %d\n", (int)offsetof(struct struct_, field));
-#define SIZE(struct_) printf("struct " #struct_ " end %d\n", (int)sizeof(struct struct_));
+#define SIZE(struct_) printf("struct " #struct_ " size %d\n", (int)sizeof(struct struct_));
 
 int main(void)
 {
@@ -35,7 +36,7 @@ struct image {
 /* the functions, as C sees them: declared by the table, then asked by it */
 #define ASK_U8(at, struct_, field, type) uint8_t at(struct image image);
 #define ASK_U16(at, struct_, field, type) uint16_t at(struct image image);
-#define ASK_USIZE(at, struct_, field, type) size_t at(struct image image);
+#define ASK_USIZE(at, struct_, field, type) uint64_t at(struct image image);
 #define ASK_BOOL(at, struct_, field, type) bool at(struct image image);
 #include ASKED
 #undef ASK_U8

@@ -1,6 +1,6 @@
 -- What the collector is answered, byte for byte (request T-04; the note, 3.5.6, 3.5.12 to 3.5.15), how an answer is written, whole or
 -- not at all, and how answers are counted. Assumes nothing.
-use Prim.Native.Nat.{ℕ, suc, _+_}
+use Prim.Native.Nat.{ℕ, _+_}
 use Prim.Native.Char.{code}
 use mathlib.Core.Bool.{Bool, true, false, cond, _||_}
 use mathlib.Core.List.{List, [], _∷_, _++_}
@@ -8,6 +8,7 @@ use lib.Dec.{eqb, leb}
 use lib.ListN.{length}
 use lib.Seq.{sets}
 use Rattle.lists.specs.Codes.{ascii, escape, carriageReturn, lineFeed, questionMark}
+use Rattle.lists.specs.Counted.{counted}
 use Rattle.numeral.specs.Numeral.{decimal}
 use Rattle.answer.specs.declared.Answer.{Answer}
 use Rattle.answer.specs.declared.Answer.the-variants.{Silence, QuestionMark, Contrast, Hook, Version}
@@ -49,5 +50,4 @@ abbrev pub isHead : ℕ → Bool
 isHead b = eqb b questionMark || eqb b escape
 
 abbrev pub heads : List ℕ → ℕ
-heads [] = 0
-heads (b ∷ bytes) = cond (isHead b) (suc (heads bytes)) (heads bytes)
+heads = counted isHead

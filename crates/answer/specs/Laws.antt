@@ -11,6 +11,7 @@ use lib.Seq.{length-sets, sets-eq}
 use borrow.Author.Tests.{leb-true, lt-ltb, ne-eqb}
 use Rattle.lists.specs.Both.{both}
 use Rattle.lists.specs.Codes.{escape, carriageReturn, questionMark}
+use Rattle.lists.specs.Counted.{counted-append}
 use Rattle.lists.specs.Every.{every}
 use Rattle.lists.specs.Tests.{by-test}
 use Rattle.numeral.specs.Numeral.{isDigit, decimal}
@@ -63,8 +64,7 @@ module _ (contrast : ℕ) (hook : Bool) where
 -- Heads ---------------------------------------------------------------------------------------------------------
 
 pub heads-append : (xs ys : List ℕ) → heads (xs ++ ys) ≡ heads xs + heads ys
-heads-append [] ys = omega arith
-heads-append (x ∷ xs) ys = by-test (isHead x) (λ e. rw (e, heads-append xs ys) (omega arith)) (λ e. rw (e, heads-append xs ys))
+heads-append = counted-append isHead
 
 digit-no-head : (b : ℕ) → isDigit b ≡ true → isHead b ≡ false
 digit-no-head b h =
@@ -74,7 +74,7 @@ digit-no-head b h =
 
 digits-no-heads : (digits : List ℕ) → every isDigit digits ≡ true → heads digits ≡ 0
 digits-no-heads [] h = refl
-digits-no-heads (d ∷ digits) h = let b = both {a = isDigit d} h in rw (digit-no-head d (b .0)) (digits-no-heads digits (b .1))
+digits-no-heads (d ∷ digits) h = let b = both {a = isDigit d} h in rw (digit-no-head d (b .0)) (omega (arith, digits-no-heads digits (b .1)))
 
 module _ (contrast : ℕ) (hook : Bool) where
   -- Every answer but silence has one of them: so they count the answers in a buffer.

@@ -3,12 +3,9 @@
 ghost use mathlib.Core.Path.{_≡_};
 ghost use mathlib.Core.Bool.{true};
 ghost use Rattle.answer.specs.Answers.{answerBytes, isSilence, countAfter, bufferAfter, heads};
-
-const ESCAPE: u8 = 0x1B;
-
-const CARRIAGE_RETURN: u8 = 0x0D;
-
-const QUESTION_MARK: u8 = 0x3F;
+use lists::CARRIAGE_RETURN;
+use lists::ESCAPE;
+use lists::QUESTION_MARK;
 
 pub enum Answer {
     Silence,

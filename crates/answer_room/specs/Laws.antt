@@ -1,17 +1,16 @@
 -- What the count is made of, and that it is small. Assumes nothing.
 use Prim.Native.Nat.{ℕ, _+_, _≤_}
-use native.Mathlib.Omega.{arith}
 use mathlib.Core.Path.{_≡_}
 use mathlib.Core.Bool.{true, false, cond}
-use mathlib.Core.List.{List, [], _∷_}
+use mathlib.Core.List.{List}
 use lib.Dec.{eqb}
 use lib.ListN.{length}
-use Rattle.lists.specs.Codes.{escape}
+use Rattle.lists.specs.Counted.{counted-most}
 use Rattle.lists.specs.Tests.{by-test}
 use Rattle.record.specs.Number.{numbered}
 use Rattle.record.specs.Range.{inRange}
 use Rattle.record.specs.declared.Record.{Record}
-use Rattle.parting.specs.Count.{escapes, waiting}
+use Rattle.parting.specs.Count.{isEscape, escapes, waiting}
 use Rattle.stream.specs.Stream.{frameIn, stateOf}
 use Rattle.answer_room.specs.Needed.{roomNeeded}
 
@@ -23,8 +22,7 @@ waiting-state r = by-test (eqb (r .frame .state) 0) (λ e. rw e) (λ e. rw e (by
 -- There are no more ESC bytes than bytes: so a count of them, and one more, is a usize.
 pub escapes-at-most : (bytes : List ℕ) → escapes bytes ≤ length bytes
 unfolding escapes
-escapes-at-most [] = omega arith
-escapes-at-most (b ∷ rest) = by-test (eqb b escape) (λ e. rw e (omega (arith, escapes-at-most rest))) (λ e. rw e (omega (arith, escapes-at-most rest)))
+escapes-at-most = counted-most isEscape
 
 -- A record in range gets number 0 and the count,
 pub room-counted : (r : Record) (bytes : List ℕ) → inRange r ≡ true → roomNeeded r bytes ≡ record { number = numbered 0; bytes = escapes bytes + waiting (stateOf r .frame) }

@@ -4,14 +4,15 @@ ghost use mathlib.Core.Path.{_≡_};
 ghost use Rattle.record.specs.Parts.{together};
 ghost use Rattle.parting.specs.Count.{escapes};
 ghost use Rattle.answer_room.specs.Needed.{roomNeeded};
+use lists::ESCAPE;
+use record::FrameBytes;
+use record::NO_FRAME;
 use record::Number;
+use record::Picture;
 use record::Record;
 use record::Small;
+use record::Text;
 use record_ranges::in_range_lent;
-
-const ESCAPE: u8 = 0x1B;
-
-const NO_FRAME: u8 = 0;
 
 pub struct RoomNeeded {
     pub number: Number,
@@ -37,9 +38,9 @@ pub fn escapes_in(bytes: &[u8]) -> usize
 // The room that a call on this record and these bytes can need. The arrays are only lent to be judged.
 pub fn room_needed_lent<'a>(
     small: Small,
-    text: &'a [u8; 104],
-    picture: &'a [u8; 672],
-    frame: &'a [u8; 250],
+    text: &'a Text,
+    picture: &'a Picture,
+    frame: &'a FrameBytes,
     bytes: &'a [u8],
 ) -> RoomNeeded
     ensures same { λ q. ⌜ q ≡ roomNeeded (together small (now (text .entry)) (now (picture .entry)) (now (frame .entry))) (now (bytes .entry)) ⌝ }

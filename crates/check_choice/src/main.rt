@@ -7,6 +7,7 @@ ghost use mathlib.Core.Path.{_≡_};
 ghost use lib.ListN.{length};
 ghost use Rattle.io.specs.Counts.{Counts};
 use choice::Choice;
+use choice::Rule;
 use program::Input;
 use program::Piece;
 
@@ -37,25 +38,27 @@ fn say_no(offset: usize, rule: u64, words: &[u8]) {
 
 // The words are the request's, and behind them is what to look for.
 fn say_choice(choice: Choice) {
-    match choice {
-        Choice::Yes => say(b"YES\n"),
-        Choice::NoScreen(offset) => say_no(
+    let rule = choice.rule;
+    let offset = choice.offset;
+    match rule {
+        Rule::None => say(b"YES\n"),
+        Rule::NoScreen => say_no(
             offset,
             1,
             b"The first part must be an obeyed ID0 or ID5: look at what the stream begins with.\n",
         ),
-        Choice::LabelMissing(offset) => say_no(
+        Rule::LabelMissing => say_no(
             offset,
             2,
             b"After each later ID0, ID1, ID5, ID6 or ID10 both labels must be set, and neither empty, before the next text byte, \
             the next IDn or the end: look before this offset for an IK1 or IK2 that is missing, empty or undone by IK0.\n",
         ),
-        Choice::QuestionMark(offset) => say_no(
+        Rule::QuestionMark => say_no(
             offset,
             3,
             b"No '?' may be given: look at this offset for a frame that is misspelt, too long or cut off by another ESC.\n",
         ),
-        Choice::FrameOpen(offset) => say_no(
+        Rule::FrameOpen => say_no(
             offset,
             4,
             b"No frame may be left open: look behind the ESC at this offset for the CR that is missing.\n",

@@ -18,9 +18,9 @@ use Rattle.choice.specs.declared.Since.{Since}
 use Rattle.choice.specs.declared.Sign.{Sign}
 use Rattle.choice.specs.declared.Sign.the-variants.{Text, Asked, Open, End, Other}
 use Rattle.choice.specs.declared.Choice.{Choice}
-use Rattle.choice.specs.declared.Choice.the-variants.{NoScreen}
+use Rattle.choice.specs.declared.Rule.the-variants.{NoScreen}
 use Rattle.choice.specs.Signs.{partSign, frameSign, firstSign, opensChoice}
-use Rattle.choice.specs.Choice.{isYes, calm, after, wanted, brokenAt, judgedFrom, choiceOf}
+use Rattle.choice.specs.Choice.{calm, after, wanted, brokenBy, isFine, answerOf, judgedFrom, choiceOf}
 
 -- what is left of a stream from a place on, parted
 abbrev pub rest : List ℕ → ℕ → Parted
@@ -113,36 +113,36 @@ module _ (bytes : List ℕ) where
           rw (e, h) (ap (λ (n : ℕ). judgedFrom calm n parted) whole ∙ through calm 0 e)
 
   -- or it does not.
-  pub not-opened : opensChoice (firstSign (rest bytes 0)) ≡ false → choiceOf bytes ≡ NoScreen 0
+  pub not-opened : opensChoice (firstSign (rest bytes 0)) ≡ false → choiceOf bytes ≡ answerOf NoScreen 0
   unfolding choiceOf
   not-opened other = cases (rest bytes 0) refl other
     where
-      cases : (parted : Parted) → rest bytes 0 ≡ parted → opensChoice (firstSign parted) ≡ false → choiceOf bytes ≡ NoScreen 0
+      cases : (parted : Parted) → rest bytes 0 ≡ parted → opensChoice (firstSign parted) ≡ false → choiceOf bytes ≡ answerOf NoScreen 0
       cases done e h = rw e
       cases (unfinished body) e h = rw e
       cases (then part parted) e h = rw (e, h)
 
   -- A part behind it breaks a rule,
-  pub breaks : (s : Since) (at : ℕ) → isYes (brokenAt s (firstSign (rest bytes at)) at) ≡ false → judged s at ≡ brokenAt s (firstSign (rest bytes at)) at
+  pub breaks : (s : Since) (at : ℕ) → isFine (brokenBy s (firstSign (rest bytes at))) ≡ false → judged s at ≡ answerOf (brokenBy s (firstSign (rest bytes at))) at
   unfolding judgedFrom
   breaks s at broken = cases (rest bytes at) broken
     where
-      cases : (parted : Parted) → isYes (brokenAt s (firstSign parted) at) ≡ false → judgedFrom s at parted ≡ brokenAt s (firstSign parted) at
+      cases : (parted : Parted) → isFine (brokenBy s (firstSign parted)) ≡ false → judgedFrom s at parted ≡ answerOf (brokenBy s (firstSign parted)) at
       cases done h = refl
       cases (unfinished body) h = refl
       cases (then part parted) h = rw h
 
   -- or none, and the parts behind it decide.
-  pub goes-on : (s : Since) (at : ℕ) → at < length bytes → isYes (brokenAt s (firstSign (rest bytes at)) at) ≡ true → judged s at ≡ judged (after s (firstSign (rest bytes at))) (next at)
+  pub goes-on : (s : Since) (at : ℕ) → at < length bytes → isFine (brokenBy s (firstSign (rest bytes at))) ≡ true → judged s at ≡ judged (after s (firstSign (rest bytes at))) (next at)
   unfolding judgedFrom
   goes-on s at before fine = cases (rest bytes at) refl fine
     where
-      cases : (parted : Parted) → rest bytes at ≡ parted → isYes (brokenAt s (firstSign parted) at) ≡ true → judgedFrom s at parted ≡ judged (after s (firstSign parted)) (next at)
+      cases : (parted : Parted) → rest bytes at ≡ parted → isFine (brokenBy s (firstSign parted)) ≡ true → judgedFrom s at parted ≡ judged (after s (firstSign parted)) (next at)
       cases done e h = absurd (true≢false (sym (ap (λ (p : PartAt). isNone (p .kind)) (tells-first bytes at (parting-of bytes at e))) ∙ advances bytes at before .some))
       cases (unfinished body) e h = absurd (true≢false (sym h))
       cases (then part parted) e h = rw h (through (after s (partSign part)) at e)
 
   -- At the end the labels are wanted.
-  pub ends : (s : Since) (at : ℕ) → length bytes ≤ at → judged s at ≡ wanted s at
+  pub ends : (s : Since) (at : ℕ) → length bytes ≤ at → judged s at ≡ answerOf (wanted s) at
   unfolding judgedFrom cut
   ends s at past = rw (drop-of-length-le bytes {i = at} past)

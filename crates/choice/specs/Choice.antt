@@ -1,5 +1,5 @@
 -- The answer, computed part by part from left to right. Assumes nothing.
-use Prim.Native.Nat.{ℕ, _+_}
+use Prim.Native.Nat.{ℕ, zero, suc, _+_}
 use mathlib.Core.Bool.{Bool, true, false, not, cond, _&&_, _||_}
 use mathlib.Core.List.{List}
 use lib.ListN.{length}
@@ -10,15 +10,10 @@ use Rattle.choice.specs.declared.Since.{Since}
 use Rattle.choice.specs.declared.Sign.{Sign}
 use Rattle.choice.specs.declared.Sign.the-variants.{Text, Screen, LeftSet, RightSet, BothEmpty, Asked, Open, End, Other}
 use Rattle.choice.specs.declared.Choice.{Choice}
-use Rattle.choice.specs.declared.Choice.the-variants.{Yes, NoScreen, LabelMissing, QuestionMark, FrameOpen}
+use Rattle.choice.specs.declared.Rule.{Rule}
+use Rattle.choice.specs.declared.Rule.the-variants.{None, NoScreen, LabelMissing, QuestionMark, FrameOpen}
 use Rattle.choice.specs.Signs.{partSign, opensChoice}
-
-abbrev pub isYes : Choice → Bool
-isYes Yes = true
-isYes (NoScreen offset) = false
-isYes (LabelMissing offset) = false
-isYes (QuestionMark offset) = false
-isYes (FrameOpen offset) = false
+use Rattle.choice.specs.Rules.{ruleNumber}
 
 -- what is asked for, and which labels stand
 abbrev pub since : Bool → Bool → Bool → Since
@@ -44,32 +39,43 @@ after s Open = s
 after s End = s
 after s Other = s
 
-abbrev pub wanted : Since → ℕ → Choice
-wanted s at = cond (labelled s) Yes (LabelMissing at)
+abbrev pub wanted : Since → Rule
+wanted s = cond (labelled s) None LabelMissing
 
--- the rule that is broken by what stands at a place behind the first part; Yes for none
-abbrev pub brokenAt : Since → Sign → ℕ → Choice
-brokenAt s Text at = wanted s at
-brokenAt s (Screen n) at = wanted s at
-brokenAt s (LeftSet codes) at = Yes
-brokenAt s (RightSet codes) at = Yes
-brokenAt s BothEmpty at = Yes
-brokenAt s Asked at = QuestionMark at
-brokenAt s Open at = FrameOpen at
-brokenAt s End at = wanted s at
-brokenAt s Other at = Yes
+-- the rule that is broken by what stands behind the first part
+abbrev pub brokenBy : Since → Sign → Rule
+brokenBy s Text = wanted s
+brokenBy s (Screen n) = wanted s
+brokenBy s (LeftSet codes) = None
+brokenBy s (RightSet codes) = None
+brokenBy s BothEmpty = None
+brokenBy s Asked = QuestionMark
+brokenBy s Open = FrameOpen
+brokenBy s End = wanted s
+brokenBy s Other = None
+
+abbrev pub isZero : ℕ → Bool
+isZero zero = true
+isZero (suc n) = false
+
+abbrev pub isFine : Rule → Bool
+isFine rule = isZero (ruleNumber rule)
+
+-- the answer where a rule is broken at a place; where none is, the offset is 0
+abbrev pub answerOf : Rule → ℕ → Choice
+answerOf rule at = record { rule = rule; offset = cond (isFine rule) 0 at }
 
 -- from a place behind the first part on
 unfoldable pub judgedFrom : Since → ℕ → Parted → Choice
-judgedFrom s at done = brokenAt s End at
-judgedFrom s at (unfinished body) = brokenAt s Open at
+judgedFrom s at done = answerOf (brokenBy s End) at
+judgedFrom s at (unfinished body) = answerOf (brokenBy s Open) at
 judgedFrom s at (then part parted) =
-    cond (isYes (brokenAt s (partSign part) at)) (judgedFrom (after s (partSign part)) (at + length (bytesOf part)) parted) (brokenAt s (partSign part) at)
+    cond (isFine (brokenBy s (partSign part))) (judgedFrom (after s (partSign part)) (at + length (bytesOf part)) parted) (answerOf (brokenBy s (partSign part)) at)
 
 abbrev pub judgedAll : Parted → Choice
-judgedAll done = NoScreen 0
-judgedAll (unfinished body) = NoScreen 0
-judgedAll (then part parted) = cond (opensChoice (partSign part)) (judgedFrom calm (length (bytesOf part)) parted) (NoScreen 0)
+judgedAll done = answerOf NoScreen 0
+judgedAll (unfinished body) = answerOf NoScreen 0
+judgedAll (then part parted) = cond (opensChoice (partSign part)) (judgedFrom calm (length (bytesOf part)) parted) (answerOf NoScreen 0)
 
 -- THE ANSWER on a stream
 unfoldable pub choiceOf : List ℕ → Choice

@@ -25,102 +25,67 @@ use Rattle.choice.specs.declared.Since.{Since}
 use Rattle.choice.specs.declared.Sign.{Sign}
 use Rattle.choice.specs.declared.Sign.the-variants.{Asked, Other}
 use Rattle.choice.specs.declared.Choice.{Choice}
-use Rattle.choice.specs.declared.Choice.the-variants.{Yes, NoScreen, LabelMissing, QuestionMark, FrameOpen}
+use Rattle.choice.specs.declared.Rule.{Rule}
+use Rattle.choice.specs.declared.Rule.the-variants.{None, NoScreen, LabelMissing, QuestionMark, FrameOpen}
 use Rattle.choice.specs.Signs.{commandSign, labelSign, frameSign, partSign, firstSign, opensChoice, asksLabels, isCheck, leftAfter, rightAfter}
-use Rattle.choice.specs.Rules.{signAt, untilCheck, fromCheck, leftStands, rightStands, wantedAt, Broken, no-screen, label-missing, question-mark, frame-open, Earliest, Says}
-use Rattle.choice.specs.Choice.{isYes, calm, after, wanted, brokenAt, judgedFrom, judgedAll, choiceOf}
+use Rattle.choice.specs.Rules.{signAt, untilCheck, fromCheck, leftStands, rightStands, wantedAt, Broken, no-screen, label-missing, question-mark, frame-open, Earliest, Told, ruleNumber, Says}
+use Rattle.choice.specs.Choice.{calm, after, wanted, brokenBy, isZero, isFine, answerOf, judgedFrom, judgedAll, choiceOf}
 
 -- ANSWERS, of anything that can be broken at offsets -----------------------------------------------------------------------
-
--- what an answer comes to: all is fine, or there is a fault, of which it says the offset and the rule
-data Finding : Type 0 where
-  fine : Finding
-  fault : ℕ → ℕ → Finding
-
-abbrev finding : Choice → Finding
-finding Yes = fine
-finding (NoScreen offset) = fault offset 1
-finding (LabelMissing offset) = fault offset 2
-finding (QuestionMark offset) = fault offset 3
-finding (FrameOpen offset) = fault offset 4
 
 -- a fault that does not stand behind the other one
 abbrev NotBehind : ℕ → ℕ → ℕ → ℕ → Type 0
 NotBehind offset rule other rule′ = (offset < other) ⊎ ((offset ≡ other) × (rule ≤ rule′))
 
--- a finding says what is broken, as `Says` does of the stream
-abbrev Tells : (ℕ → ℕ → Type 0) → Finding → Type 0
-Tells broken fine = (offset rule : ℕ) → broken offset rule → ⊥
-Tells broken (fault offset rule) = broken offset rule × ((other rule′ : ℕ) → broken other rule′ → NotBehind offset rule other rule′)
+-- what an answer tells
+abbrev Tells : (ℕ → ℕ → Type 0) → Choice → Type 0
+Tells broken c = Told broken (ruleNumber (c .rule)) (c .offset)
 
--- the fault that is found, and no other
-abbrev Is : Finding → ℕ → ℕ → Type 0
-Is fine offset rule = ⊥
-Is (fault offset rule) other rule′ = (offset ≡ other) × (rule ≡ rule′)
+-- the rule of this number at this place, and no other; number 0 is none
+abbrev Is : ℕ → ℕ → ℕ → ℕ → Type 0
+Is zero at offset rule = ⊥
+Is (suc n) at offset rule = (at ≡ offset) × (suc n ≡ rule)
 
 -- What breaks alike is told alike.
-tells-alike : {P Q : ℕ → ℕ → Type 0} → ((o r : ℕ) → P o r → Q o r) → ((o r : ℕ) → Q o r → P o r) → (f : Finding) → Tells P f → Tells Q f
-tells-alike to from fine t = λ o r q. t o r (from o r q)
-tells-alike to from (fault offset rule) t = (to offset rule (t .0), λ o r q. t .1 o r (from o r q))
+told-alike : {P Q : ℕ → ℕ → Type 0} → ((o r : ℕ) → P o r → Q o r) → ((o r : ℕ) → Q o r → P o r) → (n at : ℕ) → Told P n at → Told Q n at
+told-alike to from zero at t = (t .0, λ o r q. t .1 o r (from o r q))
+told-alike to from (suc n) at t = record { here = to at (suc n) (t .here); least = λ o r q. t .least o r (from o r q) }
 
--- Where nothing but what is found is broken, that is told.
-tells-itself : (f : Finding) → Tells (Is f) f
-tells-itself fine = λ o r i. i
-tells-itself (fault offset rule) = ((refl, refl), λ o r i. inr (i .0, omega arith))
+-- Where nothing but a rule at a place is broken, that is told.
+told-itself : (n at : ℕ) → Told (Is n at) n (cond (isZero n) 0 at)
+told-itself zero at = (refl, λ o r i. i)
+told-itself (suc n) at = record { here = (refl, refl); least = λ o r i. inr (i .0, omega arith) }
 
--- Two findings that both tell it are the same.
-tells-once : (P : ℕ → ℕ → Type 0) (f g : Finding) → Tells P f → Tells P g → f ≡ g
-tells-once P fine fine t u = refl
-tells-once P fine (fault o r) t u = absurd (t o r (u .0))
-tells-once P (fault o r) fine t u = absurd (u o r (t .0))
-tells-once P (fault o r) (fault o′ r′) t u = same (t .1 o′ r′ (u .0)) (u .1 o r (t .0))
+-- Two that both tell it are the same.
+told-once : (P : ℕ → ℕ → Type 0) (n o n′ o′ : ℕ) → Told P n o → Told P n′ o′ → (n ≡ n′) × (o ≡ o′)
+told-once P zero o zero o′ t u = (refl, t .0 ∙ sym (u .0))
+told-once P zero o (suc n′) o′ t u = absurd (t .1 o′ (suc n′) (u .here))
+told-once P (suc n) o zero o′ t u = absurd (u .1 o (suc n) (t .here))
+told-once P (suc n) o (suc n′) o′ t u = same (t .least o′ (suc n′) (u .here)) (u .least o (suc n) (t .here))
   where
-    same : NotBehind o r o′ r′ → NotBehind o′ r′ o r → fault o r ≡ fault o′ r′
+    same : NotBehind o (suc n) o′ (suc n′) → NotBehind o′ (suc n′) o (suc n) → (suc n ≡ suc n′) × (o ≡ o′)
     same (inl a) (inl b) = absurd (omega arith)
     same (inl a) (inr b) = absurd (omega arith)
     same (inr a) (inl b) = absurd (omega arith)
-    same (inr a) (inr b) = let e : o ≡ o′ = omega arith in let e′ : r ≡ r′ = omega arith in cc
+    same (inr a) (inr b) = (omega arith, omega arith)
 
--- An answer is known by its finding.
-abbrev answer : Finding → Choice
-answer fine = Yes
-answer (fault offset rule) =
-    cond (eqb rule 1) (NoScreen offset)
-    (cond (eqb rule 2) (LabelMissing offset)
-    (cond (eqb rule 3) (QuestionMark offset) (FrameOpen offset)))
+-- A rule is known by its number.
+abbrev ruleOf : ℕ → Rule
+ruleOf n = cond (eqb n 0) None (cond (eqb n 1) NoScreen (cond (eqb n 2) LabelMissing (cond (eqb n 3) QuestionMark FrameOpen)))
 
-answer-finding : (c : Choice) → answer (finding c) ≡ c
-answer-finding Yes = refl
-answer-finding (NoScreen offset) = refl
-answer-finding (LabelMissing offset) = refl
-answer-finding (QuestionMark offset) = refl
-answer-finding (FrameOpen offset) = refl
+numbered : (rule : Rule) → ruleOf (ruleNumber rule) ≡ rule
+numbered None = refl
+numbered NoScreen = refl
+numbered LabelMissing = refl
+numbered QuestionMark = refl
+numbered FrameOpen = refl
 
--- What an answer says of a stream is what its finding tells of the rules that are broken there,
-module _ (stream : List ℕ) (parted : Parted) where
-  earliest : {offset rule : ℕ} → Tells (Broken stream parted) (fault offset rule) → Earliest stream parted offset rule
-  earliest t = record { broken = t .0; least = t .1 }
-
-  says : (c : Choice) → Tells (Broken stream parted) (finding c) → Says stream parted c
-  says Yes t = t
-  says (NoScreen offset) t = earliest t
-  says (LabelMissing offset) t = earliest t
-  says (QuestionMark offset) t = earliest t
-  says (FrameOpen offset) t = earliest t
-
-  -- and the other way round.
-  tells : (c : Choice) → Says stream parted c → Tells (Broken stream parted) (finding c)
-  tells Yes t = t
-  tells (NoScreen offset) t = (t .broken, t .least)
-  tells (LabelMissing offset) t = (t .broken, t .least)
-  tells (QuestionMark offset) t = (t .broken, t .least)
-  tells (FrameOpen offset) t = (t .broken, t .least)
-
-  -- So there is one answer.
-  says-once : (c d : Choice) → Says stream parted c → Says stream parted d → c ≡ d
-  says-once c d s t =
-      let same = tells-once (Broken stream parted) (finding c) (finding d) (tells c s) (tells d t) in
-      sym (answer-finding c) ∙ ap answer same ∙ answer-finding d
+-- So there is one answer.
+says-once : (stream : List ℕ) (parted : Parted) (c d : Choice) → Says stream parted c → Says stream parted d → c ≡ d
+says-once stream parted c d s t =
+    let same = told-once (Broken stream parted) (ruleNumber (c .rule)) (c .offset) (ruleNumber (d .rule)) (d .offset) s t in
+    let rule : c .rule ≡ d .rule = sym (numbered (c .rule)) ∙ ap ruleOf (same .0) ∙ numbered (d .rule) in
+    λ j. record { rule = rule j; offset = same .1 j }
 
 -- WHAT IS BROKEN FROM A PLACE ON, behind the first part --------------------------------------------------------------------
 
@@ -154,14 +119,14 @@ data BrokenFrom (s : Since) (end at : ℕ) (parted : Parted) (offset rule : ℕ)
   tail-open : (body : List ℕ) → tailOf parted ≡ unfinished body → tailPlace at parted ≡ offset → 4 ≡ rule → BrokenFrom s end at parted offset rule
 
 -- What an answer wants at a place is what is due there,
-due-is-wanted : (s : Since) (at offset rule : ℕ) → Due s at offset → 2 ≡ rule → Is (finding (wanted s at)) offset rule
+due-is-wanted : (s : Since) (at offset rule : ℕ) → Due s at offset → 2 ≡ rule → Is (ruleNumber (wanted s)) at offset rule
 due-is-wanted s at offset rule d e = rw (d .0, d .1) (d .2, e)
 
 -- and nothing else.
-wanted-is-due : (s : Since) (at offset rule : ℕ) → Is (finding (wanted s at)) offset rule → Due s at offset × (2 ≡ rule)
+wanted-is-due : (s : Since) (at offset rule : ℕ) → Is (ruleNumber (wanted s)) at offset rule → Due s at offset × (2 ≡ rule)
 wanted-is-due s at offset rule i = go (s .asks) (s .left && s .right) i
   where
-    go : (asks both : Bool) → Is (finding (cond (not asks || both) Yes (LabelMissing at))) offset rule
+    go : (asks both : Bool) → Is (ruleNumber (cond (not asks || both) None LabelMissing)) at offset rule
         → ((asks ≡ true) × (both ≡ false) × (at ≡ offset)) × (2 ≡ rule)
     go true true i = absurd i
     go true false i = ((refl, refl, i .0), i .1)
@@ -175,26 +140,26 @@ relabelled s sign = record { asks = s .asks; left = leftAfter (s .left) sign; ri
 
 -- A part checks the labels, and asks anew; or it passes, and may be answered by a question mark.
 data Role (sign : Sign) : Type 0 where
-  checks : isCheck sign ≡ true → ((s : Since) → after s sign ≡ anew (asksLabels sign)) → ((s : Since) (at : ℕ) → brokenAt s sign at ≡ wanted s at) → Role sign
+  checks : isCheck sign ≡ true → ((s : Since) → after s sign ≡ anew (asksLabels sign)) → ((s : Since) → brokenBy s sign ≡ wanted s) → Role sign
   passes : isCheck sign ≡ false → asksLabels sign ≡ false → ((s : Since) → after s sign ≡ relabelled s sign)
-      → (sign ≡ Asked) ⊎ ((s : Since) (at : ℕ) → brokenAt s sign at ≡ Yes) → Role sign
+      → (sign ≡ Asked) ⊎ ((s : Since) → brokenBy s sign ≡ None) → Role sign
 
 asked : Role Asked
 asked = passes refl refl (λ s. refl) (inl refl)
 
 other : Role Other
-other = passes refl refl (λ s. refl) (inr (λ s at. refl))
+other = passes refl refl (λ s. refl) (inr (λ s. refl))
 
 -- so does each part, by its sign
 command-role : (c : Command) → Role (commandSign c)
 command-role DisplayOff = other
 command-role DisplayOn = other
-command-role (Mode n) = checks refl (λ s. refl) (λ s at. refl)
+command-role (Mode n) = checks refl (λ s. refl) (λ s. refl)
 command-role CursorShown = other
 command-role CursorHidden = other
 command-role Clear = other
 command-role (Position row column) = other
-command-role LabelsEmpty = passes refl refl (λ s. refl) (inr (λ s at. refl))
+command-role LabelsEmpty = passes refl refl (λ s. refl) (inr (λ s. refl))
 command-role (IconS n) = other
 command-role (IconU n) = other
 command-role (IconF n) = other
@@ -222,8 +187,8 @@ command-role ClearLine = other
 command-role (Inverse n) = other
 
 label-role : (side : Side) (codes : Bool) → Role (labelSign side codes)
-label-role Left codes = passes refl refl (λ s. refl) (inr (λ s at. refl))
-label-role Right codes = passes refl refl (λ s. refl) (inr (λ s at. refl))
+label-role Left codes = passes refl refl (λ s. refl) (inr (λ s. refl))
+label-role Right codes = passes refl refl (λ s. refl) (inr (λ s. refl))
 
 frame-role : (order : Option Order) → Role (frameSign order)
 frame-role none = asked
@@ -232,7 +197,7 @@ frame-role (some (label side t)) = label-role side _
 frame-role (some (draw row columns)) = other
 
 part-role : (part : Part) → Role (partSign part)
-part-role (text b) = checks refl (λ s. refl) (λ s at. refl)
+part-role (text b) = checks refl (λ s. refl) (λ s. refl)
 part-role (skipped b) = other
 part-role (closed body) = frame-role (orderOf body)
 part-role (abandoned body) = asked
@@ -267,8 +232,8 @@ module _ (end offset : ℕ) (p : Placed) (ms : List Placed) where
 
   -- so rule 2 is broken at the first part, or from behind it on,
   missing-on : (s : Since) → Role (signAt p) → Missing s end (p ∷ ms) offset
-      → Is (finding (brokenAt s (signAt p) (p .place))) offset 2 ⊎ Missing (after s (signAt p)) end ms offset
-  missing-on s (checks c a b) (inl w) = inl (rw (b s (p .place)) (due-is-wanted s (p .place) offset 2 (owed-due s c w) refl))
+      → Is (ruleNumber (brokenBy s (signAt p))) (p .place) offset 2 ⊎ Missing (after s (signAt p)) end ms offset
+  missing-on s (checks c a b) (inl w) = inl (rw (b s) (due-is-wanted s (p .place) offset 2 (owed-due s c w) refl))
   missing-on s (checks c a b) (inr w) = inr (rw (a s) (asked-on w))
   missing-on s (passes c n a m) (inl w) = inr (rw (a s) (inl (owed-on s c w)))
   missing-on s (passes c n a m) (inr w) = inr (⊎-elim (λ o. absurd (true≢false (sym (o .0) ∙ n))) inr (asked-on w))
@@ -289,8 +254,8 @@ abbrev placedAt : ℕ → Part → Placed
 placedAt at part = record { place = at; part = part }
 
 -- what a part itself breaks
-abbrev here : Since → ℕ → Part → Finding
-here s at part = finding (brokenAt s (partSign part) at)
+abbrev here : Since → Part → ℕ
+here s part = ruleNumber (brokenBy s (partSign part))
 
 module _ (s : Since) (end at : ℕ) (part : Part) (parted : Parted) where
   abbrev Whole : ℕ → ℕ → Type 0
@@ -300,7 +265,7 @@ module _ (s : Since) (end at : ℕ) (part : Part) (parted : Parted) where
   Behind = BrokenFrom (after s (partSign part)) end (endOf at part) parted
 
   -- what is broken is broken here or behind,
-  here-or-behind : (offset rule : ℕ) → Whole offset rule → Is (here s at part) offset rule ⊎ Behind offset rule
+  here-or-behind : (offset rule : ℕ) → Whole offset rule → Is (here s part) at offset rule ⊎ Behind offset rule
   unfolding places tailPlace
   here-or-behind offset rule (label-wanted m e) =
       ⊎-elim (λ i. inl (rw (← e) i)) (λ later. inr (label-wanted later e)) (missing-on end offset (placedAt at part) (places (endOf at part) parted) s (part-role part) m)
@@ -318,42 +283,35 @@ module _ (s : Since) (end at : ℕ) (part : Part) (parted : Parted) where
   behind-whole offset rule (tail-open body t o e) = tail-open body t o e
 
   -- and what is broken here too, at this place
-  here-whole : (offset rule : ℕ) → Is (here s at part) offset rule → Whole offset rule × (at ≡ offset)
+  here-whole : (offset rule : ℕ) → Is (here s part) at offset rule → Whole offset rule × (at ≡ offset)
   unfolding places
   here-whole offset rule i = go (part-role part)
     where
       go : Role (partSign part) → Whole offset rule × (at ≡ offset)
       go (checks c a b) =
-          let w = wanted-is-due s at offset rule (rw (b s at) at i) in
+          let w = wanted-is-due s at offset rule (rw (b s) at i) in
           (label-wanted (inl (due-owed end offset (placedAt at part) (places (endOf at part) parted) s c (w .0))) (w .1), w .0 .2)
       go (passes c n a (inl e)) = let j = rw e at i in (mark-given (placedAt at part) (List·Memᴰ·head refl) e (j .0) (j .1), j .0)
-      go (passes c n a (inr none-broken)) = absurd (rw (none-broken s at) at i)
+      go (passes c n a (inr none-broken)) = absurd (rw (none-broken s) at i)
 
 -- PART BY PART ---------------------------------------------------------------------------------------------------------------
 
--- the earlier of two findings
-abbrev firstOf : Finding → Finding → Finding
-firstOf fine later = later
-firstOf (fault offset rule) later = fault offset rule
-
-judged-first : (now later : Choice) → finding (cond (isYes now) later now) ≡ firstOf (finding now) (finding later)
-judged-first Yes later = refl
-judged-first (NoScreen offset) later = refl
-judged-first (LabelMissing offset) later = refl
-judged-first (QuestionMark offset) later = refl
-judged-first (FrameOpen offset) later = refl
-
--- What is broken here or behind is told by the earlier finding.
-tells-first : {P Q : ℕ → ℕ → Type 0} (at : ℕ) (now later : Finding) → ((o r : ℕ) → Is now o r → P o r × (at ≡ o)) → ((o r : ℕ) → Q o r → P o r)
-    → ((o r : ℕ) → P o r → Is now o r ⊎ Q o r) → ((o r : ℕ) → Q o r → at < o) → Tells Q later → Tells P (firstOf now later)
-tells-first at fine later here behind split further t = tells-alike behind (λ o r p. ⊎-elim (λ i. absurd i) (λ q. q) (split o r p)) later t
-tells-first at (fault offset rule) later here behind split further t =
-    let h = here offset rule (refl, refl) in
-    (h .0, λ o r p. ⊎-elim (λ i. inr (i .0, omega arith)) (λ q. inl (omega (arith, further o r q))) (split o r p))
+-- What is broken here or behind is told by the rule that is broken here, and if there is none by what is told behind.
+told-first : {P Q : ℕ → ℕ → Type 0} (at : ℕ) (rule : Rule) (later : Choice) (n : ℕ) → ruleNumber rule ≡ n → ((o r : ℕ) → Is n at o r → P o r × (at ≡ o))
+    → ((o r : ℕ) → Q o r → P o r) → ((o r : ℕ) → P o r → Is n at o r ⊎ Q o r) → ((o r : ℕ) → Q o r → at < o) → Tells Q later
+    → Tells P (cond (isFine rule) later (answerOf rule at))
+told-first at rule later zero e here behind split further t =
+    rw e (told-alike behind (λ o r p. ⊎-elim (λ i. absurd i) (λ q. q) (split o r p)) (ruleNumber (later .rule)) (later .offset) t)
+told-first at rule later (suc n) e here behind split further t =
+    rw (e, e)
+    (record {
+      here = here at (suc n) (refl, refl) .0;
+      least = λ o r p. ⊎-elim (λ i. inr (i .0, omega arith)) (λ q. inl (omega (arith, further o r q))) (split o r p);
+    })
 
 -- where the rest of the stream begins at a place: the answer that is computed tells what is broken there, and nothing is broken before it
 record Judged (s : Since) (end at : ℕ) (parted : Parted) : Type 0 where
-  told : Tells (BrokenFrom s end at parted) (finding (judgedFrom s at parted))
+  told : Tells (BrokenFrom s end at parted) (judgedFrom s at parted)
   within : (offset rule : ℕ) → BrokenFrom s end at parted offset rule → at ≤ offset
 
 -- at the stream's end, where no part comes any more: labels are missing only at the end
@@ -365,14 +323,14 @@ judged-end : (s : Since) (at : ℕ) → Judged s at at done
 unfolding places tailPlace judgedFrom
 judged-end s at =
     record {
-      told = tells-alike to from (finding (wanted s at)) (tells-itself (finding (wanted s at)));
+      told = told-alike to from (ruleNumber (wanted s)) _ (told-itself (ruleNumber (wanted s)) at);
       within = λ o r b. omega (arith, wanted-is-due s at o r (from o r b));
     }
   where
-    to : (offset rule : ℕ) → Is (finding (wanted s at)) offset rule → BrokenFrom s at at done offset rule
+    to : (offset rule : ℕ) → Is (ruleNumber (wanted s)) at offset rule → BrokenFrom s at at done offset rule
     to offset rule i = let w = wanted-is-due s at offset rule i in label-wanted (inl (w .0)) (w .1)
 
-    from : (offset rule : ℕ) → BrokenFrom s at at done offset rule → Is (finding (wanted s at)) offset rule
+    from : (offset rule : ℕ) → BrokenFrom s at at done offset rule → Is (ruleNumber (wanted s)) at offset rule
     from offset rule (label-wanted m e) = due-is-wanted s at offset rule (missing-at-end s at offset m) e
     from offset rule (mark-given placed m a o e) = absurd (List·Memᴰ·not-nil m)
     from offset rule (tail-open body t o e) = absurd (let z : _≡_ {A = ℕ} 0 1 = cc in omega arith)
@@ -382,7 +340,7 @@ judged-tail : (s : Since) (end at : ℕ) (body : List ℕ) → at < end → Judg
 unfolding places tailPlace judgedFrom
 judged-tail s end at body before =
     record {
-      told = (tail-open body refl refl refl, first);
+      told = record { here = tail-open body refl refl refl; least = first };
       within = λ o r b. ⊎-elim (λ l. omega arith) (λ l. omega arith) (first o r b);
     }
   where
@@ -397,14 +355,14 @@ judged-part : (s : Since) (end at : ℕ) (part : Part) (parted : Parted) → Jud
 unfolding judgedFrom
 judged-part s end at part parted next =
     record {
-      told = rw judged-first (tells-first at (here s at part) _ from-here (behind-whole s end at part parted) split further (next .told));
+      told = told-first at (brokenBy s (partSign part)) _ (here s part) refl from-here (behind-whole s end at part parted) split further (next .told);
       within = λ o r b. ⊎-elim (λ i. omega (arith, from-here o r i .1)) (λ q. omega (arith, further o r q)) (split o r b);
     }
   where
-    from-here : (o r : ℕ) → Is (here s at part) o r → Whole s end at part parted o r × (at ≡ o)
+    from-here : (o r : ℕ) → Is (here s part) at o r → Whole s end at part parted o r × (at ≡ o)
     from-here = here-whole s end at part parted
 
-    split : (o r : ℕ) → Whole s end at part parted o r → Is (here s at part) o r ⊎ Behind s end at part parted o r
+    split : (o r : ℕ) → Whole s end at part parted o r → Is (here s part) at o r ⊎ Behind s end at part parted o r
     split = here-or-behind s end at part parted
 
     further : (o r : ℕ) → Behind s end at part parted o r → at < o
@@ -430,8 +388,8 @@ first-of-all : (offset rule : ℕ) → 1 ≤ rule → NotBehind 0 1 offset rule
 first-of-all zero rule l = inr (refl, l)
 first-of-all (suc offset) rule l = inl (omega arith)
 
-no-screen-first : {stream : List ℕ} {parted : Parted} → opensChoice (firstSign parted) ≡ false → Earliest stream parted 0 1
-no-screen-first e = record { broken = no-screen e; least = λ offset rule b. first-of-all offset rule (some-rule b) }
+no-screen-first : {stream : List ℕ} {parted : Parted} → opensChoice (firstSign parted) ≡ false → Says stream parted (answerOf NoScreen 0)
+no-screen-first e = record { here = no-screen e; least = λ offset rule b. first-of-all offset rule (some-rule b) }
 
 -- Where the first part is ID0 or ID5, what is broken is what is broken behind it.
 module _ (stream : List ℕ) (part : Part) (parted : Parted) (opens : opensChoice (partSign part) ≡ true) where
@@ -462,7 +420,7 @@ module _ (stream : List ℕ) (part : Part) (parted : Parted) (opens : opensChoic
   opened : Judged calm (length stream) (endOf 0 part) parted → Says stream (then part parted) (judgedFrom calm (endOf 0 part) parted)
   opened j =
       let c = judgedFrom calm (endOf 0 part) parted in
-      says stream (then part parted) c (tells-alike rest-stream stream-rest (finding c) (j .told))
+      told-alike rest-stream stream-rest (ruleNumber (c .rule)) (c .offset) (j .told)
 
 -- The answer on a parting says what the rules say of it.
 judged-all : {stream : List ℕ} {parted : Parted} → Parting stream parted → Says stream parted (judgedAll parted)

@@ -1,6 +1,6 @@
 -- THE FOUR RULES of the choice screen (request T-11), over the parting of a stream and nothing else; where each of them is broken.
 -- Hold this page against the request. Assumes nothing.
-use Prim.Native.Nat.{ℕ, _<_, _≤_}
+use Prim.Native.Nat.{ℕ, zero, suc, _<_, _≤_}
 use mathlib.Core.Bool.{Bool, true, false, cond, _&&_}
 use mathlib.Core.List.{List, [], _∷_, _++_, List·Memᴰ}
 use mathlib.Core.Logic.{_⊎_}
@@ -11,7 +11,8 @@ use Rattle.parts.specs.Laws.{tailOf}
 use Rattle.choice.specs.declared.Sign.{Sign}
 use Rattle.choice.specs.declared.Sign.the-variants.{Asked}
 use Rattle.choice.specs.declared.Choice.{Choice}
-use Rattle.choice.specs.declared.Choice.the-variants.{Yes, NoScreen, LabelMissing, QuestionMark, FrameOpen}
+use Rattle.choice.specs.declared.Rule.{Rule}
+use Rattle.choice.specs.declared.Rule.the-variants.{None, NoScreen, LabelMissing, QuestionMark, FrameOpen}
 use Rattle.choice.specs.Signs.{partSign, firstSign, opensChoice, asksLabels, isCheck, leftAfter, rightAfter}
 
 abbrev pub signAt : Placed → Sign
@@ -57,15 +58,24 @@ pub data Broken (stream : List ℕ) (parted : Parted) : ℕ → ℕ → Type 0 w
   -- 4: no frame is left open
   frame-open : (body : List ℕ) → tailOf parted ≡ unfinished body → Broken stream parted (tailPlace 0 parted) 4
 
--- the earliest offset where a rule is broken, and there the first rule
-pub record Earliest (stream : List ℕ) (parted : Parted) (offset rule : ℕ) : Type 0 where
-  pub broken : Broken stream parted offset rule
-  pub least : (other rule′ : ℕ) → Broken stream parted other rule′ → (offset < other) ⊎ ((offset ≡ other) × (rule ≤ rule′))
+-- Of anything that can be broken at offsets, by rules: the earliest offset, and there the first rule
+pub record Earliest (broken : ℕ → ℕ → Type 0) (offset rule : ℕ) : Type 0 where
+  pub here : broken offset rule
+  pub least : (other rule′ : ℕ) → broken other rule′ → (offset < other) ⊎ ((offset ≡ other) × (rule ≤ rule′))
+
+-- what a rule's number and an offset tell: 0, at 0, that nothing is broken; any other, that the rule is broken there, and nothing earlier
+abbrev pub Told : (ℕ → ℕ → Type 0) → ℕ → ℕ → Type 0
+Told broken zero offset = (offset ≡ 0) × ((other rule : ℕ) → broken other rule → ⊥)
+Told broken (suc rule) offset = Earliest broken offset (suc rule)
+
+-- the rules by their numbers
+abbrev pub ruleNumber : Rule → ℕ
+ruleNumber None = 0
+ruleNumber NoScreen = 1
+ruleNumber LabelMissing = 2
+ruleNumber QuestionMark = 3
+ruleNumber FrameOpen = 4
 
 -- WHAT AN ANSWER SAYS
 abbrev pub Says : List ℕ → Parted → Choice → Type 0
-Says stream parted Yes = (offset rule : ℕ) → Broken stream parted offset rule → ⊥
-Says stream parted (NoScreen offset) = Earliest stream parted offset 1
-Says stream parted (LabelMissing offset) = Earliest stream parted offset 2
-Says stream parted (QuestionMark offset) = Earliest stream parted offset 3
-Says stream parted (FrameOpen offset) = Earliest stream parted offset 4
+Says stream parted c = Told (Broken stream parted) (ruleNumber (c .rule)) (c .offset)

@@ -87,29 +87,25 @@ firstSign done = End
 firstSign (unfinished body) = Open
 firstSign (then part parted) = partSign part
 
+-- a test on the number of an IDn, which no other sign passes
+abbrev onScreen : (ℕ → Bool) → Sign → Bool
+onScreen test Text = false
+onScreen test (Screen n) = test n
+onScreen test (LeftSet codes) = false
+onScreen test (RightSet codes) = false
+onScreen test BothEmpty = false
+onScreen test Asked = false
+onScreen test Open = false
+onScreen test End = false
+onScreen test Other = false
+
 -- ID0 and ID5
 abbrev pub opensChoice : Sign → Bool
-opensChoice Text = false
-opensChoice (Screen n) = eqb n 0 || eqb n 5
-opensChoice (LeftSet codes) = false
-opensChoice (RightSet codes) = false
-opensChoice BothEmpty = false
-opensChoice Asked = false
-opensChoice Open = false
-opensChoice End = false
-opensChoice Other = false
+opensChoice sign = onScreen (λ n. eqb n 0 || eqb n 5) sign
 
 -- IDn with n 0, 1, 5, 6 or 10: a text mode
 abbrev pub asksLabels : Sign → Bool
-asksLabels Text = false
-asksLabels (Screen n) = modeInRange n
-asksLabels (LeftSet codes) = false
-asksLabels (RightSet codes) = false
-asksLabels BothEmpty = false
-asksLabels Asked = false
-asksLabels Open = false
-asksLabels End = false
-asksLabels Other = false
+asksLabels sign = onScreen modeInRange sign
 
 -- what the labels are wanted by: a text byte, or IDn with any n
 abbrev pub isCheck : Sign → Bool

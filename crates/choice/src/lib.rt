@@ -7,14 +7,12 @@ ghost use Rattle.command.specs.Reading.{orderOf};
 ghost use Rattle.parting.specs.Cut.{outside, cut};
 ghost use Rattle.parts.specs.Parts.{partAt};
 ghost use Rattle.choice.specs.Signs.{commandSign, labelSign, pictureSign, frameSign, firstSign, opensChoice};
-ghost use Rattle.choice.specs.Choice.{isYes, since, labelled, after, wanted, brokenAt, choiceOf};
+ghost use Rattle.choice.specs.Choice.{since, labelled, after, wanted, brokenBy, isFine, answerOf, choiceOf};
 use command::Command;
 use command::Reading;
 use command::Side;
 use parts::Kind;
-
-// No good frame has more bytes.
-const LONGEST: usize = 250;
+use record::LONGEST_FRAME;
 
 // Behind the three codes that open a label's frame.
 const LABEL_OPENING: usize = 3;
@@ -38,14 +36,20 @@ pub enum Sign {
     Other,
 }
 
-// Yes, or the first rule that is broken, and the offset where: the first part is no ID0 or ID5; a label is missing; a question mark is
-// given; a frame is left open.
-pub enum Choice {
-    Yes,
-    NoScreen(usize),
-    LabelMissing(usize),
-    QuestionMark(usize),
-    FrameOpen(usize),
+// The rules: the first part is an ID0 or ID5; no label is missing; no question mark is given; no frame is left open. None is none of
+// them.
+pub enum Rule {
+    None,
+    NoScreen,
+    LabelMissing,
+    QuestionMark,
+    FrameOpen,
+}
+
+// The rule that is broken first, and the offset where; no rule, at 0, is yes.
+pub struct Choice {
+    pub rule: Rule,
+    pub offset: usize,
 }
 
 // What came since the last IDn: whether labels are asked for, and which of them stand.
@@ -88,7 +92,7 @@ fn picture_sign(columns: u8) -> Sign
 fn frame_sign(frame: &[u8]) -> Sign
     ensures same { λ s. ⌜ s ≡ frameSign (orderOf (now (frame .entry))) ⌝ }
 {
-    if LONGEST < frame.len() {
+    if LONGEST_FRAME < frame.len() {
         return Sign::Asked;
     }
     if picture_frame::opens_picture(frame) {
@@ -188,41 +192,57 @@ fn since_after(s: Since, sign: Sign) -> Since
     }
 }
 
-fn labels_wanted(s: Since, at: usize) -> Choice
-    ensures same { λ c. ⌜ c ≡ wanted s at ⌝ }
+fn labels_wanted(s: Since) -> Rule
+    ensures same { λ r. ⌜ r ≡ wanted s ⌝ }
 {
     if is_labelled(s) {
-        return Choice::Yes;
+        return Rule::None;
     }
-    Choice::LabelMissing(at)
+    Rule::LabelMissing
 }
 
-// What is broken by a sign at a place behind the first part.
-fn broken_at(s: Since, sign: Sign, at: usize) -> Choice
-    ensures same { λ c. ⌜ c ≡ brokenAt s sign at ⌝ }
+// What is broken by a sign behind the first part.
+fn broken_by(s: Since, sign: Sign) -> Rule
+    ensures same { λ r. ⌜ r ≡ brokenBy s sign ⌝ }
 {
     match sign {
-        Sign::Text => labels_wanted(s, at),
-        Sign::Screen(n) => labels_wanted(s, at),
-        Sign::LeftSet(codes) => Choice::Yes,
-        Sign::RightSet(codes) => Choice::Yes,
-        Sign::BothEmpty => Choice::Yes,
-        Sign::Asked => Choice::QuestionMark(at),
-        Sign::Open => Choice::FrameOpen(at),
-        Sign::End => labels_wanted(s, at),
-        Sign::Other => Choice::Yes,
+        Sign::Text => labels_wanted(s),
+        Sign::Screen(n) => labels_wanted(s),
+        Sign::LeftSet(codes) => Rule::None,
+        Sign::RightSet(codes) => Rule::None,
+        Sign::BothEmpty => Rule::None,
+        Sign::Asked => Rule::QuestionMark,
+        Sign::Open => Rule::FrameOpen,
+        Sign::End => labels_wanted(s),
+        Sign::Other => Rule::None,
     }
 }
 
-fn is_yes(c: Choice) -> bool
-    ensures same { λ b. ⌜ b ≡ isYes c ⌝ }
+fn is_fine(rule: Rule) -> bool
+    ensures same { λ b. ⌜ b ≡ isFine rule ⌝ }
 {
-    match c {
-        Choice::Yes => true,
-        Choice::NoScreen(at) => false,
-        Choice::LabelMissing(at) => false,
-        Choice::QuestionMark(at) => false,
-        Choice::FrameOpen(at) => false,
+    match rule {
+        Rule::None => true,
+        Rule::NoScreen => false,
+        Rule::LabelMissing => false,
+        Rule::QuestionMark => false,
+        Rule::FrameOpen => false,
+    }
+}
+
+// The answer where a rule is broken at a place, or none.
+fn answer(rule: Rule, at: usize) -> Choice
+    ensures same { λ c. ⌜ c ≡ answerOf rule at ⌝ }
+{
+    if is_fine(rule) {
+        return Choice {
+            rule: rule,
+            offset: 0,
+        };
+    }
+    Choice {
+        rule: rule,
+        offset: at,
     }
 }
 
@@ -233,19 +253,19 @@ pub fn check(bytes: &[u8]) -> Choice
     let first = read_at(bytes, 0);
     let opening = first.sign;
     if !opens_choice(opening) {
-        return Choice::NoScreen(0);
+        return answer(Rule::NoScreen, 0);
     }
     let mut since = since_then(false, false, false);
     let mut at = first.end;
     while at < bytes.len() {
         let next = read_at(bytes, at);
         let sign = next.sign;
-        let here = broken_at(since, sign, at);
-        if !is_yes(here) {
-            return here;
+        let rule = broken_by(since, sign);
+        if !is_fine(rule) {
+            return answer(rule, at);
         }
         since = since_after(since, sign);
         at = next.end;
     }
-    labels_wanted(since, at)
+    answer(labels_wanted(since), at)
 }

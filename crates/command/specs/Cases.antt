@@ -1,7 +1,7 @@
 -- Worked cases of the grammar and the ranges, each line of document 01's table with its nearest bad neighbours, computed from the
 -- definitions. Assumes nothing.
 use Prim.Native.Nat.{ℕ}
-use mathlib.Core.Bool.{cond}
+use mathlib.Core.Bool.{Bool, true, false}
 use mathlib.Core.List.{List, [], _∷_, _++_, map}
 use mathlib.Core.Option.{Option, none, some}
 use mathlib.Core.Path.{_≡_, refl}
@@ -16,22 +16,29 @@ use Rattle.command.specs.Reading.{twoNumbers, withNumber, numberFrame, d
 use Rattle.command.specs.declared.Command.the-variants.{DisplayOff, DisplayOn, Mode, CursorShown, CursorHidden, Clear, Position, LabelsEmpty, IconS, IconU, IconF, IconR, IconP, IconW, Private, Handsfree, HandsfreeOfNote, Mute, KeyTimes, Buzzer, Light, LightOn, LightAutoStart, LightAuto, DefaultDuration, KeypadSet, KeypadCleared, Contrast, ContrastAsked, HookAsked, VersionAsked, ClearLine, Inverse}
 use Rattle.command.specs.declared.Side.the-variants.{Left, Right}
 
--- what becomes of a frame: a '?', silence, or obeyed
-pub data Verdict : Type 0 where
-  bad : Verdict
-  passedOver : Order → Verdict
-  obeyed : Order → Verdict
+-- what is found in a frame: nothing, which is answered with a '?'; or the order that it spells, and whether all its numbers are in range
+abbrev pub Found : Type 0
+Found = Option (Order × Bool)
 
-abbrev pub verdict : ℕ → Option Order → Verdict
-verdict rows none = bad
-verdict rows (some order) = cond (orderInRange rows order) (obeyed order) (passedOver order)
+abbrev bad : Found
+bad = none
+
+abbrev passedOver : Order → Found
+passedOver order = some (order, false)
+
+abbrev obeyed : Order → Found
+obeyed order = some (order, true)
+
+abbrev pub found : ℕ → Option Order → Found
+found rows none = none
+found rows (some order) = some (order, orderInRange rows order)
 
 -- in a text mode of so many rows
-abbrev pub judged : ℕ → List ℕ → Verdict
-judged rows frame = verdict rows (orderOf frame)
+abbrev pub judged : ℕ → List ℕ → Found
+judged rows frame = found rows (orderOf frame)
 
 -- each case: what the definitions give, and what document 01 asks for
-abbrev pub table : List (Verdict × Verdict)
+abbrev pub table : List (Found × Found)
 table =
     -- IDD, IDE; IDx, ID, ID0 with a line feed behind it, and longer letters are bad
     (judged 4 (ascii "IDD"), obeyed (plain DisplayOff))
@@ -295,6 +302,6 @@ table =
     ∷ (judged 4 (ascii "ID0 "), bad)
     ∷ []
 
-pub cases : map (λ (c : Verdict × Verdict). c .0) table ≡ map (λ (c : Verdict × Verdict). c .1) table
+pub cases : map (λ (c : Found × Found). c .0) table ≡ map (λ (c : Found × Found). c .1) table
 unfolding digitOf padded hexOf timesOf items columnsOf twoNumbers withNumber numberFrame displayOf lightOf isText labelRead contrastOf hookOf afterI cursorSign positionOf afterBracket readOf opensPicture rowAndData drawnRow pictureOf orderOf
 cases = refl

@@ -3,8 +3,10 @@
 // crate `command_ranges`, and frames that draw are read in the crate `picture_frame`: each is judged by the definitions here.
 ghost use mathlib.Core.Path.{_≡_};
 ghost use Rattle.command.specs.Reading.{soleOf, semicolonAt, paired, twoNumbers, withNumber, oneNumber, keyTimes, numberFrame, displayOf, lightOf, isText, onlyIf, labelRead, contrastOf, hookOf, afterI, cursorSign, positionAt, positionOf, afterBracket, readOf};
+use lists::BLANK;
 use numeral::Numeral;
 use picture::Columns;
+use record::LONGEST_LABEL;
 
 // A command of letters, signs and numbers, with its numbers as they were spelt, 0 to 999, in range or not.
 pub enum Command {
@@ -66,11 +68,6 @@ enum NumberPair {
     None,
     Both(u16, u16),
 }
-
-// The lowest code of a text.
-const BLANK: u8 = 0x20;
-
-const LONGEST_LABEL: usize = 7;
 
 // The only byte of a slice of one; 0 of any other.
 fn sole(s: &[u8]) -> u8

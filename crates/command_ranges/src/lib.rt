@@ -6,9 +6,7 @@ ghost use Rattle.record.specs.Range.{modeInRange, iconUInRange, time1InRange, t
 ghost use Rattle.command.specs.InRange.{isOverlay, isLight, rowsNamed, firstOut, numbersOf, commandInRange};
 use command::Command;
 use numeral::Numeral;
-
-// The text mode of large digits.
-const LARGE: u8 = 10;
+use record::LARGE;
 
 // The greatest value of each number that begins at 0.
 const FLAG: u16 = 1;

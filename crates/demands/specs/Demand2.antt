@@ -42,9 +42,9 @@ use Rattle.seen_panels.specs.Panels.{smsPanel, volumePanel, lit-as-before, flas
 use Rattle.seen_panels.specs.declared.Phase.{Phase}
 use Rattle.seen_panels.specs.declared.Phase.the-variants.{Lit, Pause}
 use Rattle.seen_panels.specs.declared.SmsPanel.the-variants as Sms
-use Rattle.seen.specs.Places.{ownerAt, rowOwner}
+use Rattle.seen_owners.specs.Table.{ownerAt, rowOwner}
 use Rattle.seen.specs.Columns.{placeOf, columnOf, columnSeen}
-use Rattle.seen.specs.Table.{atMostOne, one-claim}
+use Rattle.seen_owners.specs.Sentences.{atMostOne, one-claim}
 use Rattle.seen.specs.Agree.{columns-agree}
 use Rattle.seen.specs.Rows.{contents, rowSeen, smsSeen, volumeSeen}
 use Rattle.seen.specs.Laws.{seen-row, seen-column, panels-told, steady-unseen}

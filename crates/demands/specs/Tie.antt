@@ -6,6 +6,7 @@ use lib.ListN.{length}
 use base.Logic.{sep}
 use contract.Lifetimes.{Lfts}
 use contract.Monad.{fact}
+use contract.Notation.{connectives}
 use denote.Ref.{now}
 use denote.Triple.Clauses.{Ended, AtExit}
 use borrow.Fn.World.{World, Pr, ArgsD, ResD}
@@ -13,7 +14,6 @@ use Rattle.record.specs.Number.{paperNumber}
 use Rattle.record.specs.Range.{rowsOf, rowEndOf, rowStartOf, backlightInRange, inRange}
 use Rattle.record.specs.PowerOn.{timesAtPowerOn, formerTimes, startingWith, powerOn, formerPowerOn}
 use Rattle.record.specs.Parts.{together, smallOf}
-use Rattle.record_fields.specs.Fields.{withField}
 use Rattle.numeral.specs.Numeral as Numerals
 use Rattle.picture.specs.Reading.{columnsRead}
 use Rattle.picture.specs.Writing.{dataWritten}
@@ -28,7 +28,6 @@ use Rattle.hook.specs.Hook.{hooked}
 use Rattle.hook.specs.Hook as Hooks
 use Rattle.stream_places.specs.Places.{emptied}
 use Rattle.parts.specs.Parts.{partAt}
-use Rattle.parts.specs.Laws.{partsOf}
 use Rattle.stream.specs.declared.Fed.{Fed}
 use Rattle.stream.specs.Stream.{lentOf, fedOf, answersAfter}
 use Rattle.parting.specs.Count.{escapes}
@@ -39,14 +38,15 @@ use Rattle.key_log.specs.Log.{Outcome, outcome, handedBack, lentOf as loggedLen
 use Rattle.seconds.specs.Seconds.{passed, lightPassed}
 use Rattle.seconds.specs.Seconds as Seconds
 use Rattle.seen_panels.specs.Panels.{smsPanel, volumePanel}
+use Rattle.seen_owners.specs.Table.{ownerOfRow, ownerOn}
 use Rattle.seen.specs.Rows.{rowSeen, smsSeen, volumeSeen}
 use Rattle.seen.specs.Columns.{columnSeen}
 use Rattle.writer_ranges.specs.Fitting.{isLabel, isRow}
 use Rattle.choice.specs.Choice.{choiceOf}
-use Rattle.measure.specs.Choices.{brokenFirst}
+use Rattle.choice.specs.Rules.{ruleNumber}
 use Rattle.writer.specs.Writing.{bodyOf, labelBody, rowBody, frameOf, writtenOf, roomAfter}
-use Rattle.handset.specs.Numbers.{phaseOf, sideOf}
-use Rattle.handset.specs.Calls.{fedIn, loggedIn, passedIn, hookedIn, countedIn, smsIn, volumeIn, rowIn, columnIn, commandWritten, commandRoom, writtenIn, judgedIn, choiceIn}
+use Rattle.handset_numbers.specs.Numbers.{phaseOf, sideOf, commandOf, smsNumber, volumeNumbers, ownerNumbers, shownNumbers, verdictNumbers, kindNumber}
+use Rattle.handset.specs.Calls.{fedIn, loggedIn, passedIn, hookedIn, countedIn, smsIn, volumeIn, rowIn, columnIn, commandWritten, commandRoom, writtenIn, judgedIn, choiceIn, partIn, lightIn}
 use Rattle.record.proofs.small_of as SmallOf
 use Rattle.record.proofs.small_of.Reads as SmallOfReads
 use Rattle.record.proofs.paper_number as PaperNumber
@@ -76,8 +76,6 @@ use Rattle.record_ranges.proofs.in_range as RecordInRange
 use Rattle.record_ranges.proofs.in_range.Reads as RecordInRangeReads
 use Rattle.record_ranges.proofs.in_range_lent as InRangeLent
 use Rattle.record_ranges.proofs.in_range_lent.Reads as InRangeLentReads
-use Rattle.record_fields.proofs.with_field as WithField
-use Rattle.record_fields.proofs.with_field.Reads as WithFieldReads
 use Rattle.numeral.proofs.read_number as ReadNumber
 use Rattle.numeral.proofs.read_number.Reads as ReadNumberReads
 use Rattle.numeral.proofs.digits_of as DigitsOf
@@ -126,24 +124,12 @@ use Rattle.stream_by_value.proofs.whole as Whole
 use Rattle.stream_by_value.proofs.whole.Reads as WholeReads
 use Rattle.stream_by_value.proofs.feed as Feed
 use Rattle.stream_by_value.proofs.feed.Reads as FeedReads
-use Rattle.measure.specs.Mark.{markOf}
-use Rattle.measure.specs.Calls.{fedInCalls, answersInCalls, goodOnes}
 use Rattle.answer_room.proofs.escapes_in as EscapesIn
 use Rattle.answer_room.proofs.escapes_in.Reads as EscapesInReads
 use Rattle.answer_room.proofs.room_needed_lent as RoomNeededLent
 use Rattle.answer_room.proofs.room_needed_lent.Reads as RoomNeededLentReads
 use Rattle.answer_room.proofs.room_needed as RoomNeededFor
 use Rattle.answer_room.proofs.room_needed.Reads as RoomNeededForReads
-use Rattle.measure.proofs.measure_one_call as OneCall
-use Rattle.measure.proofs.measure_one_call.Reads as OneCallReads
-use Rattle.measure.proofs.measure_short_calls as ShortCalls
-use Rattle.measure.proofs.measure_short_calls.Reads as ShortCallsReads
-use Rattle.measure.proofs.measure_range_checks as RangeChecks
-use Rattle.measure.proofs.measure_range_checks.Reads as RangeChecksReads
-use Rattle.measure.proofs.measure_choice as MeasureChoice
-use Rattle.measure.proofs.measure_choice.Reads as MeasureChoiceReads
-use Rattle.measure.proofs.count_parts as CountParts
-use Rattle.measure.proofs.count_parts.Reads as CountPartsReads
 use Rattle.choice.proofs.check as CheckChoice
 use Rattle.choice.proofs.check.Reads as CheckChoiceReads
 use Rattle.key_entry.proofs.all_listed as AllListed
@@ -163,6 +149,10 @@ use Rattle.seen_panels.proofs.sms_panel as SmsPanelOf
 use Rattle.seen_panels.proofs.sms_panel.Reads as SmsPanelOfReads
 use Rattle.seen_panels.proofs.volume_panel as VolumePanelOf
 use Rattle.seen_panels.proofs.volume_panel.Reads as VolumePanelOfReads
+use Rattle.seen_owners.proofs.owner_of_row as OwnerOfRow
+use Rattle.seen_owners.proofs.owner_of_row.Reads as OwnerOfRowReads
+use Rattle.seen_owners.proofs.owner_of as OwnerOf
+use Rattle.seen_owners.proofs.owner_of.Reads as OwnerOfReads
 use Rattle.seen.proofs.row_seen as RowSeen
 use Rattle.seen.proofs.row_seen.Reads as RowSeenReads
 use Rattle.seen.proofs.row_seen_lent as RowSeenLent
@@ -189,40 +179,72 @@ use Rattle.writer.proofs.write_label as WriteLabel
 use Rattle.writer.proofs.write_label.Reads as WriteLabelReads
 use Rattle.writer.proofs.write_picture_row as WritePictureRow
 use Rattle.writer.proofs.write_picture_row.Reads as WritePictureRowReads
-use Rattle.handset.proofs.handset_power_on as HandsetPowerOn
-use Rattle.handset.proofs.handset_power_on.Reads as HandsetPowerOnReads
-use Rattle.handset.proofs.handset_power_on_former as HandsetPowerOnFormer
-use Rattle.handset.proofs.handset_power_on_former.Reads as HandsetPowerOnFormerReads
-use Rattle.handset.proofs.handset_in_range as HandsetInRange
-use Rattle.handset.proofs.handset_in_range.Reads as HandsetInRangeReads
-use Rattle.handset.proofs.handset_feed as HandsetFeed
-use Rattle.handset.proofs.handset_feed.Reads as HandsetFeedReads
-use Rattle.handset.proofs.handset_take_log as HandsetTakeLog
-use Rattle.handset.proofs.handset_take_log.Reads as HandsetTakeLogReads
-use Rattle.handset.proofs.handset_second as HandsetSecond
-use Rattle.handset.proofs.handset_second.Reads as HandsetSecondReads
-use Rattle.handset.proofs.handset_hook as HandsetHook
-use Rattle.handset.proofs.handset_hook.Reads as HandsetHookReads
-use Rattle.handset.proofs.handset_room_needed as HandsetRoomNeeded
-use Rattle.handset.proofs.handset_room_needed.Reads as HandsetRoomNeededReads
-use Rattle.handset.proofs.handset_sms_seen as HandsetSmsSeen
-use Rattle.handset.proofs.handset_sms_seen.Reads as HandsetSmsSeenReads
-use Rattle.handset.proofs.handset_volume_seen as HandsetVolumeSeen
-use Rattle.handset.proofs.handset_volume_seen.Reads as HandsetVolumeSeenReads
-use Rattle.handset.proofs.handset_row_seen as HandsetRowSeen
-use Rattle.handset.proofs.handset_row_seen.Reads as HandsetRowSeenReads
-use Rattle.handset.proofs.handset_column_seen as HandsetColumnSeen
-use Rattle.handset.proofs.handset_column_seen.Reads as HandsetColumnSeenReads
-use Rattle.handset.proofs.handset_write_command as HandsetWriteCommand
-use Rattle.handset.proofs.handset_write_command.Reads as HandsetWriteCommandReads
-use Rattle.handset.proofs.handset_write_label as HandsetWriteLabel
-use Rattle.handset.proofs.handset_write_label.Reads as HandsetWriteLabelReads
-use Rattle.handset.proofs.handset_write_picture_row as HandsetWritePictureRow
-use Rattle.handset.proofs.handset_write_picture_row.Reads as HandsetWritePictureRowReads
-use Rattle.handset.proofs.handset_judge as HandsetJudge
-use Rattle.handset.proofs.handset_judge.Reads as HandsetJudgeReads
-use Rattle.handset.proofs.handset_check_choice as HandsetCheckChoice
-use Rattle.handset.proofs.handset_check_choice.Reads as HandsetCheckChoiceReads
+use Rattle.handset_numbers.proofs.phase_of as PhaseOf
+use Rattle.handset_numbers.proofs.phase_of.Reads as PhaseOfReads
+use Rattle.handset_numbers.proofs.side_of as SideOf
+use Rattle.handset_numbers.proofs.side_of.Reads as SideOfReads
+use Rattle.handset_numbers.proofs.command_of as CommandOf
+use Rattle.handset_numbers.proofs.command_of.Reads as CommandOfReads
+use Rattle.handset_numbers.proofs.sms_number as SmsNumber
+use Rattle.handset_numbers.proofs.sms_number.Reads as SmsNumberReads
+use Rattle.handset_numbers.proofs.volume_numbers as VolumeNumbers
+use Rattle.handset_numbers.proofs.volume_numbers.Reads as VolumeNumbersReads
+use Rattle.handset_numbers.proofs.owner_numbers as OwnerNumbers
+use Rattle.handset_numbers.proofs.owner_numbers.Reads as OwnerNumbersReads
+use Rattle.handset_numbers.proofs.shown_numbers as ShownNumbers
+use Rattle.handset_numbers.proofs.shown_numbers.Reads as ShownNumbersReads
+use Rattle.handset_numbers.proofs.verdict_numbers as VerdictNumbers
+use Rattle.handset_numbers.proofs.verdict_numbers.Reads as VerdictNumbersReads
+use Rattle.handset_numbers.proofs.rule_number as RuleNumber
+use Rattle.handset_numbers.proofs.rule_number.Reads as RuleNumberReads
+use Rattle.handset_numbers.proofs.kind_number as KindNumber
+use Rattle.handset_numbers.proofs.kind_number.Reads as KindNumberReads
+use Rattle.handset.proofs.proved_power_on as ProvedPowerOn
+use Rattle.handset.proofs.proved_power_on.Reads as ProvedPowerOnReads
+use Rattle.handset.proofs.proved_power_on_former as ProvedPowerOnFormer
+use Rattle.handset.proofs.proved_power_on_former.Reads as ProvedPowerOnFormerReads
+use Rattle.handset.proofs.proved_in_range as ProvedInRange
+use Rattle.handset.proofs.proved_in_range.Reads as ProvedInRangeReads
+use Rattle.handset.proofs.proved_feed as ProvedFeed
+use Rattle.handset.proofs.proved_feed.Reads as ProvedFeedReads
+use Rattle.handset.proofs.proved_take_log as ProvedTakeLog
+use Rattle.handset.proofs.proved_take_log.Reads as ProvedTakeLogReads
+use Rattle.handset.proofs.proved_second as ProvedSecond
+use Rattle.handset.proofs.proved_second.Reads as ProvedSecondReads
+use Rattle.handset.proofs.proved_light_second as ProvedLightSecond
+use Rattle.handset.proofs.proved_light_second.Reads as ProvedLightSecondReads
+use Rattle.handset.proofs.proved_hook as ProvedHook
+use Rattle.handset.proofs.proved_hook.Reads as ProvedHookReads
+use Rattle.handset.proofs.proved_room_needed as ProvedRoomNeeded
+use Rattle.handset.proofs.proved_room_needed.Reads as ProvedRoomNeededReads
+use Rattle.handset.proofs.proved_sms_seen as ProvedSmsSeen
+use Rattle.handset.proofs.proved_sms_seen.Reads as ProvedSmsSeenReads
+use Rattle.handset.proofs.proved_volume_seen as ProvedVolumeSeen
+use Rattle.handset.proofs.proved_volume_seen.Reads as ProvedVolumeSeenReads
+use Rattle.handset.proofs.proved_row_seen as ProvedRowSeen
+use Rattle.handset.proofs.proved_row_seen.Reads as ProvedRowSeenReads
+use Rattle.handset.proofs.proved_column_seen as ProvedColumnSeen
+use Rattle.handset.proofs.proved_column_seen.Reads as ProvedColumnSeenReads
+use Rattle.handset.proofs.proved_write_command as ProvedWriteCommand
+use Rattle.handset.proofs.proved_write_command.Reads as ProvedWriteCommandReads
+use Rattle.handset.proofs.proved_write_label as ProvedWriteLabel
+use Rattle.handset.proofs.proved_write_label.Reads as ProvedWriteLabelReads
+use Rattle.handset.proofs.proved_write_picture_row as ProvedWritePictureRow
+use Rattle.handset.proofs.proved_write_picture_row.Reads as ProvedWritePictureRowReads
+use Rattle.handset.proofs.proved_judge as ProvedJudge
+use Rattle.handset.proofs.proved_judge.Reads as ProvedJudgeReads
+use Rattle.handset.proofs.proved_check_choice as ProvedCheckChoice
+use Rattle.handset.proofs.proved_check_choice.Reads as ProvedCheckChoiceReads
+use Rattle.handset.proofs.proved_part_at as ProvedPartAt
+use Rattle.handset.proofs.proved_part_at.Reads as ProvedPartAtReads
+
+-- a contract's requires clause, of the arguments, in a model
+abbrev Asking : Ended → Type 2
+Asking t = (κs : Lfts (t .signature .lifetimes)) → ArgsD (t .signature) κs → Unit {0} → (w : World) → Pr w
+
+-- it asks nothing of them
+abbrev Nothing : (w : World) → Pr w
+Nothing w = connectives (w .𝓤) .⊤ₛ
 
 -- a contract's ensures clause, of the arguments, the result and the arguments at exit, in a model
 abbrev Clause : Ended → Type 2
@@ -232,177 +254,177 @@ Clause t = (κs : Lfts (t .signature .lifetimes)) → ArgsD (t .signature) κs �
 abbrev Claim : Ended → Type 1
 Claim t = (κs : Lfts (t .signature .lifetimes)) → ArgsD (t .signature) κs → ResD (t .signature) κs → AtExit t κs → Type 0
 
--- the clause is this claim; two clauses are these two
-abbrev Says : (t : Ended) → Clause t → Claim t → Type 2
-Says t ensures claim =
+-- nothing is asked and the clause is this claim; two clauses are these two
+abbrev Says : (t : Ended) → Asking t → Clause t → Claim t → Type 2
+Says t requires ensures claim =
     (κs : Lfts (t .signature .lifetimes)) (a : ArgsD (t .signature) κs) (q : ResD (t .signature) κs) (e : AtExit t κs) (w : World)
-    → ensures κs a tt q e w ≡ fact (w .𝓤) (claim κs a q e)
+    → (requires κs a tt w ≡ Nothing w)
+    × (ensures κs a tt q e w ≡ fact (w .𝓤) (claim κs a q e))
 
-abbrev SaysBoth : (t : Ended) → Clause t → Claim t → Claim t → Type 2
-SaysBoth t ensures first second =
+abbrev SaysBoth : (t : Ended) → Asking t → Clause t → Claim t → Claim t → Type 2
+SaysBoth t requires ensures first second =
     (κs : Lfts (t .signature .lifetimes)) (a : ArgsD (t .signature) κs) (q : ResD (t .signature) κs) (e : AtExit t κs) (w : World)
-    → ensures κs a tt q e w ≡ sep (w .𝓤) (fact (w .𝓤) (first κs a q e)) (fact (w .𝓤) (second κs a q e))
+    → (requires κs a tt w ≡ Nothing w)
+    × (ensures κs a tt q e w ≡ sep (w .𝓤) (fact (w .𝓤) (first κs a q e)) (fact (w .𝓤) (second κs a q e)))
 
-abbrev SaysFour : (t : Ended) → Clause t → Claim t → Claim t → Claim t → Claim t → Type 2
-SaysFour t ensures first second third fourth =
+abbrev SaysFour : (t : Ended) → Asking t → Clause t → Claim t → Claim t → Claim t → Claim t → Type 2
+SaysFour t requires ensures first second third fourth =
     (κs : Lfts (t .signature .lifetimes)) (a : ArgsD (t .signature) κs) (q : ResD (t .signature) κs) (e : AtExit t κs) (w : World)
-    → ensures κs a tt q e w
+    → (requires κs a tt w ≡ Nothing w)
+    × (ensures κs a tt q e w
     ≡ sep (w .𝓤) (fact (w .𝓤) (first κs a q e))
-    (sep (w .𝓤) (fact (w .𝓤) (second κs a q e)) (sep (w .𝓤) (fact (w .𝓤) (third κs a q e)) (fact (w .𝓤) (fourth κs a q e))))
+    (sep (w .𝓤) (fact (w .𝓤) (second κs a q e)) (sep (w .𝓤) (fact (w .𝓤) (third κs a q e)) (fact (w .𝓤) (fourth κs a q e)))))
 
-abbrev SaysFive : (t : Ended) → Clause t → Claim t → Claim t → Claim t → Claim t → Claim t → Type 2
-SaysFive t ensures first second third fourth fifth =
+abbrev SaysFive : (t : Ended) → Asking t → Clause t → Claim t → Claim t → Claim t → Claim t → Claim t → Type 2
+SaysFive t requires ensures first second third fourth fifth =
     (κs : Lfts (t .signature .lifetimes)) (a : ArgsD (t .signature) κs) (q : ResD (t .signature) κs) (e : AtExit t κs) (w : World)
-    → ensures κs a tt q e w
+    → (requires κs a tt w ≡ Nothing w)
+    × (ensures κs a tt q e w
     ≡ sep (w .𝓤) (fact (w .𝓤) (first κs a q e))
-    (sep (w .𝓤) (fact (w .𝓤) (second κs a q e)) (sep (w .𝓤) (fact (w .𝓤) (third κs a q e)) (sep (w .𝓤) (fact (w .𝓤) (fourth κs a q e)) (fact (w .𝓤) (fifth κs a q e)))))
+    (sep (w .𝓤) (fact (w .𝓤) (second κs a q e)) (sep (w .𝓤) (fact (w .𝓤) (third κs a q e)) (sep (w .𝓤) (fact (w .𝓤) (fourth κs a q e)) (fact (w .𝓤) (fifth κs a q e))))))
 
 -- record::small_of
-pub small-of-says : Says SmallOf.ended SmallOfReads.ensures (λ κs a q e. q ≡ smallOf (a .0))
-small-of-says κs a q e w = refl
+pub small-of-says : Says SmallOf.ended SmallOfReads.requires SmallOfReads.ensures (λ κs a q e. q ≡ smallOf (a .0))
+small-of-says κs a q e w = (refl, refl)
 
 -- record::paper_number
-pub paper-number-says : Says PaperNumber.ended PaperNumberReads.ensures (λ κs a q e. q ≡ paperNumber (a .0))
-paper-number-says κs a q e w = refl
+pub paper-number-says : Says PaperNumber.ended PaperNumberReads.requires PaperNumberReads.ensures (λ κs a q e. q ≡ paperNumber (a .0))
+paper-number-says κs a q e w = (refl, refl)
 
 -- record::rows
-pub rows-says : Says Rows.ended RowsReads.ensures (λ κs a q e. q ≡ rowsOf (a .0))
-rows-says κs a q e w = refl
+pub rows-says : Says Rows.ended RowsReads.requires RowsReads.ensures (λ κs a q e. q ≡ rowsOf (a .0))
+rows-says κs a q e w = (refl, refl)
 
 -- record::row_end
-pub row-end-says : Says RowEnd.ended RowEndReads.ensures (λ κs a q e. q ≡ rowEndOf (a .0))
-row-end-says κs a q e w = refl
+pub row-end-says : Says RowEnd.ended RowEndReads.requires RowEndReads.ensures (λ κs a q e. q ≡ rowEndOf (a .0))
+row-end-says κs a q e w = (refl, refl)
 
 -- record::row_start
-pub row-start-says : Says RowStart.ended RowStartReads.ensures (λ κs a q e. q ≡ rowStartOf (a .0) (a .1 .0))
-row-start-says κs a q e w = refl
+pub row-start-says : Says RowStart.ended RowStartReads.requires RowStartReads.ensures (λ κs a q e. q ≡ rowStartOf (a .0) (a .1 .0))
+row-start-says κs a q e w = (refl, refl)
 
 -- record::Times::power_on
-pub times-power-on-says : Says TimesPowerOn.ended TimesPowerOnReads.ensures (λ κs a q e. q ≡ timesAtPowerOn)
-times-power-on-says κs a q e w = refl
+pub times-power-on-says : Says TimesPowerOn.ended TimesPowerOnReads.requires TimesPowerOnReads.ensures (λ κs a q e. q ≡ timesAtPowerOn)
+times-power-on-says κs a q e w = (refl, refl)
 
 -- record::Record::starting_with
-pub record-starting-with-says : Says StartingWith.ended StartingWithReads.ensures (λ κs a q e. q ≡ startingWith (a .0))
-record-starting-with-says κs a q e w = refl
+pub record-starting-with-says : Says StartingWith.ended StartingWithReads.requires StartingWithReads.ensures (λ κs a q e. q ≡ startingWith (a .0))
+record-starting-with-says κs a q e w = (refl, refl)
 
 -- record::Record::power_on
-pub record-power-on-says : Says PowerOn.ended PowerOnReads.ensures (λ κs a q e. q ≡ powerOn)
-record-power-on-says κs a q e w = refl
+pub record-power-on-says : Says PowerOn.ended PowerOnReads.requires PowerOnReads.ensures (λ κs a q e. q ≡ powerOn)
+record-power-on-says κs a q e w = (refl, refl)
 
 -- record::Times::former_defaults
-pub times-former-defaults-says : Says TimesFormer.ended TimesFormerReads.ensures (λ κs a q e. q ≡ formerTimes)
-times-former-defaults-says κs a q e w = refl
+pub times-former-defaults-says : Says TimesFormer.ended TimesFormerReads.requires TimesFormerReads.ensures (λ κs a q e. q ≡ formerTimes)
+times-former-defaults-says κs a q e w = (refl, refl)
 
 -- record::Record::former_defaults
-pub record-former-defaults-says : Says Former.ended FormerReads.ensures (λ κs a q e. q ≡ formerPowerOn)
-record-former-defaults-says κs a q e w = refl
+pub record-former-defaults-says : Says Former.ended FormerReads.requires FormerReads.ensures (λ κs a q e. q ≡ formerPowerOn)
+record-former-defaults-says κs a q e w = (refl, refl)
 
 -- record_small_ranges::backlight_in_range
-pub backlight-in-range-says : Says BacklightInRange.ended BacklightInRangeReads.ensures (λ κs a q e. q ≡ backlightInRange (a .0))
-backlight-in-range-says κs a q e w = refl
+pub backlight-in-range-says : Says BacklightInRange.ended BacklightInRangeReads.requires BacklightInRangeReads.ensures (λ κs a q e. q ≡ backlightInRange (a .0))
+backlight-in-range-says κs a q e w = (refl, refl)
 
 -- record_small_ranges::small_in_range
-pub small-in-range-says : Says SmallInRange.ended SmallInRangeReads.ensures (λ κs a q e. q ≡ smallInRange (a .0) (a .1 .0))
-small-in-range-says κs a q e w = refl
+pub small-in-range-says : Says SmallInRange.ended SmallInRangeReads.requires SmallInRangeReads.ensures (λ κs a q e. q ≡ smallInRange (a .0) (a .1 .0))
+small-in-range-says κs a q e w = (refl, refl)
 
 -- record_ranges::in_range
-pub record-in-range-says : Says RecordInRange.ended RecordInRangeReads.ensures (λ κs a q e. q ≡ inRange (a .0))
-record-in-range-says κs a q e w = refl
+pub record-in-range-says : Says RecordInRange.ended RecordInRangeReads.requires RecordInRangeReads.ensures (λ κs a q e. q ≡ inRange (a .0))
+record-in-range-says κs a q e w = (refl, refl)
 
 -- record_ranges::in_range_lent
-pub in-range-lent-says : Says InRangeLent.ended InRangeLentReads.ensures
+pub in-range-lent-says : Says InRangeLent.ended InRangeLentReads.requires InRangeLentReads.ensures
     (λ κs a q e. q ≡ inRange (together (a .0) (now (a .1 .0)) (now (a .1 .1 .0)) (now (a .1 .1 .1 .0))))
-in-range-lent-says κs a q e w = refl
-
--- record_fields::with_field
-pub with-field-says : Says WithField.ended WithFieldReads.ensures (λ κs a q e. q ≡ withField (a .0) (a .1 .0) (a .1 .1 .0) (a .1 .1 .1 .0))
-with-field-says κs a q e w = refl
+in-range-lent-says κs a q e w = (refl, refl)
 
 -- numeral::read_number
-pub read-number-says : Says ReadNumber.ended ReadNumberReads.ensures (λ κs a q e. q ≡ Numerals.numberOf (now (a .0)))
-read-number-says κs a q e w = refl
+pub read-number-says : Says ReadNumber.ended ReadNumberReads.requires ReadNumberReads.ensures (λ κs a q e. q ≡ Numerals.numberOf (now (a .0)))
+read-number-says κs a q e w = (refl, refl)
 
 -- numeral::digits_of
-pub digits-of-says : Says DigitsOf.ended DigitsOfReads.ensures (λ κs a q e. q ≡ Numerals.digitsOf (a .0))
-digits-of-says κs a q e w = refl
+pub digits-of-says : Says DigitsOf.ended DigitsOfReads.requires DigitsOfReads.ensures (λ κs a q e. q ≡ Numerals.digitsOf (a .0))
+digits-of-says κs a q e w = (refl, refl)
 
 -- picture::read_data
-pub read-data-says : Says ReadData.ended ReadDataReads.ensures (λ κs a q e. q ≡ columnsRead (now (a .0)))
-read-data-says κs a q e w = refl
+pub read-data-says : Says ReadData.ended ReadDataReads.requires ReadDataReads.ensures (λ κs a q e. q ≡ columnsRead (now (a .0)))
+read-data-says κs a q e w = (refl, refl)
 
 -- picture_writer::write_data
-pub write-data-says : Says WriteData.ended WriteDataReads.ensures (λ κs a q e. q ≡ dataWritten (now (a .0)))
-write-data-says κs a q e w = refl
+pub write-data-says : Says WriteData.ended WriteDataReads.requires WriteDataReads.ensures (λ κs a q e. q ≡ dataWritten (now (a .0)))
+write-data-says κs a q e w = (refl, refl)
 
 -- command_ranges::rows_named
-pub rows-named-says : Says RowsNamed.ended RowsNamedReads.ensures (λ κs a q e. q ≡ rowsNamed (a .0))
-rows-named-says κs a q e w = refl
+pub rows-named-says : Says RowsNamed.ended RowsNamedReads.requires RowsNamedReads.ensures (λ κs a q e. q ≡ rowsNamed (a .0))
+rows-named-says κs a q e w = (refl, refl)
 
 -- command_ranges::number_out
-pub number-out-says : Says NumberOut.ended NumberOutReads.ensures (λ κs a q e. q ≡ firstOut (numbersOf (a .1 .0) (a .0)))
-number-out-says κs a q e w = refl
+pub number-out-says : Says NumberOut.ended NumberOutReads.requires NumberOutReads.ensures (λ κs a q e. q ≡ firstOut (numbersOf (a .1 .0) (a .0)))
+number-out-says κs a q e w = (refl, refl)
 
 -- command_ranges::in_range
-pub command-in-range-says : Says CommandInRange.ended CommandInRangeReads.ensures (λ κs a q e. q ≡ commandInRange (a .1 .0) (a .0))
-command-in-range-says κs a q e w = refl
+pub command-in-range-says : Says CommandInRange.ended CommandInRangeReads.requires CommandInRangeReads.ensures (λ κs a q e. q ≡ commandInRange (a .1 .0) (a .0))
+command-in-range-says κs a q e w = (refl, refl)
 
 -- command::read_command
-pub read-command-says : Says ReadCommand.ended ReadCommandReads.ensures (λ κs a q e. q ≡ readOf (now (a .0)))
-read-command-says κs a q e w = refl
+pub read-command-says : Says ReadCommand.ended ReadCommandReads.requires ReadCommandReads.ensures (λ κs a q e. q ≡ readOf (now (a .0)))
+read-command-says κs a q e w = (refl, refl)
 
 -- picture_frame::opens_picture
-pub opens-picture-says : Says OpensPicture.ended OpensPictureReads.ensures (λ κs a q e. q ≡ opensPicture (now (a .0)))
-opens-picture-says κs a q e w = refl
+pub opens-picture-says : Says OpensPicture.ended OpensPictureReads.requires OpensPictureReads.ensures (λ κs a q e. q ≡ opensPicture (now (a .0)))
+opens-picture-says κs a q e w = (refl, refl)
 
 -- picture_frame::read_picture
-pub read-picture-says : Says ReadPicture.ended ReadPictureReads.ensures (λ κs a q e. q ≡ pictureOf (now (a .0)))
-read-picture-says κs a q e w = refl
+pub read-picture-says : Says ReadPicture.ended ReadPictureReads.requires ReadPictureReads.ensures (λ κs a q e. q ≡ pictureOf (now (a .0)))
+read-picture-says κs a q e w = (refl, refl)
 
 -- verdict::judge
-pub judge-says : Says Judge.ended JudgeReads.ensures (λ κs a q e. q ≡ verdictOf (a .0) (now (a .1 .0)))
-judge-says κs a q e w = refl
+pub judge-says : Says Judge.ended JudgeReads.requires JudgeReads.ensures (λ κs a q e. q ≡ verdictOf (a .0) (now (a .1 .0)))
+judge-says κs a q e w = (refl, refl)
 
 -- effect_modes::to_mode
-pub to-mode-says : Says ToMode.ended ToModeReads.ensures (λ κs a q e. q ≡ toMode (a .0) (a .1 .0))
-to-mode-says κs a q e w = refl
+pub to-mode-says : Says ToMode.ended ToModeReads.requires ToModeReads.ensures (λ κs a q e. q ≡ toMode (a .0) (a .1 .0))
+to-mode-says κs a q e w = (refl, refl)
 
 -- effect_modes::at_level
-pub at-level-says : Says AtLevel.ended AtLevelReads.ensures (λ κs a q e. q ≡ atLevel (a .0) (a .1 .0) (a .1 .1 .0))
-at-level-says κs a q e w = refl
+pub at-level-says : Says AtLevel.ended AtLevelReads.requires AtLevelReads.ensures (λ κs a q e. q ≡ atLevel (a .0) (a .1 .0) (a .1 .1 .0))
+at-level-says κs a q e w = (refl, refl)
 
 -- effect::obey
-pub obey-says : Says Obey.ended ObeyReads.ensures (λ κs a q e. Obeys (now (a .1 .1 .1 .0)) (core (a .0) (now (a .1 .0)) (now (a .1 .1 .0))) q (core (q .settings) (now (e .1 .0)) (now (e .1 .1 .0))))
-obey-says κs a q e w = refl
+pub obey-says : Says Obey.ended ObeyReads.requires ObeyReads.ensures (λ κs a q e. Obeys (now (a .1 .1 .1 .0)) (core (a .0) (now (a .1 .0)) (now (a .1 .1 .0))) q (core (q .settings) (now (e .1 .0)) (now (e .1 .1 .0))))
+obey-says κs a q e w = (refl, refl)
 
 -- answer::is_silence
-pub is-silence-says : Says IsSilence.ended IsSilenceReads.ensures (λ κs a q e. q ≡ isSilence (a .0))
-is-silence-says κs a q e w = refl
+pub is-silence-says : Says IsSilence.ended IsSilenceReads.requires IsSilenceReads.ensures (λ κs a q e. q ≡ isSilence (a .0))
+is-silence-says κs a q e w = (refl, refl)
 
 -- answer::say
-pub say-says : SaysBoth Say.ended SayReads.ensures
+pub say-says : SaysBoth Say.ended SayReads.requires SayReads.ensures
     (λ κs a q e. q ≡ countAfter (now (a .0)) (a .1 .0) (answerBytes (a .1 .1 .0) (a .1 .1 .1 .0) (a .1 .1 .1 .1 .0)))
     (λ κs a q e. now (e .0) ≡ saidAfter (now (a .0)) (a .1 .0) (answerBytes (a .1 .1 .0) (a .1 .1 .1 .0) (a .1 .1 .1 .1 .0)))
-say-says κs a q e w = refl
+say-says κs a q e w = (refl, refl)
 
 -- answer::count
-pub count-says : Says Count.ended CountReads.ensures (λ κs a q e. q ≡ heads (now (a .0)))
-count-says κs a q e w = refl
+pub count-says : Says Count.ended CountReads.requires CountReads.ensures (λ κs a q e. q ≡ heads (now (a .0)))
+count-says κs a q e w = (refl, refl)
 
 -- hook::hook_lent
-pub hook-lent-says : Says HookLent.ended HookLentReads.ensures (λ κs a q e. q ≡ Hooks.lentOf (hooked (together (a .0) (now (a .1 .0)) (now (a .1 .1 .0)) (now (a .1 .1 .1 .0))) (a .1 .1 .1 .1 .0)))
-hook-lent-says κs a q e w = refl
+pub hook-lent-says : Says HookLent.ended HookLentReads.requires HookLentReads.ensures (λ κs a q e. q ≡ Hooks.lentOf (hooked (together (a .0) (now (a .1 .0)) (now (a .1 .1 .0)) (now (a .1 .1 .1 .0))) (a .1 .1 .1 .1 .0)))
+hook-lent-says κs a q e w = (refl, refl)
 
 -- hook::hook
-pub hook-says : Says HookCall.ended HookCallReads.ensures (λ κs a q e. q ≡ hooked (a .0) (a .1 .0))
-hook-says κs a q e w = refl
+pub hook-says : Says HookCall.ended HookCallReads.requires HookCallReads.ensures (λ κs a q e. q ≡ hooked (a .0) (a .1 .0))
+hook-says κs a q e w = (refl, refl)
 
 -- stream_places::empty_from
-pub empty-from-says : Says EmptyFrom.ended EmptyFromReads.ensures (λ κs a q e. now (e .0) ≡ emptied (now (a .0)) (a .1 .0))
-empty-from-says κs a q e w = refl
+pub empty-from-says : Says EmptyFrom.ended EmptyFromReads.requires EmptyFromReads.ensures (λ κs a q e. now (e .0) ≡ emptied (now (a .0)) (a .1 .0))
+empty-from-says κs a q e w = (refl, refl)
 
 -- parts::part_at
-pub part-at-says : Says PartAtPlace.ended PartAtPlaceReads.ensures (λ κs a q e. q ≡ partAt (now (a .0)) (a .1 .0))
-part-at-says κs a q e w = refl
+pub part-at-says : Says PartAtPlace.ended PartAtPlaceReads.requires PartAtPlaceReads.ensures (λ κs a q e. q ≡ partAt (now (a .0)) (a .1 .0))
+part-at-says κs a q e w = (refl, refl)
 
 -- stream::feed_lent: the same call, of the record that the small fields and the lent arrays make
 abbrev given : (κs : Lfts (FeedLent.ended .signature .lifetimes)) → ArgsD (FeedLent.ended .signature) κs → Record
@@ -411,276 +433,309 @@ given κs a = together (a .0) (now (a .1 .0)) (now (a .1 .1 .0)) (now (a .1 .1 .
 abbrev called : (κs : Lfts (FeedLent.ended .signature .lifetimes)) → ArgsD (FeedLent.ended .signature) κs → Fed
 called κs a = fedOf (given κs a) (now (a .1 .1 .1 .1 .0)) (length (now (a .1 .1 .1 .1 .1 .0)))
 
-pub feed-lent-says : SaysFive FeedLent.ended FeedLentReads.ensures
+pub feed-lent-says : SaysFive FeedLent.ended FeedLentReads.requires FeedLentReads.ensures
     (λ κs a q e. q ≡ lentOf (called κs a))
     (λ κs a q e. now (e .1 .0) ≡ called κs a .record .text)
     (λ κs a q e. now (e .1 .1 .0) ≡ called κs a .record .picture)
     (λ κs a q e. now (e .1 .1 .1 .0) ≡ called κs a .record .frame .bytes)
     (λ κs a q e. now (e .1 .1 .1 .1 .1 .0) ≡ answersAfter (given κs a) (now (a .1 .1 .1 .1 .0)) (now (a .1 .1 .1 .1 .1 .0)))
-feed-lent-says κs a q e w = refl
+feed-lent-says κs a q e w = (refl, refl)
 
 -- stream_by_value::whole
-pub whole-says : Says Whole.ended WholeReads.ensures (λ κs a q e. q ≡ together (a .0) (a .1 .0) (a .1 .1 .0) (a .1 .1 .1 .0))
-whole-says κs a q e w = refl
+pub whole-says : Says Whole.ended WholeReads.requires WholeReads.ensures (λ κs a q e. q ≡ together (a .0) (a .1 .0) (a .1 .1 .0) (a .1 .1 .1 .0))
+whole-says κs a q e w = (refl, refl)
 
 -- stream_by_value::feed
-pub feed-says : SaysBoth Feed.ended FeedReads.ensures
+pub feed-says : SaysBoth Feed.ended FeedReads.requires FeedReads.ensures
     (λ κs a q e. q ≡ fedOf (a .0) (now (a .1 .0)) (length (now (a .1 .1 .0))))
     (λ κs a q e. now (e .1 .1 .0) ≡ answersAfter (a .0) (now (a .1 .0)) (now (a .1 .1 .0)))
-feed-says κs a q e w = refl
+feed-says κs a q e w = (refl, refl)
 
 -- answer_room::escapes_in
-pub escapes-in-says : Says EscapesIn.ended EscapesInReads.ensures (λ κs a q e. q ≡ escapes (now (a .0)))
-escapes-in-says κs a q e w = refl
+pub escapes-in-says : Says EscapesIn.ended EscapesInReads.requires EscapesInReads.ensures (λ κs a q e. q ≡ escapes (now (a .0)))
+escapes-in-says κs a q e w = (refl, refl)
 
 -- answer_room::room_needed_lent
-pub room-needed-lent-says : Says RoomNeededLent.ended RoomNeededLentReads.ensures (λ κs a q e. q ≡ roomNeeded (together (a .0) (now (a .1 .0)) (now (a .1 .1 .0)) (now (a .1 .1 .1 .0))) (now (a .1 .1 .1 .1 .0)))
-room-needed-lent-says κs a q e w = refl
+pub room-needed-lent-says : Says RoomNeededLent.ended RoomNeededLentReads.requires RoomNeededLentReads.ensures (λ κs a q e. q ≡ roomNeeded (together (a .0) (now (a .1 .0)) (now (a .1 .1 .0)) (now (a .1 .1 .1 .0))) (now (a .1 .1 .1 .1 .0)))
+room-needed-lent-says κs a q e w = (refl, refl)
 
 -- answer_room::room_needed
-pub room-needed-says : Says RoomNeededFor.ended RoomNeededForReads.ensures (λ κs a q e. q ≡ roomNeeded (a .0) (now (a .1 .0)))
-room-needed-says κs a q e w = refl
+pub room-needed-says : Says RoomNeededFor.ended RoomNeededForReads.requires RoomNeededForReads.ensures (λ κs a q e. q ≡ roomNeeded (a .0) (now (a .1 .0)))
+room-needed-says κs a q e w = (refl, refl)
 
 -- choice::check
-pub check-choice-says : Says CheckChoice.ended CheckChoiceReads.ensures (λ κs a q e. q ≡ choiceOf (now (a .0)))
-check-choice-says κs a q e w = refl
+pub check-choice-says : Says CheckChoice.ended CheckChoiceReads.requires CheckChoiceReads.ensures (λ κs a q e. q ≡ choiceOf (now (a .0)))
+check-choice-says κs a q e w = (refl, refl)
 
 -- key_entry::all_listed
-pub all-listed-says : Says AllListed.ended AllListedReads.ensures (λ κs a q e. q ≡ every listed (now (a .0)))
-all-listed-says κs a q e w = refl
+pub all-listed-says : Says AllListed.ended AllListedReads.requires AllListedReads.ensures (λ κs a q e. q ≡ every listed (now (a .0)))
+all-listed-says κs a q e w = (refl, refl)
 
 -- key_entry::take_entry
-pub take-entry-says : Says TakeEntry.ended TakeEntryReads.ensures (λ κs a q e. q ≡ keyed (a .0) (a .1 .0) (a .1 .1 .0) (a .1 .1 .1 .0) (a .1 .1 .1 .1 .0))
-take-entry-says κs a q e w = refl
+pub take-entry-says : Says TakeEntry.ended TakeEntryReads.requires TakeEntryReads.ensures (λ κs a q e. q ≡ keyed (a .0) (a .1 .0) (a .1 .1 .0) (a .1 .1 .1 .0) (a .1 .1 .1 .1 .0))
+take-entry-says κs a q e w = (refl, refl)
 
 -- key_log::take_log_lent: the same call, of the record that the small fields and the lent arrays make
 abbrev logged : (κs : Lfts (TakeLogLent.ended .signature .lifetimes)) → ArgsD (TakeLogLent.ended .signature) κs → Outcome
 logged κs a =
     outcome (together (a .0) (now (a .1 .0)) (now (a .1 .1 .0)) (now (a .1 .1 .1 .0))) (now (a .1 .1 .1 .1 .0)) (now (a .1 .1 .1 .1 .1 .0)) (length (now (a .1 .1 .1 .1 .1 .1 .0)))
 
-pub take-log-lent-says : SaysBoth TakeLogLent.ended TakeLogLentReads.ensures
+pub take-log-lent-says : SaysBoth TakeLogLent.ended TakeLogLentReads.requires TakeLogLentReads.ensures
     (λ κs a q e. q ≡ loggedLent (handedBack (logged κs a)))
     (λ κs a q e. now (e .1 .1 .1 .1 .1 .1 .0) ≡ bufferAfter (logged κs a) (now (a .1 .1 .1 .1 .1 .1 .0)))
-take-log-lent-says κs a q e w = refl
+take-log-lent-says κs a q e w = (refl, refl)
 
 -- key_log::take_log
-pub take-log-says : SaysBoth TakeLog.ended TakeLogReads.ensures
+pub take-log-says : SaysBoth TakeLog.ended TakeLogReads.requires TakeLogReads.ensures
     (λ κs a q e. q ≡ handedBack (outcome (a .0) (now (a .1 .0)) (now (a .1 .1 .0)) (length (now (a .1 .1 .1 .0)))))
     (λ κs a q e. now (e .1 .1 .1 .0) ≡ bufferAfter (outcome (a .0) (now (a .1 .0)) (now (a .1 .1 .0)) (length (now (a .1 .1 .1 .0)))) (now (a .1 .1 .1 .0)))
-take-log-says κs a q e w = refl
+take-log-says κs a q e w = (refl, refl)
 
 -- seconds::second_lent
-pub second-lent-says : Says SecondLent.ended SecondLentReads.ensures (λ κs a q e. q ≡ Seconds.lentOf (passed (together (a .0) (now (a .1 .0)) (now (a .1 .1 .0)) (now (a .1 .1 .1 .0)))))
-second-lent-says κs a q e w = refl
+pub second-lent-says : Says SecondLent.ended SecondLentReads.requires SecondLentReads.ensures (λ κs a q e. q ≡ Seconds.lentOf (passed (together (a .0) (now (a .1 .0)) (now (a .1 .1 .0)) (now (a .1 .1 .1 .0)))))
+second-lent-says κs a q e w = (refl, refl)
 
 -- seconds::second
-pub second-says : Says Second.ended SecondReads.ensures (λ κs a q e. q ≡ passed (a .0))
-second-says κs a q e w = refl
+pub second-says : Says Second.ended SecondReads.requires SecondReads.ensures (λ κs a q e. q ≡ passed (a .0))
+second-says κs a q e w = (refl, refl)
 
 -- seconds::second_in_place: its clause is named by the contract itself
 pub second-in-place-says : Says SecondInPlace.ended
+    (λ κs a g w. SecondInPlace.clauses (w .𝓤) (w .H) (w .𝓖 .A) (w .𝓜 .mem) (w .𝓡 .run) κs a .requires g)
     (λ κs a g q e w. SecondInPlace.clauses (w .𝓤) (w .H) (w .𝓖 .A) (w .𝓜 .mem) (w .𝓡 .run) κs a .ensures g q e)
     (λ κs a q e. (q ≡ lightPassed (now (a .0)) .number) × (now (e .0) ≡ lightPassed (now (a .0)) .backlight))
-second-in-place-says κs a q e w = refl
+second-in-place-says κs a q e w = (refl, refl)
 
 -- seen_panels::sms_panel
-pub sms-panel-says : Says SmsPanelOf.ended SmsPanelOfReads.ensures (λ κs a q e. q ≡ smsPanel (a .0) (a .1 .0))
-sms-panel-says κs a q e w = refl
+pub sms-panel-says : Says SmsPanelOf.ended SmsPanelOfReads.requires SmsPanelOfReads.ensures (λ κs a q e. q ≡ smsPanel (a .0) (a .1 .0))
+sms-panel-says κs a q e w = (refl, refl)
 
 -- seen_panels::volume_panel
-pub volume-panel-says : Says VolumePanelOf.ended VolumePanelOfReads.ensures (λ κs a q e. q ≡ volumePanel (a .0))
-volume-panel-says κs a q e w = refl
+pub volume-panel-says : Says VolumePanelOf.ended VolumePanelOfReads.requires VolumePanelOfReads.ensures (λ κs a q e. q ≡ volumePanel (a .0))
+volume-panel-says κs a q e w = (refl, refl)
+
+-- seen_owners::owner_of_row
+pub owner-of-row-says : Says OwnerOfRow.ended OwnerOfRowReads.requires OwnerOfRowReads.ensures (λ κs a q e. q ≡ ownerOfRow (a .0) (a .1 .0))
+owner-of-row-says κs a q e w = (refl, refl)
+
+-- seen_owners::owner_of
+pub owner-of-says : Says OwnerOf.ended OwnerOfReads.requires OwnerOfReads.ensures (λ κs a q e. q ≡ ownerOn (a .0) (a .1 .0) (a .1 .1 .0))
+owner-of-says κs a q e w = (refl, refl)
 
 -- seen::row_seen
-pub row-seen-says : Says RowSeen.ended RowSeenReads.ensures (λ κs a q e. q ≡ rowSeen (a .0) (a .1 .0) (a .1 .1 .0))
-row-seen-says κs a q e w = refl
+pub row-seen-says : Says RowSeen.ended RowSeenReads.requires RowSeenReads.ensures (λ κs a q e. q ≡ rowSeen (a .0) (a .1 .0) (a .1 .1 .0))
+row-seen-says κs a q e w = (refl, refl)
 
 -- seen::row_seen_lent
-pub row-seen-lent-says : Says RowSeenLent.ended RowSeenLentReads.ensures
+pub row-seen-lent-says : Says RowSeenLent.ended RowSeenLentReads.requires RowSeenLentReads.ensures
     (λ κs a q e. q ≡ rowSeen (together (a .0) (now (a .1 .0)) (now (a .1 .1 .0)) (now (a .1 .1 .1 .0))) (a .1 .1 .1 .1 .0) (a .1 .1 .1 .1 .1 .0))
-row-seen-lent-says κs a q e w = refl
+row-seen-lent-says κs a q e w = (refl, refl)
 
 -- seen::column_seen
-pub column-seen-says : Says ColumnSeen.ended ColumnSeenReads.ensures (λ κs a q e. q ≡ columnSeen (a .0) (a .1 .0) (a .1 .1 .0) (a .1 .1 .1 .0))
-column-seen-says κs a q e w = refl
+pub column-seen-says : Says ColumnSeen.ended ColumnSeenReads.requires ColumnSeenReads.ensures (λ κs a q e. q ≡ columnSeen (a .0) (a .1 .0) (a .1 .1 .0) (a .1 .1 .1 .0))
+column-seen-says κs a q e w = (refl, refl)
 
 -- seen::column_seen_lent
-pub column-seen-lent-says : Says ColumnSeenLent.ended ColumnSeenLentReads.ensures
+pub column-seen-lent-says : Says ColumnSeenLent.ended ColumnSeenLentReads.requires ColumnSeenLentReads.ensures
     (λ κs a q e. q ≡ columnSeen (together (a .0) (now (a .1 .0)) (now (a .1 .1 .0)) (now (a .1 .1 .1 .0))) (a .1 .1 .1 .1 .0) (a .1 .1 .1 .1 .1 .0) (a .1 .1 .1 .1 .1 .1 .0))
-column-seen-lent-says κs a q e w = refl
+column-seen-lent-says κs a q e w = (refl, refl)
 
 -- seen::sms_seen
-pub sms-seen-says : Says SmsSeen.ended SmsSeenReads.ensures (λ κs a q e. q ≡ smsSeen (a .0) (a .1 .0))
-sms-seen-says κs a q e w = refl
+pub sms-seen-says : Says SmsSeen.ended SmsSeenReads.requires SmsSeenReads.ensures (λ κs a q e. q ≡ smsSeen (a .0) (a .1 .0))
+sms-seen-says κs a q e w = (refl, refl)
 
 -- seen::sms_seen_lent
-pub sms-seen-lent-says : Says SmsSeenLent.ended SmsSeenLentReads.ensures
+pub sms-seen-lent-says : Says SmsSeenLent.ended SmsSeenLentReads.requires SmsSeenLentReads.ensures
     (λ κs a q e. q ≡ smsSeen (together (a .0) (now (a .1 .0)) (now (a .1 .1 .0)) (now (a .1 .1 .1 .0))) (a .1 .1 .1 .1 .0))
-sms-seen-lent-says κs a q e w = refl
+sms-seen-lent-says κs a q e w = (refl, refl)
 
 -- seen::volume_seen
-pub volume-seen-says : Says VolumeSeen.ended VolumeSeenReads.ensures (λ κs a q e. q ≡ volumeSeen (a .0))
-volume-seen-says κs a q e w = refl
+pub volume-seen-says : Says VolumeSeen.ended VolumeSeenReads.requires VolumeSeenReads.ensures (λ κs a q e. q ≡ volumeSeen (a .0))
+volume-seen-says κs a q e w = (refl, refl)
 
 -- seen::volume_seen_lent
-pub volume-seen-lent-says : Says VolumeSeenLent.ended VolumeSeenLentReads.ensures
+pub volume-seen-lent-says : Says VolumeSeenLent.ended VolumeSeenLentReads.requires VolumeSeenLentReads.ensures
     (λ κs a q e. q ≡ volumeSeen (together (a .0) (now (a .1 .0)) (now (a .1 .1 .0)) (now (a .1 .1 .1 .0))))
-volume-seen-lent-says κs a q e w = refl
+volume-seen-lent-says κs a q e w = (refl, refl)
 
 -- writer_ranges::label_in_range
-pub label-in-range-says : Says LabelInRange.ended LabelInRangeReads.ensures (λ κs a q e. q ≡ isLabel (now (a .0)))
-label-in-range-says κs a q e w = refl
+pub label-in-range-says : Says LabelInRange.ended LabelInRangeReads.requires LabelInRangeReads.ensures (λ κs a q e. q ≡ isLabel (now (a .0)))
+label-in-range-says κs a q e w = (refl, refl)
 
 -- writer_ranges::row_in_range
-pub row-in-range-says : Says RowInRange.ended RowInRangeReads.ensures (λ κs a q e. q ≡ isRow (a .0) (now (a .1 .0)))
-row-in-range-says κs a q e w = refl
+pub row-in-range-says : Says RowInRange.ended RowInRangeReads.requires RowInRangeReads.ensures (λ κs a q e. q ≡ isRow (a .0) (now (a .1 .0)))
+row-in-range-says κs a q e w = (refl, refl)
 
 -- writer::write_command
-pub write-command-says : SaysBoth WriteCommand.ended WriteCommandReads.ensures
+pub write-command-says : SaysBoth WriteCommand.ended WriteCommandReads.requires WriteCommandReads.ensures
     (λ κs a q e. q ≡ writtenOf (commandInRange mostRows (a .0)) (frameOf (bodyOf (a .0))) (now (a .1 .0)))
     (λ κs a q e. now (e .1 .0) ≡ roomAfter (commandInRange mostRows (a .0)) (frameOf (bodyOf (a .0))) (now (a .1 .0)))
-write-command-says κs a q e w = refl
+write-command-says κs a q e w = (refl, refl)
 
 -- writer::write_label
-pub write-label-says : SaysBoth WriteLabel.ended WriteLabelReads.ensures
+pub write-label-says : SaysBoth WriteLabel.ended WriteLabelReads.requires WriteLabelReads.ensures
     (λ κs a q e. q ≡ writtenOf (isLabel (now (a .1 .0))) (frameOf (labelBody (a .0) (now (a .1 .0)))) (now (a .1 .1 .0)))
     (λ κs a q e. now (e .1 .1 .0) ≡ roomAfter (isLabel (now (a .1 .0))) (frameOf (labelBody (a .0) (now (a .1 .0)))) (now (a .1 .1 .0)))
-write-label-says κs a q e w = refl
+write-label-says κs a q e w = (refl, refl)
 
 -- writer::write_picture_row
-pub write-picture-row-says : SaysBoth WritePictureRow.ended WritePictureRowReads.ensures
+pub write-picture-row-says : SaysBoth WritePictureRow.ended WritePictureRowReads.requires WritePictureRowReads.ensures
     (λ κs a q e. q ≡ writtenOf (isRow (a .0) (now (a .1 .0))) (frameOf (rowBody (a .0) (now (a .1 .0)))) (now (a .1 .1 .0)))
     (λ κs a q e. now (e .1 .1 .0) ≡ roomAfter (isRow (a .0) (now (a .1 .0))) (frameOf (rowBody (a .0) (now (a .1 .0)))) (now (a .1 .1 .0)))
-write-picture-row-says κs a q e w = refl
+write-picture-row-says κs a q e w = (refl, refl)
 
--- handset::handset_power_on
-pub handset-power-on-says : SaysFour HandsetPowerOn.ended HandsetPowerOnReads.ensures
+-- handset_numbers::phase_of
+pub phase-of-says : Says PhaseOf.ended PhaseOfReads.requires PhaseOfReads.ensures (λ κs a q e. q ≡ phaseOf (a .0))
+phase-of-says κs a q e w = (refl, refl)
+
+-- handset_numbers::side_of
+pub side-of-says : Says SideOf.ended SideOfReads.requires SideOfReads.ensures (λ κs a q e. q ≡ sideOf (a .0))
+side-of-says κs a q e w = (refl, refl)
+
+-- handset_numbers::command_of
+pub command-of-says : Says CommandOf.ended CommandOfReads.requires CommandOfReads.ensures (λ κs a q e. q ≡ commandOf (a .0) (a .1 .0) (a .1 .1 .0))
+command-of-says κs a q e w = (refl, refl)
+
+-- handset_numbers::sms_number
+pub sms-number-says : Says SmsNumber.ended SmsNumberReads.requires SmsNumberReads.ensures (λ κs a q e. q ≡ smsNumber (a .0))
+sms-number-says κs a q e w = (refl, refl)
+
+-- handset_numbers::volume_numbers
+pub volume-numbers-says : Says VolumeNumbers.ended VolumeNumbersReads.requires VolumeNumbersReads.ensures (λ κs a q e. q ≡ volumeNumbers (a .0))
+volume-numbers-says κs a q e w = (refl, refl)
+
+-- handset_numbers::owner_numbers
+pub owner-numbers-says : Says OwnerNumbers.ended OwnerNumbersReads.requires OwnerNumbersReads.ensures (λ κs a q e. q ≡ ownerNumbers (a .0))
+owner-numbers-says κs a q e w = (refl, refl)
+
+-- handset_numbers::shown_numbers
+pub shown-numbers-says : Says ShownNumbers.ended ShownNumbersReads.requires ShownNumbersReads.ensures (λ κs a q e. q ≡ shownNumbers (a .0))
+shown-numbers-says κs a q e w = (refl, refl)
+
+-- handset_numbers::verdict_numbers
+pub verdict-numbers-says : Says VerdictNumbers.ended VerdictNumbersReads.requires VerdictNumbersReads.ensures (λ κs a q e. q ≡ verdictNumbers (a .0))
+verdict-numbers-says κs a q e w = (refl, refl)
+
+-- handset_numbers::rule_number
+pub rule-number-says : Says RuleNumber.ended RuleNumberReads.requires RuleNumberReads.ensures (λ κs a q e. q ≡ ruleNumber (a .0))
+rule-number-says κs a q e w = (refl, refl)
+
+-- handset_numbers::kind_number
+pub kind-number-says : Says KindNumber.ended KindNumberReads.requires KindNumberReads.ensures (λ κs a q e. q ≡ kindNumber (a .0))
+kind-number-says κs a q e w = (refl, refl)
+
+-- handset::proved_power_on
+pub proved-power-on-says : SaysFour ProvedPowerOn.ended ProvedPowerOnReads.requires ProvedPowerOnReads.ensures
     (λ κs a q e. q ≡ smallOf powerOn)
     (λ κs a q e. now (e .0) ≡ powerOn .text)
     (λ κs a q e. now (e .1 .0) ≡ powerOn .picture)
     (λ κs a q e. now (e .1 .1 .0) ≡ powerOn .frame .bytes)
-handset-power-on-says κs a q e w = refl
+proved-power-on-says κs a q e w = (refl, refl)
 
--- handset::handset_power_on_former
-pub handset-power-on-former-says : SaysFour HandsetPowerOnFormer.ended HandsetPowerOnFormerReads.ensures
+-- handset::proved_power_on_former
+pub proved-power-on-former-says : SaysFour ProvedPowerOnFormer.ended ProvedPowerOnFormerReads.requires ProvedPowerOnFormerReads.ensures
     (λ κs a q e. q ≡ smallOf formerPowerOn)
     (λ κs a q e. now (e .0) ≡ formerPowerOn .text)
     (λ κs a q e. now (e .1 .0) ≡ formerPowerOn .picture)
     (λ κs a q e. now (e .1 .1 .0) ≡ formerPowerOn .frame .bytes)
-handset-power-on-former-says κs a q e w = refl
+proved-power-on-former-says κs a q e w = (refl, refl)
 
--- handset::handset_in_range
-pub handset-in-range-says : Says HandsetInRange.ended HandsetInRangeReads.ensures
+-- handset::proved_in_range
+pub proved-in-range-says : Says ProvedInRange.ended ProvedInRangeReads.requires ProvedInRangeReads.ensures
     (λ κs a q e. q ≡ inRange (together (a .0) (now (a .1 .0)) (now (a .1 .1 .0)) (now (a .1 .1 .1 .0))))
-handset-in-range-says κs a q e w = refl
+proved-in-range-says κs a q e w = (refl, refl)
 
--- handset::handset_feed: the stream call, of the record that the small fields and the lent arrays make
-abbrev fedFrom : (κs : Lfts (HandsetFeed.ended .signature .lifetimes)) → ArgsD (HandsetFeed.ended .signature) κs → Record
+-- handset::proved_feed: the stream call, of the record that the small fields and the lent arrays make
+abbrev fedFrom : (κs : Lfts (ProvedFeed.ended .signature .lifetimes)) → ArgsD (ProvedFeed.ended .signature) κs → Record
 fedFrom κs a = together (a .0) (now (a .1 .0)) (now (a .1 .1 .0)) (now (a .1 .1 .1 .0))
 
-abbrev fedTo : (κs : Lfts (HandsetFeed.ended .signature .lifetimes)) → ArgsD (HandsetFeed.ended .signature) κs → Fed
+abbrev fedTo : (κs : Lfts (ProvedFeed.ended .signature .lifetimes)) → ArgsD (ProvedFeed.ended .signature) κs → Fed
 fedTo κs a = fedOf (fedFrom κs a) (now (a .1 .1 .1 .1 .0)) (length (now (a .1 .1 .1 .1 .1 .0)))
 
-pub handset-feed-says : SaysFive HandsetFeed.ended HandsetFeedReads.ensures
+pub proved-feed-says : SaysFive ProvedFeed.ended ProvedFeedReads.requires ProvedFeedReads.ensures
     (λ κs a q e. q ≡ fedIn (fedTo κs a))
     (λ κs a q e. now (e .1 .0) ≡ fedTo κs a .record .text)
     (λ κs a q e. now (e .1 .1 .0) ≡ fedTo κs a .record .picture)
     (λ κs a q e. now (e .1 .1 .1 .0) ≡ fedTo κs a .record .frame .bytes)
     (λ κs a q e. now (e .1 .1 .1 .1 .1 .0) ≡ answersAfter (fedFrom κs a) (now (a .1 .1 .1 .1 .0)) (now (a .1 .1 .1 .1 .1 .0)))
-handset-feed-says κs a q e w = refl
+proved-feed-says κs a q e w = (refl, refl)
 
--- handset::handset_take_log: the key log, of the same record
-abbrev loggedTo : (κs : Lfts (HandsetTakeLog.ended .signature .lifetimes)) → ArgsD (HandsetTakeLog.ended .signature) κs → Outcome
+-- handset::proved_take_log: the key log, of the same record
+abbrev loggedTo : (κs : Lfts (ProvedTakeLog.ended .signature .lifetimes)) → ArgsD (ProvedTakeLog.ended .signature) κs → Outcome
 loggedTo κs a = outcome (together (a .0) (now (a .1 .0)) (now (a .1 .1 .0)) (now (a .1 .1 .1 .0))) (now (a .1 .1 .1 .1 .0)) (now (a .1 .1 .1 .1 .1 .0)) (length (now (a .1 .1 .1 .1 .1 .1 .0)))
 
-pub handset-take-log-says : SaysBoth HandsetTakeLog.ended HandsetTakeLogReads.ensures
+pub proved-take-log-says : SaysBoth ProvedTakeLog.ended ProvedTakeLogReads.requires ProvedTakeLogReads.ensures
     (λ κs a q e. q ≡ loggedIn (handedBack (loggedTo κs a)))
     (λ κs a q e. now (e .1 .1 .1 .1 .1 .1 .0) ≡ bufferAfter (loggedTo κs a) (now (a .1 .1 .1 .1 .1 .1 .0)))
-handset-take-log-says κs a q e w = refl
+proved-take-log-says κs a q e w = (refl, refl)
 
--- handset::handset_second
-pub handset-second-says : Says HandsetSecond.ended HandsetSecondReads.ensures
+-- handset::proved_second
+pub proved-second-says : Says ProvedSecond.ended ProvedSecondReads.requires ProvedSecondReads.ensures
     (λ κs a q e. q ≡ passedIn (passed (together (a .0) (now (a .1 .0)) (now (a .1 .1 .0)) (now (a .1 .1 .1 .0)))))
-handset-second-says κs a q e w = refl
+proved-second-says κs a q e w = (refl, refl)
 
--- handset::handset_hook
-pub handset-hook-says : Says HandsetHook.ended HandsetHookReads.ensures
+-- handset::proved_light_second
+pub proved-light-second-says : Says ProvedLightSecond.ended ProvedLightSecondReads.requires ProvedLightSecondReads.ensures (λ κs a q e. q ≡ lightIn (lightPassed (a .0)))
+proved-light-second-says κs a q e w = (refl, refl)
+
+-- handset::proved_hook
+pub proved-hook-says : Says ProvedHook.ended ProvedHookReads.requires ProvedHookReads.ensures
     (λ κs a q e. q ≡ hookedIn (hooked (together (a .0) (now (a .1 .0)) (now (a .1 .1 .0)) (now (a .1 .1 .1 .0))) (a .1 .1 .1 .1 .0)))
-handset-hook-says κs a q e w = refl
+proved-hook-says κs a q e w = (refl, refl)
 
--- handset::handset_room_needed
-pub handset-room-needed-says : Says HandsetRoomNeeded.ended HandsetRoomNeededReads.ensures
+-- handset::proved_room_needed
+pub proved-room-needed-says : Says ProvedRoomNeeded.ended ProvedRoomNeededReads.requires ProvedRoomNeededReads.ensures
     (λ κs a q e. q ≡ countedIn (roomNeeded (together (a .0) (now (a .1 .0)) (now (a .1 .1 .0)) (now (a .1 .1 .1 .0))) (now (a .1 .1 .1 .1 .0))))
-handset-room-needed-says κs a q e w = refl
+proved-room-needed-says κs a q e w = (refl, refl)
 
--- handset::handset_sms_seen
-pub handset-sms-seen-says : Says HandsetSmsSeen.ended HandsetSmsSeenReads.ensures
+-- handset::proved_sms_seen
+pub proved-sms-seen-says : Says ProvedSmsSeen.ended ProvedSmsSeenReads.requires ProvedSmsSeenReads.ensures
     (λ κs a q e. q ≡ smsIn (smsSeen (together (a .0) (now (a .1 .0)) (now (a .1 .1 .0)) (now (a .1 .1 .1 .0))) (phaseOf (a .1 .1 .1 .1 .0))))
-handset-sms-seen-says κs a q e w = refl
+proved-sms-seen-says κs a q e w = (refl, refl)
 
--- handset::handset_volume_seen
-pub handset-volume-seen-says : Says HandsetVolumeSeen.ended HandsetVolumeSeenReads.ensures
+-- handset::proved_volume_seen
+pub proved-volume-seen-says : Says ProvedVolumeSeen.ended ProvedVolumeSeenReads.requires ProvedVolumeSeenReads.ensures
     (λ κs a q e. q ≡ volumeIn (volumeSeen (together (a .0) (now (a .1 .0)) (now (a .1 .1 .0)) (now (a .1 .1 .1 .0)))))
-handset-volume-seen-says κs a q e w = refl
+proved-volume-seen-says κs a q e w = (refl, refl)
 
--- handset::handset_row_seen
-pub handset-row-seen-says : Says HandsetRowSeen.ended HandsetRowSeenReads.ensures
+-- handset::proved_row_seen
+pub proved-row-seen-says : Says ProvedRowSeen.ended ProvedRowSeenReads.requires ProvedRowSeenReads.ensures
     (λ κs a q e. q ≡ rowIn (rowSeen (together (a .0) (now (a .1 .0)) (now (a .1 .1 .0)) (now (a .1 .1 .1 .0))) (a .1 .1 .1 .1 .0) (phaseOf (a .1 .1 .1 .1 .1 .0))))
-handset-row-seen-says κs a q e w = refl
+proved-row-seen-says κs a q e w = (refl, refl)
 
--- handset::handset_column_seen
-pub handset-column-seen-says : Says HandsetColumnSeen.ended HandsetColumnSeenReads.ensures
+-- handset::proved_column_seen
+pub proved-column-seen-says : Says ProvedColumnSeen.ended ProvedColumnSeenReads.requires ProvedColumnSeenReads.ensures
     (λ κs a q e. q ≡ columnIn (columnSeen (together (a .0) (now (a .1 .0)) (now (a .1 .1 .0)) (now (a .1 .1 .1 .0))) (a .1 .1 .1 .1 .0) (a .1 .1 .1 .1 .1 .0) (phaseOf (a .1 .1 .1 .1 .1 .1 .0))))
-handset-column-seen-says κs a q e w = refl
+proved-column-seen-says κs a q e w = (refl, refl)
 
--- handset::handset_write_command
-pub handset-write-command-says : SaysBoth HandsetWriteCommand.ended HandsetWriteCommandReads.ensures
+-- handset::proved_write_command
+pub proved-write-command-says : SaysBoth ProvedWriteCommand.ended ProvedWriteCommandReads.requires ProvedWriteCommandReads.ensures
     (λ κs a q e. q ≡ commandWritten (a .0) (a .1 .0) (a .1 .1 .0) (now (a .1 .1 .1 .0)))
     (λ κs a q e. now (e .1 .1 .1 .0) ≡ commandRoom (a .0) (a .1 .0) (a .1 .1 .0) (now (a .1 .1 .1 .0)))
-handset-write-command-says κs a q e w = refl
+proved-write-command-says κs a q e w = (refl, refl)
 
--- handset::handset_write_label
-pub handset-write-label-says : SaysBoth HandsetWriteLabel.ended HandsetWriteLabelReads.ensures
+-- handset::proved_write_label
+pub proved-write-label-says : SaysBoth ProvedWriteLabel.ended ProvedWriteLabelReads.requires ProvedWriteLabelReads.ensures
     (λ κs a q e. q ≡ writtenIn (writtenOf (isLabel (now (a .1 .0))) (frameOf (labelBody (sideOf (a .0)) (now (a .1 .0)))) (now (a .1 .1 .0))))
     (λ κs a q e. now (e .1 .1 .0) ≡ roomAfter (isLabel (now (a .1 .0))) (frameOf (labelBody (sideOf (a .0)) (now (a .1 .0)))) (now (a .1 .1 .0)))
-handset-write-label-says κs a q e w = refl
+proved-write-label-says κs a q e w = (refl, refl)
 
--- handset::handset_write_picture_row
-pub handset-write-picture-row-says : SaysBoth HandsetWritePictureRow.ended HandsetWritePictureRowReads.ensures
+-- handset::proved_write_picture_row
+pub proved-write-picture-row-says : SaysBoth ProvedWritePictureRow.ended ProvedWritePictureRowReads.requires ProvedWritePictureRowReads.ensures
     (λ κs a q e. q ≡ writtenIn (writtenOf (isRow (a .0) (now (a .1 .0))) (frameOf (rowBody (a .0) (now (a .1 .0)))) (now (a .1 .1 .0))))
     (λ κs a q e. now (e .1 .1 .0) ≡ roomAfter (isRow (a .0) (now (a .1 .0))) (frameOf (rowBody (a .0) (now (a .1 .0)))) (now (a .1 .1 .0)))
-handset-write-picture-row-says κs a q e w = refl
+proved-write-picture-row-says κs a q e w = (refl, refl)
 
--- handset::handset_judge
-pub handset-judge-says : Says HandsetJudge.ended HandsetJudgeReads.ensures
+-- handset::proved_judge
+pub proved-judge-says : Says ProvedJudge.ended ProvedJudgeReads.requires ProvedJudgeReads.ensures
     (λ κs a q e. q ≡ judgedIn (verdictOf (a .0) (now (a .1 .0))))
-handset-judge-says κs a q e w = refl
+proved-judge-says κs a q e w = (refl, refl)
 
--- handset::handset_check_choice
-pub handset-check-choice-says : Says HandsetCheckChoice.ended HandsetCheckChoiceReads.ensures
+-- handset::proved_check_choice
+pub proved-check-choice-says : Says ProvedCheckChoice.ended ProvedCheckChoiceReads.requires ProvedCheckChoiceReads.ensures
     (λ κs a q e. q ≡ choiceIn (choiceOf (now (a .0))))
-handset-check-choice-says κs a q e w = refl
+proved-check-choice-says κs a q e w = (refl, refl)
 
--- measure::measure_one_call
-pub one-call-says : SaysBoth OneCall.ended OneCallReads.ensures
-    (λ κs a q e. q ≡ markOf (fedOf powerOn (now (a .0)) (length (now (a .1 .0)))))
-    (λ κs a q e. now (e .1 .0) ≡ answersAfter powerOn (now (a .0)) (now (a .1 .0)))
-one-call-says κs a q e w = refl
-
--- measure::measure_short_calls
-pub short-calls-says : SaysBoth ShortCalls.ended ShortCallsReads.ensures
-    (λ κs a q e. q ≡ markOf (fedInCalls (now (a .0)) (now (a .1 .0))))
-    (λ κs a q e. now (e .1 .0) ≡ answersInCalls (now (a .0)) (now (a .1 .0)))
-short-calls-says κs a q e w = refl
-
--- measure::measure_range_checks
-pub range-checks-says : Says RangeChecks.ended RangeChecksReads.ensures (λ κs a q e. q ≡ goodOnes powerOn (now (a .0)))
-range-checks-says κs a q e w = refl
-
--- measure::measure_choice
-pub measure-choice-says : Says MeasureChoice.ended MeasureChoiceReads.ensures (λ κs a q e. q ≡ brokenFirst (choiceOf (now (a .0))))
-measure-choice-says κs a q e w = refl
-
--- measure::count_parts
-pub count-parts-says : Says CountParts.ended CountPartsReads.ensures (λ κs a q e. q ≡ length (partsOf (now (a .0))))
-count-parts-says κs a q e w = refl
+-- handset::proved_part_at
+pub proved-part-at-says : Says ProvedPartAt.ended ProvedPartAtReads.requires ProvedPartAtReads.ensures (λ κs a q e. q ≡ partIn (partAt (now (a .0)) (a .1 .0)))
+proved-part-at-says κs a q e w = (refl, refl)

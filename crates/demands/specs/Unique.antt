@@ -37,8 +37,6 @@ use Rattle.record_ranges.proofs.in_range as RecordInRange
 use Rattle.record_ranges.proofs.in_range.Reads as RecordInRangeReads
 use Rattle.record_ranges.proofs.in_range_lent as InRangeLent
 use Rattle.record_ranges.proofs.in_range_lent.Reads as InRangeLentReads
-use Rattle.record_fields.proofs.with_field as WithField
-use Rattle.record_fields.proofs.with_field.Reads as WithFieldReads
 use Rattle.numeral.proofs.read_number as ReadNumber
 use Rattle.numeral.proofs.read_number.Reads as ReadNumberReads
 use Rattle.numeral.proofs.digits_of as DigitsOf
@@ -93,16 +91,6 @@ use Rattle.answer_room.proofs.room_needed_lent as RoomNeededLent
 use Rattle.answer_room.proofs.room_needed_lent.Reads as RoomNeededLentReads
 use Rattle.answer_room.proofs.room_needed as RoomNeededFor
 use Rattle.answer_room.proofs.room_needed.Reads as RoomNeededForReads
-use Rattle.measure.proofs.measure_one_call as OneCall
-use Rattle.measure.proofs.measure_one_call.Reads as OneCallReads
-use Rattle.measure.proofs.measure_short_calls as ShortCalls
-use Rattle.measure.proofs.measure_short_calls.Reads as ShortCallsReads
-use Rattle.measure.proofs.measure_range_checks as RangeChecks
-use Rattle.measure.proofs.measure_range_checks.Reads as RangeChecksReads
-use Rattle.measure.proofs.measure_choice as MeasureChoice
-use Rattle.measure.proofs.measure_choice.Reads as MeasureChoiceReads
-use Rattle.measure.proofs.count_parts as CountParts
-use Rattle.measure.proofs.count_parts.Reads as CountPartsReads
 use Rattle.choice.proofs.check as CheckChoice
 use Rattle.choice.proofs.check.Reads as CheckChoiceReads
 use Rattle.key_entry.proofs.all_listed as AllListed
@@ -122,6 +110,10 @@ use Rattle.seen_panels.proofs.sms_panel as SmsPanelOf
 use Rattle.seen_panels.proofs.sms_panel.Reads as SmsPanelOfReads
 use Rattle.seen_panels.proofs.volume_panel as VolumePanelOf
 use Rattle.seen_panels.proofs.volume_panel.Reads as VolumePanelOfReads
+use Rattle.seen_owners.proofs.owner_of_row as OwnerOfRow
+use Rattle.seen_owners.proofs.owner_of_row.Reads as OwnerOfRowReads
+use Rattle.seen_owners.proofs.owner_of as OwnerOf
+use Rattle.seen_owners.proofs.owner_of.Reads as OwnerOfReads
 use Rattle.seen.proofs.row_seen as RowSeen
 use Rattle.seen.proofs.row_seen.Reads as RowSeenReads
 use Rattle.seen.proofs.row_seen_lent as RowSeenLent
@@ -148,40 +140,64 @@ use Rattle.writer.proofs.write_label as WriteLabel
 use Rattle.writer.proofs.write_label.Reads as WriteLabelReads
 use Rattle.writer.proofs.write_picture_row as WritePictureRow
 use Rattle.writer.proofs.write_picture_row.Reads as WritePictureRowReads
-use Rattle.handset.proofs.handset_power_on as HandsetPowerOn
-use Rattle.handset.proofs.handset_power_on.Reads as HandsetPowerOnReads
-use Rattle.handset.proofs.handset_power_on_former as HandsetPowerOnFormer
-use Rattle.handset.proofs.handset_power_on_former.Reads as HandsetPowerOnFormerReads
-use Rattle.handset.proofs.handset_in_range as HandsetInRange
-use Rattle.handset.proofs.handset_in_range.Reads as HandsetInRangeReads
-use Rattle.handset.proofs.handset_feed as HandsetFeed
-use Rattle.handset.proofs.handset_feed.Reads as HandsetFeedReads
-use Rattle.handset.proofs.handset_take_log as HandsetTakeLog
-use Rattle.handset.proofs.handset_take_log.Reads as HandsetTakeLogReads
-use Rattle.handset.proofs.handset_second as HandsetSecond
-use Rattle.handset.proofs.handset_second.Reads as HandsetSecondReads
-use Rattle.handset.proofs.handset_hook as HandsetHook
-use Rattle.handset.proofs.handset_hook.Reads as HandsetHookReads
-use Rattle.handset.proofs.handset_room_needed as HandsetRoomNeeded
-use Rattle.handset.proofs.handset_room_needed.Reads as HandsetRoomNeededReads
-use Rattle.handset.proofs.handset_sms_seen as HandsetSmsSeen
-use Rattle.handset.proofs.handset_sms_seen.Reads as HandsetSmsSeenReads
-use Rattle.handset.proofs.handset_volume_seen as HandsetVolumeSeen
-use Rattle.handset.proofs.handset_volume_seen.Reads as HandsetVolumeSeenReads
-use Rattle.handset.proofs.handset_row_seen as HandsetRowSeen
-use Rattle.handset.proofs.handset_row_seen.Reads as HandsetRowSeenReads
-use Rattle.handset.proofs.handset_column_seen as HandsetColumnSeen
-use Rattle.handset.proofs.handset_column_seen.Reads as HandsetColumnSeenReads
-use Rattle.handset.proofs.handset_write_command as HandsetWriteCommand
-use Rattle.handset.proofs.handset_write_command.Reads as HandsetWriteCommandReads
-use Rattle.handset.proofs.handset_write_label as HandsetWriteLabel
-use Rattle.handset.proofs.handset_write_label.Reads as HandsetWriteLabelReads
-use Rattle.handset.proofs.handset_write_picture_row as HandsetWritePictureRow
-use Rattle.handset.proofs.handset_write_picture_row.Reads as HandsetWritePictureRowReads
-use Rattle.handset.proofs.handset_judge as HandsetJudge
-use Rattle.handset.proofs.handset_judge.Reads as HandsetJudgeReads
-use Rattle.handset.proofs.handset_check_choice as HandsetCheckChoice
-use Rattle.handset.proofs.handset_check_choice.Reads as HandsetCheckChoiceReads
+use Rattle.handset_numbers.proofs.phase_of as PhaseOf
+use Rattle.handset_numbers.proofs.phase_of.Reads as PhaseOfReads
+use Rattle.handset_numbers.proofs.side_of as SideOf
+use Rattle.handset_numbers.proofs.side_of.Reads as SideOfReads
+use Rattle.handset_numbers.proofs.command_of as CommandOf
+use Rattle.handset_numbers.proofs.command_of.Reads as CommandOfReads
+use Rattle.handset_numbers.proofs.sms_number as SmsNumber
+use Rattle.handset_numbers.proofs.sms_number.Reads as SmsNumberReads
+use Rattle.handset_numbers.proofs.volume_numbers as VolumeNumbers
+use Rattle.handset_numbers.proofs.volume_numbers.Reads as VolumeNumbersReads
+use Rattle.handset_numbers.proofs.owner_numbers as OwnerNumbers
+use Rattle.handset_numbers.proofs.owner_numbers.Reads as OwnerNumbersReads
+use Rattle.handset_numbers.proofs.shown_numbers as ShownNumbers
+use Rattle.handset_numbers.proofs.shown_numbers.Reads as ShownNumbersReads
+use Rattle.handset_numbers.proofs.verdict_numbers as VerdictNumbers
+use Rattle.handset_numbers.proofs.verdict_numbers.Reads as VerdictNumbersReads
+use Rattle.handset_numbers.proofs.rule_number as RuleNumber
+use Rattle.handset_numbers.proofs.rule_number.Reads as RuleNumberReads
+use Rattle.handset_numbers.proofs.kind_number as KindNumber
+use Rattle.handset_numbers.proofs.kind_number.Reads as KindNumberReads
+use Rattle.handset.proofs.proved_power_on as ProvedPowerOn
+use Rattle.handset.proofs.proved_power_on.Reads as ProvedPowerOnReads
+use Rattle.handset.proofs.proved_power_on_former as ProvedPowerOnFormer
+use Rattle.handset.proofs.proved_power_on_former.Reads as ProvedPowerOnFormerReads
+use Rattle.handset.proofs.proved_in_range as ProvedInRange
+use Rattle.handset.proofs.proved_in_range.Reads as ProvedInRangeReads
+use Rattle.handset.proofs.proved_feed as ProvedFeed
+use Rattle.handset.proofs.proved_feed.Reads as ProvedFeedReads
+use Rattle.handset.proofs.proved_take_log as ProvedTakeLog
+use Rattle.handset.proofs.proved_take_log.Reads as ProvedTakeLogReads
+use Rattle.handset.proofs.proved_second as ProvedSecond
+use Rattle.handset.proofs.proved_second.Reads as ProvedSecondReads
+use Rattle.handset.proofs.proved_light_second as ProvedLightSecond
+use Rattle.handset.proofs.proved_light_second.Reads as ProvedLightSecondReads
+use Rattle.handset.proofs.proved_hook as ProvedHook
+use Rattle.handset.proofs.proved_hook.Reads as ProvedHookReads
+use Rattle.handset.proofs.proved_room_needed as ProvedRoomNeeded
+use Rattle.handset.proofs.proved_room_needed.Reads as ProvedRoomNeededReads
+use Rattle.handset.proofs.proved_sms_seen as ProvedSmsSeen
+use Rattle.handset.proofs.proved_sms_seen.Reads as ProvedSmsSeenReads
+use Rattle.handset.proofs.proved_volume_seen as ProvedVolumeSeen
+use Rattle.handset.proofs.proved_volume_seen.Reads as ProvedVolumeSeenReads
+use Rattle.handset.proofs.proved_row_seen as ProvedRowSeen
+use Rattle.handset.proofs.proved_row_seen.Reads as ProvedRowSeenReads
+use Rattle.handset.proofs.proved_column_seen as ProvedColumnSeen
+use Rattle.handset.proofs.proved_column_seen.Reads as ProvedColumnSeenReads
+use Rattle.handset.proofs.proved_write_command as ProvedWriteCommand
+use Rattle.handset.proofs.proved_write_command.Reads as ProvedWriteCommandReads
+use Rattle.handset.proofs.proved_write_label as ProvedWriteLabel
+use Rattle.handset.proofs.proved_write_label.Reads as ProvedWriteLabelReads
+use Rattle.handset.proofs.proved_write_picture_row as ProvedWritePictureRow
+use Rattle.handset.proofs.proved_write_picture_row.Reads as ProvedWritePictureRowReads
+use Rattle.handset.proofs.proved_judge as ProvedJudge
+use Rattle.handset.proofs.proved_judge.Reads as ProvedJudgeReads
+use Rattle.handset.proofs.proved_check_choice as ProvedCheckChoice
+use Rattle.handset.proofs.proved_check_choice.Reads as ProvedCheckChoiceReads
+use Rattle.handset.proofs.proved_part_at as ProvedPartAt
+use Rattle.handset.proofs.proved_part_at.Reads as ProvedPartAtReads
 
 -- What two things are equal to the same is equal.
 pub two-equal : {A : Type 0} {one other it : A} → one ≡ it → other ≡ it → one ≡ other
@@ -203,129 +219,135 @@ OneEnd t L allows left =
     (κs : Lfts (t .signature .lifetimes)) (a : ArgsD (t .signature) κs) (q q′ : ResD (t .signature) κs) (e e′ : AtExit t κs)
     → allows κs a q e → allows κs a q′ e′ → (q ≡ q′) × (left κs e ≡ left κs e′)
 
+-- So it is where the promise is an equation on the result,
+equal : (t : Ended) (f : (κs : Lfts (t .signature .lifetimes)) → ArgsD (t .signature) κs → ResD (t .signature) κs) → OneResult t (λ κs a q e. q ≡ f κs a)
+equal t f κs a q q′ e e′ p p′ = two-equal p p′
+
+-- or one on the result and one on what was lent.
+equal-and-left : (t : Ended) (L : Type 0) (f : (κs : Lfts (t .signature .lifetimes)) → ArgsD (t .signature) κs → ResD (t .signature) κs)
+    (left : (κs : Lfts (t .signature .lifetimes)) → AtExit t κs → L) (g : (κs : Lfts (t .signature .lifetimes)) → ArgsD (t .signature) κs → L)
+    → OneEnd t L (λ κs a q e. (q ≡ f κs a) × (left κs e ≡ g κs a)) left
+equal-and-left t L f left g κs a q q′ e e′ p p′ = (two-equal (p .0) (p′ .0), two-equal (p .1) (p′ .1))
+
 -- record::small_of
 pub small-of-one : OneResult SmallOf.ended SmallOfReads.Learnt
-small-of-one κs a q q′ e e′ p p′ = two-equal p p′
+small-of-one = equal SmallOf.ended _
 
 -- record::paper_number
 pub paper-number-one : OneResult PaperNumber.ended PaperNumberReads.Learnt
-paper-number-one κs a q q′ e e′ p p′ = two-equal p p′
+paper-number-one = equal PaperNumber.ended _
 
 -- record::rows
 pub rows-one : OneResult Rows.ended RowsReads.Learnt
-rows-one κs a q q′ e e′ p p′ = two-equal p p′
+rows-one = equal Rows.ended _
 
 -- record::row_end
 pub row-end-one : OneResult RowEnd.ended RowEndReads.Learnt
-row-end-one κs a q q′ e e′ p p′ = two-equal p p′
+row-end-one = equal RowEnd.ended _
 
 -- record::row_start
 pub row-start-one : OneResult RowStart.ended RowStartReads.Learnt
-row-start-one κs a q q′ e e′ p p′ = two-equal p p′
+row-start-one = equal RowStart.ended _
 
 -- record::Times::power_on
 pub times-power-on-one : OneResult TimesPowerOn.ended TimesPowerOnReads.Learnt
-times-power-on-one κs a q q′ e e′ p p′ = two-equal p p′
+times-power-on-one = equal TimesPowerOn.ended _
 
 -- record::Record::starting_with
 pub record-starting-with-one : OneResult StartingWith.ended StartingWithReads.Learnt
-record-starting-with-one κs a q q′ e e′ p p′ = two-equal p p′
+record-starting-with-one = equal StartingWith.ended _
 
 -- record::Record::power_on
 pub record-power-on-one : OneResult PowerOn.ended PowerOnReads.Learnt
-record-power-on-one κs a q q′ e e′ p p′ = two-equal p p′
+record-power-on-one = equal PowerOn.ended _
 
 -- record::Times::former_defaults
 pub times-former-defaults-one : OneResult TimesFormer.ended TimesFormerReads.Learnt
-times-former-defaults-one κs a q q′ e e′ p p′ = two-equal p p′
+times-former-defaults-one = equal TimesFormer.ended _
 
 -- record::Record::former_defaults
 pub record-former-defaults-one : OneResult Former.ended FormerReads.Learnt
-record-former-defaults-one κs a q q′ e e′ p p′ = two-equal p p′
+record-former-defaults-one = equal Former.ended _
 
 -- record_small_ranges::backlight_in_range
 pub backlight-in-range-one : OneResult BacklightInRange.ended BacklightInRangeReads.Learnt
-backlight-in-range-one κs a q q′ e e′ p p′ = two-equal p p′
+backlight-in-range-one = equal BacklightInRange.ended _
 
 -- record_small_ranges::small_in_range
 pub small-in-range-one : OneResult SmallInRange.ended SmallInRangeReads.Learnt
-small-in-range-one κs a q q′ e e′ p p′ = two-equal p p′
+small-in-range-one = equal SmallInRange.ended _
 
 -- record_ranges::in_range
 pub record-in-range-one : OneResult RecordInRange.ended RecordInRangeReads.Learnt
-record-in-range-one κs a q q′ e e′ p p′ = two-equal p p′
+record-in-range-one = equal RecordInRange.ended _
 
 -- record_ranges::in_range_lent
 pub in-range-lent-one : OneResult InRangeLent.ended InRangeLentReads.Learnt
-in-range-lent-one κs a q q′ e e′ p p′ = two-equal p p′
-
--- record_fields::with_field
-pub with-field-one : OneResult WithField.ended WithFieldReads.Learnt
-with-field-one κs a q q′ e e′ p p′ = two-equal p p′
+in-range-lent-one = equal InRangeLent.ended _
 
 -- numeral::read_number
 pub read-number-one : OneResult ReadNumber.ended ReadNumberReads.Learnt
-read-number-one κs a q q′ e e′ p p′ = two-equal p p′
+read-number-one = equal ReadNumber.ended _
 
 -- numeral::digits_of
 pub digits-of-one : OneResult DigitsOf.ended DigitsOfReads.Learnt
-digits-of-one κs a q q′ e e′ p p′ = two-equal p p′
+digits-of-one = equal DigitsOf.ended _
 
 -- picture::read_data
 pub read-data-one : OneResult ReadData.ended ReadDataReads.Learnt
-read-data-one κs a q q′ e e′ p p′ = two-equal p p′
+read-data-one = equal ReadData.ended _
 
 -- picture_writer::write_data
 pub write-data-one : OneResult WriteData.ended WriteDataReads.Learnt
-write-data-one κs a q q′ e e′ p p′ = two-equal p p′
+write-data-one = equal WriteData.ended _
 
 -- command_ranges::rows_named
 pub rows-named-one : OneResult RowsNamed.ended RowsNamedReads.Learnt
-rows-named-one κs a q q′ e e′ p p′ = two-equal p p′
+rows-named-one = equal RowsNamed.ended _
 
 -- command_ranges::number_out
 pub number-out-one : OneResult NumberOut.ended NumberOutReads.Learnt
-number-out-one κs a q q′ e e′ p p′ = two-equal p p′
+number-out-one = equal NumberOut.ended _
 
 -- command_ranges::in_range
 pub command-in-range-one : OneResult CommandInRange.ended CommandInRangeReads.Learnt
-command-in-range-one κs a q q′ e e′ p p′ = two-equal p p′
+command-in-range-one = equal CommandInRange.ended _
 
 -- command::read_command
 pub read-command-one : OneResult ReadCommand.ended ReadCommandReads.Learnt
-read-command-one κs a q q′ e e′ p p′ = two-equal p p′
+read-command-one = equal ReadCommand.ended _
 
 -- picture_frame::opens_picture
 pub opens-picture-one : OneResult OpensPicture.ended OpensPictureReads.Learnt
-opens-picture-one κs a q q′ e e′ p p′ = two-equal p p′
+opens-picture-one = equal OpensPicture.ended _
 
 -- picture_frame::read_picture
 pub read-picture-one : OneResult ReadPicture.ended ReadPictureReads.Learnt
-read-picture-one κs a q q′ e e′ p p′ = two-equal p p′
+read-picture-one = equal ReadPicture.ended _
 
 -- verdict::judge
 pub judge-one : OneResult Judge.ended JudgeReads.Learnt
-judge-one κs a q q′ e e′ p p′ = two-equal p p′
+judge-one = equal Judge.ended _
 
 -- answer::is_silence
 pub is-silence-one : OneResult IsSilence.ended IsSilenceReads.Learnt
-is-silence-one κs a q q′ e e′ p p′ = two-equal p p′
+is-silence-one = equal IsSilence.ended _
 
 -- answer::say
 pub say-one : OneEnd Say.ended (List ℕ) SayReads.Learnt (λ κs e. now (e .0))
-say-one κs a q q′ e e′ p p′ = (two-equal (p .0) (p′ .0), two-equal (p .1) (p′ .1))
+say-one = equal-and-left Say.ended _ _ _ _
 
 -- answer::count
 pub count-one : OneResult Count.ended CountReads.Learnt
-count-one κs a q q′ e e′ p p′ = two-equal p p′
+count-one = equal Count.ended _
 
 -- hook::hook_lent
 pub hook-lent-one : OneResult HookLent.ended HookLentReads.Learnt
-hook-lent-one κs a q q′ e e′ p p′ = two-equal p p′
+hook-lent-one = equal HookLent.ended _
 
 -- hook::hook
 pub hook-one : OneResult HookCall.ended HookCallReads.Learnt
-hook-one κs a q q′ e e′ p p′ = two-equal p p′
+hook-one = equal HookCall.ended _
 
 -- stream_places::empty_from
 pub empty-from-one : OneEnd EmptyFrom.ended (List ℕ) EmptyFromReads.Learnt (λ κs e. now (e .0))
@@ -333,7 +355,7 @@ empty-from-one κs a q q′ e e′ p p′ = (refl, two-equal p p′)
 
 -- parts::part_at
 pub part-at-one : OneResult PartAtPlace.ended PartAtPlaceReads.Learnt
-part-at-one κs a q q′ e e′ p p′ = two-equal p p′
+part-at-one = equal PartAtPlace.ended _
 
 -- stream::feed_lent: text, picture, the frame's bytes and the answers
 pub feed-lent-one : OneEnd FeedLent.ended (List ℕ × List ℕ × List ℕ × List ℕ) FeedLentReads.Learnt (λ κs e. (now (e .1 .0), now (e .1 .1 .0), now (e .1 .1 .1 .0), now (e .1 .1 .1 .1 .1 .0)))
@@ -344,51 +366,51 @@ feed-lent-one κs a q q′ e e′ p p′ = (
 
 -- stream_by_value::whole
 pub whole-one : OneResult Whole.ended WholeReads.Learnt
-whole-one κs a q q′ e e′ p p′ = two-equal p p′
+whole-one = equal Whole.ended _
 
 -- stream_by_value::feed
 pub feed-one : OneEnd Feed.ended (List ℕ) FeedReads.Learnt (λ κs e. now (e .1 .1 .0))
-feed-one κs a q q′ e e′ p p′ = (two-equal (p .0) (p′ .0), two-equal (p .1) (p′ .1))
+feed-one = equal-and-left Feed.ended _ _ _ _
 
 -- answer_room::escapes_in
 pub escapes-in-one : OneResult EscapesIn.ended EscapesInReads.Learnt
-escapes-in-one κs a q q′ e e′ p p′ = two-equal p p′
+escapes-in-one = equal EscapesIn.ended _
 
 -- answer_room::room_needed_lent
 pub room-needed-lent-one : OneResult RoomNeededLent.ended RoomNeededLentReads.Learnt
-room-needed-lent-one κs a q q′ e e′ p p′ = two-equal p p′
+room-needed-lent-one = equal RoomNeededLent.ended _
 
 -- answer_room::room_needed
 pub room-needed-one : OneResult RoomNeededFor.ended RoomNeededForReads.Learnt
-room-needed-one κs a q q′ e e′ p p′ = two-equal p p′
+room-needed-one = equal RoomNeededFor.ended _
 
 -- choice::check
 pub check-choice-one : OneResult CheckChoice.ended CheckChoiceReads.Learnt
-check-choice-one κs a q q′ e e′ p p′ = two-equal p p′
+check-choice-one = equal CheckChoice.ended _
 
 -- key_entry::all_listed
 pub all-listed-one : OneResult AllListed.ended AllListedReads.Learnt
-all-listed-one κs a q q′ e e′ p p′ = two-equal p p′
+all-listed-one = equal AllListed.ended _
 
 -- key_entry::take_entry
 pub take-entry-one : OneResult TakeEntry.ended TakeEntryReads.Learnt
-take-entry-one κs a q q′ e e′ p p′ = two-equal p p′
+take-entry-one = equal TakeEntry.ended _
 
 -- key_log::take_log_lent
 pub take-log-lent-one : OneEnd TakeLogLent.ended (List ℕ) TakeLogLentReads.Learnt (λ κs e. now (e .1 .1 .1 .1 .1 .1 .0))
-take-log-lent-one κs a q q′ e e′ p p′ = (two-equal (p .0) (p′ .0), two-equal (p .1) (p′ .1))
+take-log-lent-one = equal-and-left TakeLogLent.ended _ _ _ _
 
 -- key_log::take_log
 pub take-log-one : OneEnd TakeLog.ended (List ℕ) TakeLogReads.Learnt (λ κs e. now (e .1 .1 .1 .0))
-take-log-one κs a q q′ e e′ p p′ = (two-equal (p .0) (p′ .0), two-equal (p .1) (p′ .1))
+take-log-one = equal-and-left TakeLog.ended _ _ _ _
 
 -- seconds::second_lent
 pub second-lent-one : OneResult SecondLent.ended SecondLentReads.Learnt
-second-lent-one κs a q q′ e e′ p p′ = two-equal p p′
+second-lent-one = equal SecondLent.ended _
 
 -- seconds::second
 pub second-one : OneResult Second.ended SecondReads.Learnt
-second-one κs a q q′ e e′ p p′ = two-equal p p′
+second-one = equal Second.ended _
 
 -- seconds::second_in_place: what its clause claims (Tie, second-in-place-says)
 pub second-in-place-one : OneEnd SecondInPlace.ended Backlight
@@ -398,71 +420,79 @@ second-in-place-one κs a q q′ e e′ p p′ = (two-equal (p .0) (p′ .0), tw
 
 -- seen_panels::sms_panel
 pub sms-panel-one : OneResult SmsPanelOf.ended SmsPanelOfReads.Learnt
-sms-panel-one κs a q q′ e e′ p p′ = two-equal p p′
+sms-panel-one = equal SmsPanelOf.ended _
 
 -- seen_panels::volume_panel
 pub volume-panel-one : OneResult VolumePanelOf.ended VolumePanelOfReads.Learnt
-volume-panel-one κs a q q′ e e′ p p′ = two-equal p p′
+volume-panel-one = equal VolumePanelOf.ended _
+
+-- seen_owners::owner_of_row
+pub owner-of-row-one : OneResult OwnerOfRow.ended OwnerOfRowReads.Learnt
+owner-of-row-one = equal OwnerOfRow.ended _
+
+-- seen_owners::owner_of
+pub owner-of-one : OneResult OwnerOf.ended OwnerOfReads.Learnt
+owner-of-one = equal OwnerOf.ended _
 
 -- seen::row_seen
 pub row-seen-one : OneResult RowSeen.ended RowSeenReads.Learnt
-row-seen-one κs a q q′ e e′ p p′ = two-equal p p′
+row-seen-one = equal RowSeen.ended _
 
 -- seen::row_seen_lent
 pub row-seen-lent-one : OneResult RowSeenLent.ended RowSeenLentReads.Learnt
-row-seen-lent-one κs a q q′ e e′ p p′ = two-equal p p′
+row-seen-lent-one = equal RowSeenLent.ended _
 
 -- seen::column_seen
 pub column-seen-one : OneResult ColumnSeen.ended ColumnSeenReads.Learnt
-column-seen-one κs a q q′ e e′ p p′ = two-equal p p′
+column-seen-one = equal ColumnSeen.ended _
 
 -- seen::column_seen_lent
 pub column-seen-lent-one : OneResult ColumnSeenLent.ended ColumnSeenLentReads.Learnt
-column-seen-lent-one κs a q q′ e e′ p p′ = two-equal p p′
+column-seen-lent-one = equal ColumnSeenLent.ended _
 
 -- seen::sms_seen
 pub sms-seen-one : OneResult SmsSeen.ended SmsSeenReads.Learnt
-sms-seen-one κs a q q′ e e′ p p′ = two-equal p p′
+sms-seen-one = equal SmsSeen.ended _
 
 -- seen::sms_seen_lent
 pub sms-seen-lent-one : OneResult SmsSeenLent.ended SmsSeenLentReads.Learnt
-sms-seen-lent-one κs a q q′ e e′ p p′ = two-equal p p′
+sms-seen-lent-one = equal SmsSeenLent.ended _
 
 -- seen::volume_seen
 pub volume-seen-one : OneResult VolumeSeen.ended VolumeSeenReads.Learnt
-volume-seen-one κs a q q′ e e′ p p′ = two-equal p p′
+volume-seen-one = equal VolumeSeen.ended _
 
 -- seen::volume_seen_lent
 pub volume-seen-lent-one : OneResult VolumeSeenLent.ended VolumeSeenLentReads.Learnt
-volume-seen-lent-one κs a q q′ e e′ p p′ = two-equal p p′
+volume-seen-lent-one = equal VolumeSeenLent.ended _
 
 -- writer_ranges::label_in_range
 pub label-in-range-one : OneResult LabelInRange.ended LabelInRangeReads.Learnt
-label-in-range-one κs a q q′ e e′ p p′ = two-equal p p′
+label-in-range-one = equal LabelInRange.ended _
 
 -- writer_ranges::row_in_range
 pub row-in-range-one : OneResult RowInRange.ended RowInRangeReads.Learnt
-row-in-range-one κs a q q′ e e′ p p′ = two-equal p p′
+row-in-range-one = equal RowInRange.ended _
 
 -- writer::write_command
 pub write-command-one : OneEnd WriteCommand.ended (List ℕ) WriteCommandReads.Learnt (λ κs e. now (e .1 .0))
-write-command-one κs a q q′ e e′ p p′ = (two-equal (p .0) (p′ .0), two-equal (p .1) (p′ .1))
+write-command-one = equal-and-left WriteCommand.ended _ _ _ _
 
 -- writer::write_label
 pub write-label-one : OneEnd WriteLabel.ended (List ℕ) WriteLabelReads.Learnt (λ κs e. now (e .1 .1 .0))
-write-label-one κs a q q′ e e′ p p′ = (two-equal (p .0) (p′ .0), two-equal (p .1) (p′ .1))
+write-label-one = equal-and-left WriteLabel.ended _ _ _ _
 
 -- writer::write_picture_row
 pub write-picture-row-one : OneEnd WritePictureRow.ended (List ℕ) WritePictureRowReads.Learnt (λ κs e. now (e .1 .1 .0))
-write-picture-row-one κs a q q′ e e′ p p′ = (two-equal (p .0) (p′ .0), two-equal (p .1) (p′ .1))
+write-picture-row-one = equal-and-left WritePictureRow.ended _ _ _ _
 
 -- effect_modes::to_mode
 pub to-mode-one : OneResult ToMode.ended ToModeReads.Learnt
-to-mode-one κs a q q′ e e′ p p′ = two-equal p p′
+to-mode-one = equal ToMode.ended _
 
 -- effect_modes::at_level
 pub at-level-one : OneResult AtLevel.ended AtLevelReads.Learnt
-at-level-one κs a q q′ e e′ p p′ = two-equal p p′
+at-level-one = equal AtLevel.ended _
 
 -- effect::obey: what the frame is answered, and the settings, text and picture as they are afterwards
 pub obey-one : (κs : Lfts (Obey.ended .signature .lifetimes)) (a : ArgsD (Obey.ended .signature) κs) (q q′ : ResD (Obey.ended .signature) κs) (e e′ : AtExit Obey.ended κs)
@@ -473,99 +503,127 @@ obey-one κs a q q′ e e′ p p′ =
     let answer = two-equal (p .answer) (p′ .answer) in
     (λ j. record { answer = answer j; settings = same j .settings }, λ j. same j .text, λ j. same j .picture)
 
--- handset::handset_power_on: text, picture and the frame's bytes
-pub handset-power-on-one : OneEnd HandsetPowerOn.ended (List ℕ × List ℕ × List ℕ) HandsetPowerOnReads.Learnt (λ κs e. (now (e .0), now (e .1 .0), now (e .1 .1 .0)))
-handset-power-on-one κs a q q′ e e′ p p′ = (
+-- handset_numbers::phase_of
+pub phase-of-one : OneResult PhaseOf.ended PhaseOfReads.Learnt
+phase-of-one = equal PhaseOf.ended _
+
+-- handset_numbers::side_of
+pub side-of-one : OneResult SideOf.ended SideOfReads.Learnt
+side-of-one = equal SideOf.ended _
+
+-- handset_numbers::command_of
+pub command-of-one : OneResult CommandOf.ended CommandOfReads.Learnt
+command-of-one = equal CommandOf.ended _
+
+-- handset_numbers::sms_number
+pub sms-number-one : OneResult SmsNumber.ended SmsNumberReads.Learnt
+sms-number-one = equal SmsNumber.ended _
+
+-- handset_numbers::volume_numbers
+pub volume-numbers-one : OneResult VolumeNumbers.ended VolumeNumbersReads.Learnt
+volume-numbers-one = equal VolumeNumbers.ended _
+
+-- handset_numbers::owner_numbers
+pub owner-numbers-one : OneResult OwnerNumbers.ended OwnerNumbersReads.Learnt
+owner-numbers-one = equal OwnerNumbers.ended _
+
+-- handset_numbers::shown_numbers
+pub shown-numbers-one : OneResult ShownNumbers.ended ShownNumbersReads.Learnt
+shown-numbers-one = equal ShownNumbers.ended _
+
+-- handset_numbers::verdict_numbers
+pub verdict-numbers-one : OneResult VerdictNumbers.ended VerdictNumbersReads.Learnt
+verdict-numbers-one = equal VerdictNumbers.ended _
+
+-- handset_numbers::rule_number
+pub rule-number-one : OneResult RuleNumber.ended RuleNumberReads.Learnt
+rule-number-one = equal RuleNumber.ended _
+
+-- handset_numbers::kind_number
+pub kind-number-one : OneResult KindNumber.ended KindNumberReads.Learnt
+kind-number-one = equal KindNumber.ended _
+
+-- handset::proved_power_on: text, picture and the frame's bytes
+pub proved-power-on-one : OneEnd ProvedPowerOn.ended (List ℕ × List ℕ × List ℕ) ProvedPowerOnReads.Learnt (λ κs e. (now (e .0), now (e .1 .0), now (e .1 .1 .0)))
+proved-power-on-one κs a q q′ e e′ p p′ = (
   two-equal (p .0) (p′ .0),
   λ j. (two-equal (p .1 .0) (p′ .1 .0) j, two-equal (p .1 .1 .0) (p′ .1 .1 .0) j, two-equal (p .1 .1 .1) (p′ .1 .1 .1) j),
 )
 
--- handset::handset_power_on_former: text, picture and the frame's bytes
-pub handset-power-on-former-one : OneEnd HandsetPowerOnFormer.ended (List ℕ × List ℕ × List ℕ) HandsetPowerOnFormerReads.Learnt (λ κs e. (now (e .0), now (e .1 .0), now (e .1 .1 .0)))
-handset-power-on-former-one κs a q q′ e e′ p p′ = (
+-- handset::proved_power_on_former: text, picture and the frame's bytes
+pub proved-power-on-former-one : OneEnd ProvedPowerOnFormer.ended (List ℕ × List ℕ × List ℕ) ProvedPowerOnFormerReads.Learnt (λ κs e. (now (e .0), now (e .1 .0), now (e .1 .1 .0)))
+proved-power-on-former-one κs a q q′ e e′ p p′ = (
   two-equal (p .0) (p′ .0),
   λ j. (two-equal (p .1 .0) (p′ .1 .0) j, two-equal (p .1 .1 .0) (p′ .1 .1 .0) j, two-equal (p .1 .1 .1) (p′ .1 .1 .1) j),
 )
 
--- handset::handset_in_range
-pub handset-in-range-one : OneResult HandsetInRange.ended HandsetInRangeReads.Learnt
-handset-in-range-one κs a q q′ e e′ p p′ = two-equal p p′
+-- handset::proved_in_range
+pub proved-in-range-one : OneResult ProvedInRange.ended ProvedInRangeReads.Learnt
+proved-in-range-one = equal ProvedInRange.ended _
 
--- handset::handset_feed: text, picture, the frame's bytes and the answers
-pub handset-feed-one : OneEnd HandsetFeed.ended (List ℕ × List ℕ × List ℕ × List ℕ) HandsetFeedReads.Learnt (λ κs e. (now (e .1 .0), now (e .1 .1 .0), now (e .1 .1 .1 .0), now (e .1 .1 .1 .1 .1 .0)))
-handset-feed-one κs a q q′ e e′ p p′ = (
+-- handset::proved_feed: text, picture, the frame's bytes and the answers
+pub proved-feed-one : OneEnd ProvedFeed.ended (List ℕ × List ℕ × List ℕ × List ℕ) ProvedFeedReads.Learnt (λ κs e. (now (e .1 .0), now (e .1 .1 .0), now (e .1 .1 .1 .0), now (e .1 .1 .1 .1 .1 .0)))
+proved-feed-one κs a q q′ e e′ p p′ = (
   two-equal (p .0) (p′ .0),
   λ j. (two-equal (p .1 .0) (p′ .1 .0) j, two-equal (p .1 .1 .0) (p′ .1 .1 .0) j, two-equal (p .1 .1 .1 .0) (p′ .1 .1 .1 .0) j, two-equal (p .1 .1 .1 .1) (p′ .1 .1 .1 .1) j),
 )
 
--- handset::handset_take_log
-pub handset-take-log-one : OneEnd HandsetTakeLog.ended (List ℕ) HandsetTakeLogReads.Learnt (λ κs e. now (e .1 .1 .1 .1 .1 .1 .0))
-handset-take-log-one κs a q q′ e e′ p p′ = (two-equal (p .0) (p′ .0), two-equal (p .1) (p′ .1))
+-- handset::proved_take_log
+pub proved-take-log-one : OneEnd ProvedTakeLog.ended (List ℕ) ProvedTakeLogReads.Learnt (λ κs e. now (e .1 .1 .1 .1 .1 .1 .0))
+proved-take-log-one = equal-and-left ProvedTakeLog.ended _ _ _ _
 
--- handset::handset_second
-pub handset-second-one : OneResult HandsetSecond.ended HandsetSecondReads.Learnt
-handset-second-one κs a q q′ e e′ p p′ = two-equal p p′
+-- handset::proved_second
+pub proved-second-one : OneResult ProvedSecond.ended ProvedSecondReads.Learnt
+proved-second-one = equal ProvedSecond.ended _
 
--- handset::handset_hook
-pub handset-hook-one : OneResult HandsetHook.ended HandsetHookReads.Learnt
-handset-hook-one κs a q q′ e e′ p p′ = two-equal p p′
+-- handset::proved_light_second
+pub proved-light-second-one : OneResult ProvedLightSecond.ended ProvedLightSecondReads.Learnt
+proved-light-second-one = equal ProvedLightSecond.ended _
 
--- handset::handset_room_needed
-pub handset-room-needed-one : OneResult HandsetRoomNeeded.ended HandsetRoomNeededReads.Learnt
-handset-room-needed-one κs a q q′ e e′ p p′ = two-equal p p′
+-- handset::proved_hook
+pub proved-hook-one : OneResult ProvedHook.ended ProvedHookReads.Learnt
+proved-hook-one = equal ProvedHook.ended _
 
--- handset::handset_sms_seen
-pub handset-sms-seen-one : OneResult HandsetSmsSeen.ended HandsetSmsSeenReads.Learnt
-handset-sms-seen-one κs a q q′ e e′ p p′ = two-equal p p′
+-- handset::proved_room_needed
+pub proved-room-needed-one : OneResult ProvedRoomNeeded.ended ProvedRoomNeededReads.Learnt
+proved-room-needed-one = equal ProvedRoomNeeded.ended _
 
--- handset::handset_volume_seen
-pub handset-volume-seen-one : OneResult HandsetVolumeSeen.ended HandsetVolumeSeenReads.Learnt
-handset-volume-seen-one κs a q q′ e e′ p p′ = two-equal p p′
+-- handset::proved_sms_seen
+pub proved-sms-seen-one : OneResult ProvedSmsSeen.ended ProvedSmsSeenReads.Learnt
+proved-sms-seen-one = equal ProvedSmsSeen.ended _
 
--- handset::handset_row_seen
-pub handset-row-seen-one : OneResult HandsetRowSeen.ended HandsetRowSeenReads.Learnt
-handset-row-seen-one κs a q q′ e e′ p p′ = two-equal p p′
+-- handset::proved_volume_seen
+pub proved-volume-seen-one : OneResult ProvedVolumeSeen.ended ProvedVolumeSeenReads.Learnt
+proved-volume-seen-one = equal ProvedVolumeSeen.ended _
 
--- handset::handset_column_seen
-pub handset-column-seen-one : OneResult HandsetColumnSeen.ended HandsetColumnSeenReads.Learnt
-handset-column-seen-one κs a q q′ e e′ p p′ = two-equal p p′
+-- handset::proved_row_seen
+pub proved-row-seen-one : OneResult ProvedRowSeen.ended ProvedRowSeenReads.Learnt
+proved-row-seen-one = equal ProvedRowSeen.ended _
 
--- handset::handset_write_command
-pub handset-write-command-one : OneEnd HandsetWriteCommand.ended (List ℕ) HandsetWriteCommandReads.Learnt (λ κs e. now (e .1 .1 .1 .0))
-handset-write-command-one κs a q q′ e e′ p p′ = (two-equal (p .0) (p′ .0), two-equal (p .1) (p′ .1))
+-- handset::proved_column_seen
+pub proved-column-seen-one : OneResult ProvedColumnSeen.ended ProvedColumnSeenReads.Learnt
+proved-column-seen-one = equal ProvedColumnSeen.ended _
 
--- handset::handset_write_label
-pub handset-write-label-one : OneEnd HandsetWriteLabel.ended (List ℕ) HandsetWriteLabelReads.Learnt (λ κs e. now (e .1 .1 .0))
-handset-write-label-one κs a q q′ e e′ p p′ = (two-equal (p .0) (p′ .0), two-equal (p .1) (p′ .1))
+-- handset::proved_write_command
+pub proved-write-command-one : OneEnd ProvedWriteCommand.ended (List ℕ) ProvedWriteCommandReads.Learnt (λ κs e. now (e .1 .1 .1 .0))
+proved-write-command-one = equal-and-left ProvedWriteCommand.ended _ _ _ _
 
--- handset::handset_write_picture_row
-pub handset-write-picture-row-one : OneEnd HandsetWritePictureRow.ended (List ℕ) HandsetWritePictureRowReads.Learnt (λ κs e. now (e .1 .1 .0))
-handset-write-picture-row-one κs a q q′ e e′ p p′ = (two-equal (p .0) (p′ .0), two-equal (p .1) (p′ .1))
+-- handset::proved_write_label
+pub proved-write-label-one : OneEnd ProvedWriteLabel.ended (List ℕ) ProvedWriteLabelReads.Learnt (λ κs e. now (e .1 .1 .0))
+proved-write-label-one = equal-and-left ProvedWriteLabel.ended _ _ _ _
 
--- handset::handset_judge
-pub handset-judge-one : OneResult HandsetJudge.ended HandsetJudgeReads.Learnt
-handset-judge-one κs a q q′ e e′ p p′ = two-equal p p′
+-- handset::proved_write_picture_row
+pub proved-write-picture-row-one : OneEnd ProvedWritePictureRow.ended (List ℕ) ProvedWritePictureRowReads.Learnt (λ κs e. now (e .1 .1 .0))
+proved-write-picture-row-one = equal-and-left ProvedWritePictureRow.ended _ _ _ _
 
--- handset::handset_check_choice
-pub handset-check-choice-one : OneResult HandsetCheckChoice.ended HandsetCheckChoiceReads.Learnt
-handset-check-choice-one κs a q q′ e e′ p p′ = two-equal p p′
+-- handset::proved_judge
+pub proved-judge-one : OneResult ProvedJudge.ended ProvedJudgeReads.Learnt
+proved-judge-one = equal ProvedJudge.ended _
 
--- measure::measure_one_call
-pub one-call-one : OneEnd OneCall.ended (List ℕ) OneCallReads.Learnt (λ κs e. now (e .1 .0))
-one-call-one κs a q q′ e e′ p p′ = (two-equal (p .0) (p′ .0), two-equal (p .1) (p′ .1))
+-- handset::proved_check_choice
+pub proved-check-choice-one : OneResult ProvedCheckChoice.ended ProvedCheckChoiceReads.Learnt
+proved-check-choice-one = equal ProvedCheckChoice.ended _
 
--- measure::measure_short_calls
-pub short-calls-one : OneEnd ShortCalls.ended (List ℕ) ShortCallsReads.Learnt (λ κs e. now (e .1 .0))
-short-calls-one κs a q q′ e e′ p p′ = (two-equal (p .0) (p′ .0), two-equal (p .1) (p′ .1))
-
--- measure::measure_range_checks
-pub range-checks-one : OneResult RangeChecks.ended RangeChecksReads.Learnt
-range-checks-one κs a q q′ e e′ p p′ = two-equal p p′
-
--- measure::measure_choice
-pub measure-choice-one : OneResult MeasureChoice.ended MeasureChoiceReads.Learnt
-measure-choice-one κs a q q′ e e′ p p′ = two-equal p p′
-
--- measure::count_parts
-pub count-parts-one : OneResult CountParts.ended CountPartsReads.Learnt
-count-parts-one κs a q q′ e e′ p p′ = two-equal p p′
+-- handset::proved_part_at
+pub proved-part-at-one : OneResult ProvedPartAt.ended ProvedPartAtReads.Learnt
+proved-part-at-one = equal ProvedPartAt.ended _

@@ -23,7 +23,7 @@ use Rattle.record.specs.declared.Backlight.{Backlight}
 use Rattle.record.specs.declared.Label.{Label}
 use Rattle.record.specs.declared.Held.{Held}
 use Rattle.record.specs.declared.Frame.{Frame}
-use Rattle.record.specs.Laws.{Ranges}
+use Rattle.record.specs.Laws.{SettingsRanges, Ranges, screen-set, shown-set, labels-set, icons-set, volume-set, times-set, buzzer-set, backlight-set, contrast-set, inverse-set}
 use Rattle.record.specs.Range.{large, rowsOf, rowEndOf, lineStart, rowStartOf, isCode, isLowColumn, isUnused, modeInRange, overlayInRange, cursorInRange, textInRange, labelInRange, pictureInRange, iconSInRange, iconUInRange, iconFInRange, iconRInRange, iconPInRange, iconWInRange, iconsInRange, whichInRange, levelInRange, volumeInRange, timesInRange, buzzerInRange, durationInRange, backlightInRange, contrastInRange, inverseInRange, heldInRange, frameInRange}
 use Rattle.record.specs.With.{withLeft, withRight, withShown, withIconS, withIconU, withIconF, withIconR, withIconP, withIconW, withContrast, withInverse}
 use Rattle.command.specs.Order.{Order, plain, label, draw}
@@ -42,75 +42,43 @@ use Rattle.effect.specs.Sets.{every-set, every-sets, every-replicate, se
 
 -- The rows of document 01's table that a core has.
 pub record CoreInRange (c : Core) : Type 0 where
-  pub mode : modeInRange (c .settings .screen .mode) ≡ true
-  pub overlay : overlayInRange (c .settings .screen .overlay) ≡ true
-  pub cursor : cursorInRange (c .settings .screen) ≡ true
+  pub settings : SettingsRanges (c .settings)
   pub text : textInRange (c .text) ≡ true
-  pub left : labelInRange (c .settings .left) ≡ true
-  pub right : labelInRange (c .settings .right) ≡ true
   pub picture : pictureInRange (c .picture) ≡ true
-  pub icons : iconsInRange (c .settings .icons) ≡ true
-  pub volume : volumeInRange (c .settings .volume) ≡ true
-  pub times : timesInRange (c .settings .times) ≡ true
-  pub buzzer : buzzerInRange (c .settings .buzzer .0) ≡ true
-  pub backlight : backlightInRange (c .settings .backlight) ≡ true
-  pub contrast : contrastInRange (c .settings .contrast) ≡ true
-  pub inverse : inverseInRange (c .settings .inverse) ≡ true
 
 -- A record in range has its core in range; a core, a held key and a frame in range make a record in range.
 pub core-of-record : (r : Record) → Ranges r → CoreInRange (coreOf r)
-core-of-record r k =
-    record { mode = k .mode; overlay = k .overlay; cursor = k .cursor; text = k .text; left = k .left; right = k .right; picture = k .picture; icons = k .icons; volume = k .volume; times = k .times; buzzer = k .buzzer; backlight = k .backlight; contrast = k .contrast; inverse = k .inverse }
+core-of-record r k = record { settings = k .settings; text = k .text; picture = k .picture }
 
 abbrev pub recordOf : Core → Held → Frame → Record
 recordOf c held frame = record { settings = c .settings; text = c .text; picture = c .picture; held = held; frame = frame }
 
 pub record-of-core : (c : Core) (held : Held) (frame : Frame) → CoreInRange c → heldInRange held ≡ true → frameInRange frame ≡ true → Ranges (recordOf c held frame)
-record-of-core c held frame k h f =
-    record { mode = k .mode; overlay = k .overlay; cursor = k .cursor; text = k .text; left = k .left; right = k .right; picture = k .picture; icons = k .icons; volume = k .volume; times = k .times; buzzer = k .buzzer; backlight = k .backlight; contrast = k .contrast; inverse = k .inverse; held = h; frame = f }
+record-of-core c held frame k h f = record { settings = k .settings; text = k .text; picture = k .picture; held = h; frame = f }
 
 -- One part changed ------------------------------------------------------------------------------------------------
 
 module _ (c : Core) (k : CoreInRange c) where
+  on-settings : {p : Settings} → SettingsRanges p → CoreInRange (onSettings c p)
+  on-settings h = record { settings = h; text = k .text; picture = k .picture }
+
   on-screen : (s : Screen) → modeInRange (s .mode) ≡ true → overlayInRange (s .overlay) ≡ true → cursorInRange s ≡ true → CoreInRange (onScreen c s)
-  on-screen s m o p =
-      record { mode = m; overlay = o; cursor = p; text = k .text; left = k .left; right = k .right; picture = k .picture; icons = k .icons; volume = k .volume; times = k .times; buzzer = k .buzzer; backlight = k .backlight; contrast = k .contrast; inverse = k .inverse }
-
-  on-shown : (b : Bool) → CoreInRange (onSettings c (withShown (c .settings) b))
-  on-shown b =
-      record { mode = k .mode; overlay = k .overlay; cursor = k .cursor; text = k .text; left = k .left; right = k .right; picture = k .picture; icons = k .icons; volume = k .volume; times = k .times; buzzer = k .buzzer; backlight = k .backlight; contrast = k .contrast; inverse = k .inverse }
-
-  on-labels : (l r : Label) → labelInRange l ≡ true → labelInRange r ≡ true → CoreInRange (onSettings c (withRight (withLeft (c .settings) l) r))
-  on-labels l r h g =
-      record { mode = k .mode; overlay = k .overlay; cursor = k .cursor; text = k .text; left = h; right = g; picture = k .picture; icons = k .icons; volume = k .volume; times = k .times; buzzer = k .buzzer; backlight = k .backlight; contrast = k .contrast; inverse = k .inverse }
+  on-screen s m o p = on-settings (screen-set (k .settings) s (record { mode = m; overlay = o; cursor = p }))
 
   on-icons : (i : Icons) → iconsInRange i ≡ true → CoreInRange (onIcons c i)
-  on-icons i h =
-      record { mode = k .mode; overlay = k .overlay; cursor = k .cursor; text = k .text; left = k .left; right = k .right; picture = k .picture; icons = h; volume = k .volume; times = k .times; buzzer = k .buzzer; backlight = k .backlight; contrast = k .contrast; inverse = k .inverse }
+  on-icons i h = on-settings (icons-set (k .settings) i h)
 
   on-volume : (v : Volume) → volumeInRange v ≡ true → CoreInRange (onVolume c v)
-  on-volume v h =
-      record { mode = k .mode; overlay = k .overlay; cursor = k .cursor; text = k .text; left = k .left; right = k .right; picture = k .picture; icons = k .icons; volume = h; times = k .times; buzzer = k .buzzer; backlight = k .backlight; contrast = k .contrast; inverse = k .inverse }
+  on-volume v h = on-settings (volume-set (k .settings) v h)
 
   on-backlight : (b : Backlight) → backlightInRange b ≡ true → CoreInRange (onBacklight c b)
-  on-backlight b h =
-      record { mode = k .mode; overlay = k .overlay; cursor = k .cursor; text = k .text; left = k .left; right = k .right; picture = k .picture; icons = k .icons; volume = k .volume; times = k .times; buzzer = k .buzzer; backlight = h; contrast = k .contrast; inverse = k .inverse }
-
-  on-contrast : (n : ℕ) → contrastInRange n ≡ true → CoreInRange (onSettings c (withContrast (c .settings) n))
-  on-contrast n h =
-      record { mode = k .mode; overlay = k .overlay; cursor = k .cursor; text = k .text; left = k .left; right = k .right; picture = k .picture; icons = k .icons; volume = k .volume; times = k .times; buzzer = k .buzzer; backlight = k .backlight; contrast = h; inverse = k .inverse }
-
-  on-inverse : (marks : List Bool) → inverseInRange marks ≡ true → CoreInRange (onSettings c (withInverse (c .settings) marks))
-  on-inverse marks h =
-      record { mode = k .mode; overlay = k .overlay; cursor = k .cursor; text = k .text; left = k .left; right = k .right; picture = k .picture; icons = k .icons; volume = k .volume; times = k .times; buzzer = k .buzzer; backlight = k .backlight; contrast = k .contrast; inverse = h }
+  on-backlight b h = on-settings (backlight-set (k .settings) b h)
 
   on-text : (t : List ℕ) → textInRange t ≡ true → CoreInRange (onText c t)
-  on-text t h =
-      record { mode = k .mode; overlay = k .overlay; cursor = k .cursor; text = h; left = k .left; right = k .right; picture = k .picture; icons = k .icons; volume = k .volume; times = k .times; buzzer = k .buzzer; backlight = k .backlight; contrast = k .contrast; inverse = k .inverse }
+  on-text t h = record { settings = k .settings; text = h; picture = k .picture }
 
   on-picture : (g : List ℕ) → pictureInRange g ≡ true → CoreInRange (onPicture c g)
-  on-picture g h =
-      record { mode = k .mode; overlay = k .overlay; cursor = k .cursor; text = k .text; left = k .left; right = k .right; picture = h; icons = k .icons; volume = k .volume; times = k .times; buzzer = k .buzzer; backlight = k .backlight; contrast = k .contrast; inverse = k .inverse }
+  on-picture g h = record { settings = k .settings; text = k .text; picture = h }
 
 -- The parts -------------------------------------------------------------------------------------------------------
 
@@ -145,7 +113,7 @@ mode-keeps : (c : Core) (n : ℕ) → CoreInRange c → (modeInRange n || isOver
 mode-keeps c n k h = cases (isOverlay n) refl
   where
     cases : (b : Bool) → isOverlay n ≡ b → CoreInRange (onScreen c (cond b (record { display = c .settings .screen .display; mode = c .settings .screen .mode; overlay = n; row = c .settings .screen .row; column = c .settings .screen .column }) (inMode (c .settings .screen) n)))
-    cases true e = on-screen c k _ (k .mode) (both {a = overlayInRange n} e .0) (k .cursor)
+    cases true e = on-screen c k _ (k .settings .screen .mode) (both {a = overlayInRange n} e .0) (k .settings .screen .cursor)
     cases false e = on-screen c k (inMode (c .settings .screen) n) (or-left h e) refl (home n)
 
 unused-codes : (t : List ℕ) → every isUnused (drop (length t) (padded 7 t)) ≡ true
@@ -185,11 +153,9 @@ each-icon i h =
     let e1 = both {a = iconSInRange (i .s)} {b = iconUInRange (i .u)} (e2 .0) in
     record { s = e1 .0; u = e1 .1; f = e2 .1; r = e3 .1; p = e4 .1; w = e5 .1 }
 
-all-icons : (i : Icons) → EachIcon i → iconsInRange i ≡ true
-all-icons i e = and-both (and-both (and-both (and-both (and-both (e .s) (e .u)) (e .f)) (e .r)) (e .p)) (e .w)
-
-icon-keeps : (c : Core) → CoreInRange c → (i : Icons) → (EachIcon (c .settings .icons) → EachIcon i) → CoreInRange (onIcons c i)
-icon-keeps c k i step = on-icons c k i (all-icons i (step (each-icon (c .settings .icons) (k .icons))))
+-- one icon changed: its test says what that of the former said
+icon-keeps : (c : Core) → CoreInRange c → (i : Icons) → (EachIcon (c .settings .icons) → iconsInRange i ≡ iconsInRange (c .settings .icons)) → CoreInRange (onIcons c i)
+icon-keeps c k i same = on-icons c k i (same (each-icon (c .settings .icons) (k .settings .icons)) ∙ k .settings .icons)
 
 -- a volume at a level
 level-keeps : (c : Core) (which n : ℕ) → CoreInRange c → leb which 2 ≡ true → eqb which 0 ≡ false → leb n 10 ≡ true → CoreInRange (onVolume c (atLevel (c .settings .volume) which n))
@@ -203,10 +169,10 @@ mute-keeps : (c : Core) (n : ℕ) → CoreInRange c → CoreInRange (onVolume c 
 mute-keeps c n k = cases (eqb n 0)
   where
     cases : (b : Bool) → CoreInRange (onVolume c (cond b (record { which = c .settings .volume .which; level = c .settings .volume .level; mute = false; hidden = c .settings .volume .hidden }) (record { which = c .settings .volume .which; level = c .settings .volume .level; mute = true; hidden = false })))
-    cases true = on-volume c k _ (k .volume)
+    cases true = on-volume c k _ (k .settings .volume)
     cases false =
         on-volume c k _
-        (and-both (both {a = whichInRange (c .settings .volume .which) && levelInRange (c .settings .volume .which) (c .settings .volume .level)} (k .volume) .0) (or-true (eqb (c .settings .volume .which) 0)))
+        (and-both (both {a = whichInRange (c .settings .volume .which) && levelInRange (c .settings .volume .which) (c .settings .volume .level)} (k .settings .volume) .0) (or-true (eqb (c .settings .volume .which) 0)))
 
 -- a backlight mode and a duration in range, with no seconds left unless in auto
 light-keeps : (c : Core) (b : Backlight) → CoreInRange c → leb (b .mode) 2 ≡ true → durationInRange (b .duration .0) ≡ true → (eqb (b .left .0) 0 || eqb (b .mode) 2) ≡ true → CoreInRange (onBacklight c b)
@@ -225,8 +191,8 @@ number-keeps : (c : Core) (n : ℕ) → CoreInRange c → (eqb n 0 || durationIn
 number-keeps c n k h = cases (eqb n 0) refl
   where
     cases : (b : Bool) → eqb n 0 ≡ b → CoreInRange (onBacklight c (cond b (record { mode = 0; duration = c .settings .backlight .duration; left = record { 0 = 0 }; keypad = c .settings .backlight .keypad }) (record { mode = c .settings .backlight .mode; duration = record { 0 = n }; left = c .settings .backlight .left; keypad = c .settings .backlight .keypad })))
-    cases true e = light-keeps c _ k refl (duration-of (c .settings .backlight) (k .backlight)) refl
-    cases false e = light-keeps c _ k (mode-of (c .settings .backlight) (k .backlight)) (or-right h e) (left-of (c .settings .backlight) (k .backlight))
+    cases true e = light-keeps c _ k refl (duration-of (c .settings .backlight) (k .settings .backlight)) refl
+    cases false e = light-keeps c _ k (mode-of (c .settings .backlight) (k .settings .backlight)) (or-right h e) (left-of (c .settings .backlight) (k .settings .backlight))
 
 -- a mark that a frame can name
 marks-in-range : (mode n : ℕ) → leb n (rowsNamed mode) ≡ true → inverseInRange (marksOf n) ≡ true
@@ -288,46 +254,44 @@ carries (label side t) f s = read-label side s
 carries (draw row columns) f s = read-row s
 
 effect-keeps : (o : Order) (c : Core) → Carries o → CoreInRange c → inRangeInMode (c .settings .screen .mode) o ≡ true → CoreInRange (effect o c)
-effect-keeps (plain DisplayOff) c v k h = on-screen c k _ (k .mode) (k .overlay) (k .cursor)
-effect-keeps (plain DisplayOn) c v k h = on-screen c k _ (k .mode) (k .overlay) (k .cursor)
+effect-keeps (plain DisplayOff) c v k h = let s = k .settings .screen in on-screen c k _ (s .mode) (s .overlay) (s .cursor)
+effect-keeps (plain DisplayOn) c v k h = let s = k .settings .screen in on-screen c k _ (s .mode) (s .overlay) (s .cursor)
 effect-keeps (plain (Mode n)) c v k h = mode-keeps c n k h
-effect-keeps (plain CursorShown) c v k h = on-shown c k _
-effect-keeps (plain CursorHidden) c v k h = on-shown c k _
+effect-keeps (plain CursorShown) c v k h = on-settings c k (shown-set (k .settings) _)
+effect-keeps (plain CursorHidden) c v k h = on-settings c k (shown-set (k .settings) _)
 effect-keeps (plain Clear) c v k h =
-    on-text (onScreen c (at (c .settings .screen) 0 0)) (on-screen c k _ (k .mode) (k .overlay) (home (c .settings .screen .mode))) blanks blanks-in-range
+    on-text (onScreen c (at (c .settings .screen) 0 0)) (on-screen c k _ (k .settings .screen .mode) (k .settings .screen .overlay) (home (c .settings .screen .mode))) blanks blanks-in-range
 effect-keeps (plain (Position row column)) c v k h =
     let b = both {a = ltb row (rowsNamed (c .settings .screen .mode))} h in
-    on-screen c k _ (k .mode) (k .overlay) (named-position (c .settings .screen .mode) row column (b .0) (b .1))
-effect-keeps (plain LabelsEmpty) c v k h = on-labels c k _ _ no-label no-label
-effect-keeps (label Left t) c v k h = on-labels c k (labelOf t) (c .settings .right) (label-keeps t v) (k .right)
-effect-keeps (label Right t) c v k h = on-labels c k (c .settings .left) (labelOf t) (k .left) (label-keeps t v)
-effect-keeps (plain (IconS n)) c v k h = icon-keeps c k (withIconS (c .settings .icons) n) (λ e. record { s = h; u = e .u; f = e .f; r = e .r; p = e .p; w = e .w })
-effect-keeps (plain (IconU n)) c v k h = icon-keeps c k (withIconU (c .settings .icons) n) (λ e. record { s = e .s; u = h; f = e .f; r = e .r; p = e .p; w = e .w })
-effect-keeps (plain (IconF n)) c v k h = icon-keeps c k (withIconF (c .settings .icons) n) (λ e. record { s = e .s; u = e .u; f = h; r = e .r; p = e .p; w = e .w })
-effect-keeps (plain (IconR n)) c v k h = icon-keeps c k (withIconR (c .settings .icons) n) (λ e. record { s = e .s; u = e .u; f = e .f; r = h; p = e .p; w = e .w })
-effect-keeps (plain (IconP n)) c v k h = icon-keeps c k (withIconP (c .settings .icons) n) (λ e. record { s = e .s; u = e .u; f = e .f; r = e .r; p = h; w = e .w })
-effect-keeps (plain (IconW n)) c v k h = icon-keeps c k (withIconW (c .settings .icons) n) (λ e. record { s = e .s; u = e .u; f = e .f; r = e .r; p = e .p; w = h })
+    on-screen c k _ (k .settings .screen .mode) (k .settings .screen .overlay) (named-position (c .settings .screen .mode) row column (b .0) (b .1))
+effect-keeps (plain LabelsEmpty) c v k h = on-settings c k (labels-set (k .settings) _ _ no-label no-label)
+effect-keeps (label Left t) c v k h = on-settings c k (labels-set (k .settings) (labelOf t) (c .settings .right) (label-keeps t v) (k .settings .right))
+effect-keeps (label Right t) c v k h = on-settings c k (labels-set (k .settings) (c .settings .left) (labelOf t) (k .settings .left) (label-keeps t v))
+effect-keeps (plain (IconS n)) c v k h = icon-keeps c k (withIconS (c .settings .icons) n) (λ e. rw (h ∙ sym (e .s)))
+effect-keeps (plain (IconU n)) c v k h = icon-keeps c k (withIconU (c .settings .icons) n) (λ e. rw (h ∙ sym (e .u)))
+effect-keeps (plain (IconF n)) c v k h = icon-keeps c k (withIconF (c .settings .icons) n) (λ e. rw (h ∙ sym (e .f)))
+effect-keeps (plain (IconR n)) c v k h = icon-keeps c k (withIconR (c .settings .icons) n) (λ e. rw (h ∙ sym (e .r)))
+effect-keeps (plain (IconP n)) c v k h = icon-keeps c k (withIconP (c .settings .icons) n) (λ e. rw (h ∙ sym (e .p)))
+effect-keeps (plain (IconW n)) c v k h = icon-keeps c k (withIconW (c .settings .icons) n) (λ e. rw (h ∙ sym (e .w)))
 effect-keeps (plain (Private n)) c v k h = level-keeps c 1 n k refl refl h
 effect-keeps (plain (Handsfree n)) c v k h = level-keeps c 2 n k refl refl h
 effect-keeps (plain (HandsfreeOfNote n)) c v k h = level-keeps c 2 n k refl refl h
 effect-keeps (plain (Mute n)) c v k h = mute-keeps c n k
-effect-keeps (plain (KeyTimes time1 time2)) c v k h =
-    record { mode = k .mode; overlay = k .overlay; cursor = k .cursor; text = k .text; left = k .left; right = k .right; picture = k .picture; icons = k .icons; volume = k .volume; times = h; buzzer = k .buzzer; backlight = k .backlight; contrast = k .contrast; inverse = k .inverse }
-effect-keeps (plain (Buzzer n)) c v k h =
-    record { mode = k .mode; overlay = k .overlay; cursor = k .cursor; text = k .text; left = k .left; right = k .right; picture = k .picture; icons = k .icons; volume = k .volume; times = k .times; buzzer = h; backlight = k .backlight; contrast = k .contrast; inverse = k .inverse }
+effect-keeps (plain (KeyTimes time1 time2)) c v k h = on-settings c k (times-set (k .settings) _ h)
+effect-keeps (plain (Buzzer n)) c v k h = on-settings c k (buzzer-set (k .settings) _ h)
 effect-keeps (plain (Light n)) c v k h = number-keeps c n k h
-effect-keeps (plain LightOn) c v k h = light-keeps c _ k refl (duration-of (c .settings .backlight) (k .backlight)) refl
-effect-keeps (plain LightAutoStart) c v k h = light-keeps c _ k refl (duration-of (c .settings .backlight) (k .backlight)) (or-true (eqb (c .settings .backlight .duration .0) 0))
-effect-keeps (plain LightAuto) c v k h = light-keeps c _ k refl (duration-of (c .settings .backlight) (k .backlight)) (or-true (eqb (c .settings .backlight .left .0) 0))
-effect-keeps (plain DefaultDuration) c v k h = light-keeps c _ k (mode-of (c .settings .backlight) (k .backlight)) refl (left-of (c .settings .backlight) (k .backlight))
-effect-keeps (plain KeypadSet) c v k h = on-backlight c k _ (k .backlight)
-effect-keeps (plain KeypadCleared) c v k h = on-backlight c k _ (k .backlight)
-effect-keeps (plain (Contrast n)) c v k h = on-contrast c k n h
+effect-keeps (plain LightOn) c v k h = light-keeps c _ k refl (duration-of (c .settings .backlight) (k .settings .backlight)) refl
+effect-keeps (plain LightAutoStart) c v k h = light-keeps c _ k refl (duration-of (c .settings .backlight) (k .settings .backlight)) (or-true (eqb (c .settings .backlight .duration .0) 0))
+effect-keeps (plain LightAuto) c v k h = light-keeps c _ k refl (duration-of (c .settings .backlight) (k .settings .backlight)) (or-true (eqb (c .settings .backlight .left .0) 0))
+effect-keeps (plain DefaultDuration) c v k h = light-keeps c _ k (mode-of (c .settings .backlight) (k .settings .backlight)) refl (left-of (c .settings .backlight) (k .settings .backlight))
+effect-keeps (plain KeypadSet) c v k h = on-backlight c k _ (k .settings .backlight)
+effect-keeps (plain KeypadCleared) c v k h = on-backlight c k _ (k .settings .backlight)
+effect-keeps (plain (Contrast n)) c v k h = on-settings c k (contrast-set (k .settings) n h)
 effect-keeps (plain ContrastAsked) c v k h = k
 effect-keeps (plain HookAsked) c v k h = k
 effect-keeps (plain VersionAsked) c v k h = k
 effect-keeps (plain ClearLine) c v k h = on-text c k _ (cleared-in-range (c .settings .screen) (c .text) (k .text))
-effect-keeps (plain (Inverse n)) c v k h = on-inverse c k (marksOf n) (marks-in-range (c .settings .screen .mode) n h)
+effect-keeps (plain (Inverse n)) c v k h = on-settings c k (inverse-set (k .settings) (marksOf n) (marks-in-range (c .settings .screen .mode) n h))
 effect-keeps (draw row columns) c v k h = on-picture c k _ (picture-keeps (c .picture) row columns (leb-true row 6 h) (v .most) (k .picture))
 
 carry-keeps : (o : Order) (c : Core) → Carries o → CoreInRange c → CoreInRange (carryOut o c)
@@ -359,9 +323,9 @@ store-keeps c b k h = cases (ltb (c .settings .screen .column) (rowEndOf (c .set
   where
     cases : (small : Bool) → ltb (c .settings .screen .column) (rowEndOf (c .settings .screen .mode)) ≡ small → CoreInRange (cond small (onText (onScreen c (record { display = c .settings .screen .display; mode = c .settings .screen .mode; overlay = c .settings .screen .overlay; row = c .settings .screen .row; column = c .settings .screen .column + 1 })) (set (c .text) (rowStartOf (c .settings .screen .mode) (c .settings .screen .row) + c .settings .screen .column) b)) c)
     cases true e =
-        let p = both {a = ltb (c .settings .screen .row) (rowsOf (c .settings .screen .mode))} (k .cursor) in
+        let p = both {a = ltb (c .settings .screen .row) (rowsOf (c .settings .screen .mode))} (k .settings .screen .cursor) in
         let end = rowEndOf (c .settings .screen .mode) in
-        on-text _ (on-screen c k _ (k .mode) (k .overlay) (and-both (p .0) (le-leb (c .settings .screen .column + 1) end (omega (arith, ltb-true (c .settings .screen .column) end e))))) _ (text-stored (c .text) _ b (k .text) h)
+        on-text _ (on-screen c k _ (k .settings .screen .mode) (k .settings .screen .overlay) (and-both (p .0) (le-leb (c .settings .screen .column + 1) end (omega (arith, ltb-true (c .settings .screen .column) end e))))) _ (text-stored (c .text) _ b (k .text) h)
     cases false e = k
 
 -- A bad frame, and a frame with a number out of range, leave the core as it is.

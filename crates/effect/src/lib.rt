@@ -16,31 +16,22 @@ use answer::Answer;
 use command::Command;
 use command::Reading;
 use command::Side;
+use lists::BLANK;
 use picture::Columns;
+use picture::MOST_COLUMNS;
+use record::AUTO;
 use record::Backlight;
+use record::DEFAULT_DURATION;
+use record::HANDSFREE;
 use record::Label;
+use record::OFF;
+use record::ON;
+use record::PRIVATE;
+use record::Picture;
 use record::Seconds;
 use record::Settings;
+use record::Text;
 use record::Volume;
-
-// Which volume icon.
-const PRIVATE: u8 = 1;
-
-const HANDSFREE: u8 = 2;
-
-// The modes of the backlight, and its duration by default.
-const OFF: u8 = 0;
-
-const ON: u8 = 1;
-
-const AUTO: u8 = 2;
-
-const DEFAULT_DURATION: u8 = 30;
-
-const BLANK: u8 = 0x20;
-
-// A picture row holds so many columns.
-const ROW_COLUMNS: usize = 96;
 
 // The settings after a frame, and what it is answered.
 pub struct Obeyed {
@@ -82,7 +73,7 @@ fn light_at(b: Backlight, n: u8) -> Backlight
 
 // The text and the labels.
 
-fn clear(text: &mut [u8; 104])
+fn clear(text: &mut Text)
     ensures same { λ _. ⌜ now (text .exit) ≡ blanks ⌝ }
 {
     *text = [0x20u8; 104];
@@ -98,7 +89,7 @@ fn blank_at(text: &mut [u8], at: usize)
 }
 
 // Blanks from a row's column on to its end.
-fn clear_line(text: &mut [u8; 104], start: usize, column: u8, end: u8)
+fn clear_line(text: &mut Text, start: usize, column: u8, end: u8)
     requires { ⌜ start < 65536 ⌝ }
     ensures same { λ _. ⌜ now (text .exit) ≡ sets (now (text .entry)) (start + column) (replicate (end - column) blank) ⌝ }
 {
@@ -171,14 +162,14 @@ fn wide(b: u8) -> usize
 }
 
 // A picture row from column 0 takes the columns; every column past them stays. A row above 6 is passed over.
-fn draw(picture: &mut [u8; 672], row: u8, columns: Columns)
+fn draw(picture: &mut Picture, row: u8, columns: Columns)
     requires { ⌜ columns .len ≤ 96 ⌝ }
     ensures same { λ _. ⌜ now (picture .exit) ≡ cond (isPictureRow row) (drawn (now (picture .entry)) row (take (columns .len) (columns .bytes))) (now (picture .entry)) ⌝ }
 {
     if 6 < row {
         return;
     }
-    let start = wide(row) * ROW_COLUMNS;
+    let start = wide(row) * MOST_COLUMNS;
     let count = wide(columns.len);
     let mut i = 0;
     while i < count {
@@ -189,7 +180,7 @@ fn draw(picture: &mut [u8; 672], row: u8, columns: Columns)
 }
 
 // What a command in range does; its numbers are bytes.
-fn changed(mut p: Settings, text: &mut [u8; 104], c: Command) -> Settings
+fn changed(mut p: Settings, text: &mut Text, c: Command) -> Settings
     requires { ⌜ commandInRange (rowsNamed (p .screen .mode)) c ≡ true ⌝ }
     ensures same { λ r. ⌜ ((picture : List ℕ) → core r (now (text .exit)) picture ≡ effect (plain c) (core p (now (text .entry)) picture)) ⌝ }
 {
@@ -304,7 +295,7 @@ fn answer_for(c: Command) -> Answer
 }
 
 // A command of the grammar: with a number out of range it is passed over.
-fn obey_command(p: Settings, text: &mut [u8; 104], c: Command) -> Settings
+fn obey_command(p: Settings, text: &mut Text, c: Command) -> Settings
     ensures same { λ r. ⌜ ((picture : List ℕ) → core r (now (text .exit)) picture ≡ carryOut (plain c) (core p (now (text .entry)) picture)) ⌝ }
 {
     let rows = command_ranges::rows_named(p.screen.mode);
@@ -327,12 +318,7 @@ fn obey_label(mut p: Settings, side: Side, f: &[u8]) -> Settings
 }
 
 // Obeys a frame: the text and the picture in place, the settings handed back.
-pub fn obey(
-    settings: Settings,
-    text: &mut [u8; 104],
-    picture: &mut [u8; 672],
-    frame: &[u8],
-) -> Obeyed
+pub fn obey(settings: Settings, text: &mut Text, picture: &mut Picture, frame: &[u8]) -> Obeyed
     ensures obeys { λ o. ⌜ Obeys (now (frame .entry)) (core settings (now (text .entry)) (now (picture .entry))) o (core (o .settings) (now (text .exit)) (now (picture .exit))) ⌝ }
 {
     if picture_frame::opens_picture(frame) {

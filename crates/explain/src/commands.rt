@@ -1,95 +1,170 @@
-// Which fields a command sets.
-use crate::fields;
+// Which fields a command sets, and what its numbers take.
+use crate::fields::Field;
+use crate::fields::Fields;
+use crate::fields::say_changes;
+use crate::fields::say_takes;
 use crate::fields::say_values;
-use crate::page::Page;
-use crate::page::say;
+use crate::line::say;
+use crate::line::say_count;
 use command::Command;
+use command::Side;
 use record::Settings;
 
 // The greatest number of a text mode: what is above is an overlay.
 const LAST_MODE: u16 = 10;
 
-fn mode_field(n: u16) -> u8 {
+fn mode_field(n: u16) -> Field {
     if LAST_MODE < n {
-        return fields::OVERLAY;
+        return Field::Overlay;
     }
-    fields::MODE
+    Field::Mode
 }
 
-fn light_field(n: u16) -> u8 {
+fn light_field(n: u16) -> Field {
     if n == 0 {
-        return fields::BACKLIGHT;
+        return Field::Backlight;
     }
-    fields::DURATION
+    Field::Duration
 }
 
-// The field that a command sets, or the first of them; 0 where it is none of the small ones.
-pub fn field_of(c: Command) -> u8 {
+// The field that a command sets, or the first of them.
+fn field_of(c: Command) -> Field {
     match c {
-        Command::DisplayOff => fields::DISPLAY,
-        Command::DisplayOn => fields::DISPLAY,
+        Command::DisplayOff => Field::Display,
+        Command::DisplayOn => Field::Display,
         Command::Mode(n) => mode_field(n),
-        Command::CursorShown => fields::CURSOR,
-        Command::CursorHidden => fields::CURSOR,
-        Command::Position(_, _) => fields::POSITION,
-        Command::LabelsEmpty => fields::LEFT_LABEL,
-        Command::IconS(_) => fields::ICON_S,
-        Command::IconU(_) => fields::ICON_U,
-        Command::IconF(_) => fields::ICON_F,
-        Command::IconR(_) => fields::ICON_R,
-        Command::IconP(_) => fields::ICON_P,
-        Command::IconW(_) => fields::ICON_W,
-        Command::Private(_) => fields::VOLUME,
-        Command::Handsfree(_) => fields::VOLUME,
-        Command::HandsfreeOfNote(_) => fields::VOLUME,
-        Command::Mute(_) => fields::MUTE,
-        Command::KeyTimes(_, _) => fields::TIME1,
-        Command::Buzzer(_) => fields::BUZZER,
+        Command::CursorShown => Field::Cursor,
+        Command::CursorHidden => Field::Cursor,
+        Command::Clear => Field::Position,
+        Command::Position(_, _) => Field::Position,
+        Command::LabelsEmpty => Field::LeftLabel,
+        Command::IconS(_) => Field::IconS,
+        Command::IconU(_) => Field::IconU,
+        Command::IconF(_) => Field::IconF,
+        Command::IconR(_) => Field::IconR,
+        Command::IconP(_) => Field::IconP,
+        Command::IconW(_) => Field::IconW,
+        Command::Private(_) => Field::Volume,
+        Command::Handsfree(_) => Field::Volume,
+        Command::HandsfreeOfNote(_) => Field::Volume,
+        Command::Mute(_) => Field::Mute,
+        Command::KeyTimes(_, _) => Field::Time1,
+        Command::Buzzer(_) => Field::Buzzer,
         Command::Light(n) => light_field(n),
-        Command::LightOn => fields::BACKLIGHT,
-        Command::LightAutoStart => fields::BACKLIGHT,
-        Command::LightAuto => fields::BACKLIGHT,
-        Command::DefaultDuration => fields::DURATION,
-        Command::KeypadSet => fields::KEYPAD,
-        Command::KeypadCleared => fields::KEYPAD,
-        Command::Contrast(_) => fields::CONTRAST,
-        Command::Inverse(_) => fields::INVERSE,
-        _ => 0,
+        Command::LightOn => Field::Backlight,
+        Command::LightAutoStart => Field::Backlight,
+        Command::LightAuto => Field::Backlight,
+        Command::DefaultDuration => Field::Duration,
+        Command::KeypadSet => Field::Keypad,
+        Command::KeypadCleared => Field::Keypad,
+        Command::Contrast(_) => Field::Contrast,
+        Command::ContrastAsked => Field::Nothing,
+        Command::HookAsked => Field::Nothing,
+        Command::VersionAsked => Field::Nothing,
+        Command::ClearLine => Field::Nothing,
+        Command::Inverse(_) => Field::Inverse,
     }
 }
 
-// A field that a command sets, with those that it sets beside it.
-fn say_fields(page: &mut Page, field: u8, p: Settings) {
+// The same with those that are set beside it.
+fn beside(field: Field) -> Fields {
     match field {
-        fields::MODE => say_values(page, &[fields::MODE, fields::OVERLAY, fields::POSITION], p),
-        fields::LEFT_LABEL => say_values(page, &[fields::LEFT_LABEL, fields::RIGHT_LABEL], p),
-        fields::VOLUME => say_values(page, &[fields::VOLUME, fields::HIDDEN], p),
-        fields::TIME1 => say_values(page, &[fields::TIME1, fields::TIME2], p),
-        fields::BACKLIGHT => say_values(page, &[fields::BACKLIGHT, fields::SECONDS_LEFT], p),
-        _ => say_values(page, &[field], p),
+        Field::Mode => [Field::Mode, Field::Overlay, Field::Position],
+        Field::LeftLabel => [Field::LeftLabel, Field::RightLabel, Field::Nothing],
+        Field::Volume => [Field::Volume, Field::Hidden, Field::Nothing],
+        Field::Time1 => [Field::Time1, Field::Time2, Field::Nothing],
+        Field::Backlight => [Field::Backlight, Field::SecondsLeft, Field::Nothing],
+        _ => [field, Field::Nothing, Field::Nothing],
     }
 }
 
 // Mute on also shows the volume.
-fn say_mute(page: &mut Page, n: u16, p: Settings) {
+fn muting(n: u16) -> Fields {
     if n == 0 {
-        say_values(page, &[fields::MUTE], p);
+        return [Field::Mute, Field::Nothing, Field::Nothing];
+    }
+    [Field::Hidden, Field::Mute, Field::Nothing]
+}
+
+// The fields that a command sets.
+fn fields_of(c: Command) -> Fields {
+    match c {
+        Command::Mute(n) => muting(n),
+        Command::LightAuto => [Field::Backlight, Field::Nothing, Field::Nothing],
+        _ => beside(field_of(c)),
+    }
+}
+
+// Frames that are obeyed.
+
+// The changes of these fields or, where they have none, their values; and whether they have changed.
+fn say_fields(fields: Fields, was: Settings, is: Settings) -> bool {
+    if say_changes(fields, was, is, false) {
+        return true;
+    }
+    say_values(fields, is);
+    false
+}
+
+// What a command set.
+pub fn say_set(c: Command, was: Settings, is: Settings) -> bool {
+    say_fields(fields_of(c), was, is)
+}
+
+// What a label's frame set.
+pub fn say_label_set(side: Side, was: Settings, is: Settings) -> bool {
+    match side {
+        Side::Left => say_fields([Field::LeftLabel, Field::Nothing, Field::Nothing], was, is),
+        Side::Right => say_fields([Field::RightLabel, Field::Nothing, Field::Nothing], was, is),
+    }
+}
+
+// Frames that are passed over.
+
+// Where a mode has no row that a frame can name there is nothing to take.
+fn say_rows(mode: u8) {
+    let rows = command_ranges::rows_named(mode);
+    if rows == 0 {
+        say(b"no row can be named");
+    } else {
+        say_count(b"row takes 0 to ", rows as u64 - 1);
+    }
+    say_count(b" in mode ", mode as u64);
+}
+
+fn say_marks(mode: u8) {
+    let rows = command_ranges::rows_named(mode);
+    if rows == 0 {
+        say(b"inverse mark takes only 0");
+    } else {
+        say_count(b"inverse mark takes 0 to ", rows as u64);
+    }
+    say_count(b" in mode ", mode as u64);
+}
+
+fn say_position(row_is_out: bool, mode: u8) {
+    if row_is_out {
+        say_rows(mode);
         return;
     }
-    say_values(page, &[fields::HIDDEN, fields::MUTE], p);
+    say(b"column takes 0 to 15");
 }
 
-fn say_clear(page: &mut Page, p: Settings) {
-    say(page, b"all text cleared, ");
-    say_values(page, &[fields::POSITION], p);
+fn say_times(time1_is_out: bool) {
+    if time1_is_out {
+        say_takes(Field::Time1);
+        return;
+    }
+    say_takes(Field::Time2);
 }
 
-// What a command sets, as it is afterwards.
-pub fn say_set(page: &mut Page, c: Command, p: Settings) {
+// The command's first number that is out of range is `out`. Where it is the second of two, the first is in range and so another.
+pub fn say_range(c: Command, out: u16, mode: u8) {
     match c {
-        Command::Clear => say_clear(page, p),
-        Command::Mute(n) => say_mute(page, n, p),
-        Command::LightAuto => say_values(page, &[fields::BACKLIGHT], p),
-        _ => say_fields(page, field_of(c), p),
+        Command::Mode(_) => say_takes(Field::Mode),
+        Command::Position(row, _) => say_position(row == out, mode),
+        Command::KeyTimes(time1, _) => say_times(time1 == out),
+        Command::Inverse(_) => say_marks(mode),
+        _ => say_takes(field_of(c)),
     }
 }

@@ -1,302 +1,340 @@
-// The small fields of the record by name: what a field is called, what its value is called, which fields of two records differ. The
-// words are read aloud on the telephone, so a field has the same words in every line.
+// The small fields of the record by name: what a field is called, what its value is called, what has changed. The words are read aloud
+// on the telephone, so a field has the same words in every line.
+use crate::line::say;
 use crate::line::say_codes;
 use crate::line::say_comma;
+use crate::line::say_count;
 use crate::line::say_number;
-use crate::page::Page;
-use crate::page::say;
-use crate::page::say_entry;
-use command::Side;
-use record::Label;
+use lists::LINE_FEED;
 use record::Settings;
 
-// A field's sign is the note's letter for it where it has one.
-pub const DISPLAY: u8 = b'd';
+// Those with a range come first: the tables of names and of ranges are in this order. Nothing stands where a command sets no more.
+pub enum Field {
+    Mode,
+    IconS,
+    IconU,
+    IconF,
+    IconR,
+    IconP,
+    IconW,
+    Volume,
+    Mute,
+    Time1,
+    Time2,
+    Buzzer,
+    Duration,
+    Contrast,
+    Display,
+    Cursor,
+    Position,
+    LeftLabel,
+    RightLabel,
+    Hidden,
+    Backlight,
+    SecondsLeft,
+    Keypad,
+    Overlay,
+    Inverse,
+    Nothing,
+}
 
-pub const MODE: u8 = b'D';
+// The fields that a frame sets.
+pub type Fields = [Field; MOST_FIELDS];
 
-pub const OVERLAY: u8 = b'o';
+const MOST_FIELDS: usize = 3;
 
-pub const CURSOR: u8 = b'c';
+const LABEL: usize = 7;
 
-pub const POSITION: u8 = b'p';
+const ROWS: usize = 5;
 
-pub const LEFT_LABEL: u8 = b'l';
+// What a field holds: one number, or two, or a label's length and codes. What it does not use is 0.
+struct Value {
+    field: Field,
+    first: u8,
+    second: u8,
+    codes: [u8; LABEL],
+}
 
-pub const RIGHT_LABEL: u8 = b'r';
+// Words.
 
-pub const ICON_S: u8 = b'S';
+// The words of a number, from 0: each has a line of the table. A number past the last one has none.
+fn say_entry(table: &[u8], n: u8) {
+    let mut line = 0;
+    let mut start = 0;
+    for i in 0..table.len() {
+        if table[i] != LINE_FEED {
+            continue;
+        }
+        if line == n as usize {
+            say(&table[start..i]);
+            return;
+        }
+        line += 1;
+        start = i + 1;
+    }
+}
 
-pub const ICON_U: u8 = b'U';
+// Where a field stands in the tables below.
+fn entry_of(field: Field) -> u8 {
+    match field {
+        Field::Mode => 0,
+        Field::IconS => 1,
+        Field::IconU => 2,
+        Field::IconF => 3,
+        Field::IconR => 4,
+        Field::IconP => 5,
+        Field::IconW => 6,
+        Field::Volume => 7,
+        Field::Mute => 8,
+        Field::Time1 => 9,
+        Field::Time2 => 10,
+        Field::Buzzer => 11,
+        Field::Duration => 12,
+        Field::Contrast => 13,
+        Field::Display => 14,
+        Field::Cursor => 15,
+        Field::Position => 16,
+        Field::LeftLabel => 17,
+        Field::RightLabel => 18,
+        Field::Hidden => 19,
+        Field::Backlight => 20,
+        Field::SecondsLeft => 21,
+        Field::Keypad => 22,
+        Field::Overlay => 23,
+        Field::Inverse => 24,
+        Field::Nothing => 25,
+    }
+}
 
-pub const ICON_F: u8 = b'F';
-
-pub const ICON_R: u8 = b'R';
-
-pub const ICON_P: u8 = b'P';
-
-pub const ICON_W: u8 = b'W';
-
-pub const VOLUME: u8 = b'v';
-
-pub const HIDDEN: u8 = b'h';
-
-pub const MUTE: u8 = b'M';
-
-pub const TIME1: u8 = b'T';
-
-pub const TIME2: u8 = b't';
-
-pub const BUZZER: u8 = b'B';
-
-pub const BACKLIGHT: u8 = b'E';
-
-pub const SECONDS_LEFT: u8 = b's';
-
-pub const DURATION: u8 = b'n';
-
-pub const KEYPAD: u8 = b'k';
-
-pub const CONTRAST: u8 = b'A';
-
-pub const INVERSE: u8 = b'Z';
-
-// Names, by the signs. An overlay and a mark are named with their value, since there may be none.
-pub fn say_name(page: &mut Page, field: u8) {
+// An overlay and a mark are named with their value, since there may be none.
+fn say_name(field: Field) {
     say_entry(
-        page,
-        b"d display \n\
-        D mode \n\
-        c cursor \n\
-        p position \n\
-        l left label \n\
-        r right label \n\
-        S icon S \n\
-        U icon U \n\
-        F icon F \n\
-        R icon R \n\
-        P icon P \n\
-        W icon W \n\
-        v volume \n\
-        h hidden \n\
-        M mute \n\
-        T Time1 \n\
-        t Time2 \n\
-        B buzzer \n\
-        E backlight \n\
-        s seconds left \n\
-        n duration \n\
-        k keypad flag \n\
-        A contrast \n",
-        field,
+        b"mode \n\
+        icon S \n\
+        icon U \n\
+        icon F \n\
+        icon R \n\
+        icon P \n\
+        icon W \n\
+        volume \n\
+        mute \n\
+        Time1 \n\
+        Time2 \n\
+        buzzer \n\
+        duration \n\
+        contrast \n\
+        display \n\
+        cursor \n\
+        position \n\
+        left label \n\
+        right label \n\
+        hidden \n\
+        backlight \n\
+        seconds left \n\
+        keypad flag \n",
+        entry_of(field),
+    );
+}
+
+// What the number of a field takes, said where one is passed over.
+pub fn say_takes(field: Field) {
+    say_name(field);
+    say_entry(
+        b"takes 0, 1, 5, 6, 10 or 11 to 18\n\
+        takes 0 or 1\n\
+        takes 0, 1 or 255\n\
+        takes 0 to 6\n\
+        takes 0 or 1\n\
+        takes 0 to 19\n\
+        takes 0 to 3\n\
+        takes 0 to 10\n\
+        takes 0 or 1\n\
+        takes 4 to 50\n\
+        takes 0 or 4 to 50\n\
+        takes 0 to 255\n\
+        takes 1 to 255, and 0 is backlight off\n\
+        takes 1 to 20\n",
+        entry_of(field),
     );
 }
 
 // Values.
 
-fn flag(set: bool) -> u16 {
-    if set {
-        return 1;
-    }
-    0
-}
-
-fn wide(n: u8) -> u16 {
-    n as u16
-}
-
-// Two numbers as one.
-fn pair(high: u8, low: u8) -> u16 {
-    high as u16 * 256 + low as u16
-}
-
 // Which text row has the mark, counted from 1; 0 for none.
-fn marked(marks: [bool; 5]) -> u16 {
-    for row in 0..5 {
+fn marked(marks: [bool; ROWS]) -> u8 {
+    for row in 0..ROWS {
         if marks[row] {
-            return row as u16 + 1;
+            return row as u8 + 1;
         }
     }
     0
 }
 
-// A field as a number: a label's is its length.
-fn number_of(field: u8, p: Settings) -> u16 {
+fn first_of(field: Field, p: Settings) -> u8 {
     let marks = p.inverse;
     match field {
-        DISPLAY => flag(p.screen.display),
-        MODE => wide(p.screen.mode),
-        OVERLAY => wide(p.screen.overlay),
-        CURSOR => flag(p.shown),
-        POSITION => pair(p.screen.row, p.screen.column),
-        LEFT_LABEL => wide(p.left.len),
-        RIGHT_LABEL => wide(p.right.len),
-        ICON_S => wide(p.icons.s),
-        ICON_U => wide(p.icons.u),
-        ICON_F => wide(p.icons.f),
-        ICON_R => wide(p.icons.r),
-        ICON_P => wide(p.icons.p),
-        ICON_W => wide(p.icons.w),
-        VOLUME => pair(p.volume.which, p.volume.level),
-        HIDDEN => flag(p.volume.hidden),
-        MUTE => flag(p.volume.mute),
-        TIME1 => wide(p.times.time1.0),
-        TIME2 => wide(p.times.time2.0),
-        BUZZER => wide(p.buzzer.0),
-        BACKLIGHT => wide(p.backlight.mode),
-        SECONDS_LEFT => wide(p.backlight.left.0),
-        DURATION => wide(p.backlight.duration.0),
-        KEYPAD => flag(p.backlight.keypad),
-        CONTRAST => wide(p.contrast),
-        _ => marked(marks),
+        Field::Mode => p.screen.mode,
+        Field::IconS => p.icons.s,
+        Field::IconU => p.icons.u,
+        Field::IconF => p.icons.f,
+        Field::IconR => p.icons.r,
+        Field::IconP => p.icons.p,
+        Field::IconW => p.icons.w,
+        Field::Volume => p.volume.which,
+        Field::Mute => p.volume.mute as u8,
+        Field::Time1 => p.times.time1.0,
+        Field::Time2 => p.times.time2.0,
+        Field::Buzzer => p.buzzer.0,
+        Field::Duration => p.backlight.duration.0,
+        Field::Contrast => p.contrast,
+        Field::Display => p.screen.display as u8,
+        Field::Cursor => p.shown as u8,
+        Field::Position => p.screen.row,
+        Field::LeftLabel => p.left.len,
+        Field::RightLabel => p.right.len,
+        Field::Hidden => p.volume.hidden as u8,
+        Field::Backlight => p.backlight.mode,
+        Field::SecondsLeft => p.backlight.left.0,
+        Field::Keypad => p.backlight.keypad as u8,
+        Field::Overlay => p.screen.overlay,
+        Field::Inverse => marked(marks),
+        Field::Nothing => 0,
     }
 }
 
-// The words of a number below 10, from a table of them.
-fn say_choice(page: &mut Page, n: u16, words: &[u8]) {
-    if n < 10 {
-        say_entry(page, words, b'0' + n as u8);
+fn second_of(field: Field, p: Settings) -> u8 {
+    match field {
+        Field::Position => p.screen.column,
+        Field::Volume => p.volume.level,
+        _ => 0,
     }
 }
 
-fn say_overlay(page: &mut Page, overlay: u16) {
-    if overlay == 0 {
-        say(page, b"no overlay");
+fn codes_of(field: Field, p: Settings) -> [u8; LABEL] {
+    let left = p.left;
+    let right = p.right;
+    match field {
+        Field::LeftLabel => left.codes,
+        Field::RightLabel => right.codes,
+        _ => [0u8; LABEL],
+    }
+}
+
+fn value_of(field: Field, p: Settings) -> Value {
+    let codes = codes_of(field, p);
+    Value {
+        field: field,
+        first: first_of(field, p),
+        second: second_of(field, p),
+        codes: codes,
+    }
+}
+
+fn say_overlay(n: u8) {
+    if n == 0 {
+        say(b"no overlay");
         return;
     }
-    say(page, b"overlay ");
-    say_number(page, overlay as u64);
+    say_count(b"overlay ", n as u64);
 }
 
-fn say_position(page: &mut Page, position: u16) {
-    say_number(page, (position / 256) as u64);
-    say(page, b",");
-    say_number(page, (position % 256) as u64);
+fn say_position(row: u8, column: u8) {
+    say_number(row as u64);
+    say_count(b",", column as u64);
 }
 
-fn say_volume(page: &mut Page, volume: u16) {
-    say_choice(page, volume / 256, b"0 none\n1 private \n2 handsfree \n");
-    if 0 < volume {
-        say_number(page, (volume % 256) as u64);
+fn say_volume(which: u8, level: u8) {
+    say_entry(b"none\nprivate \nhandsfree \n", which);
+    if 0 < which {
+        say_number(level as u64);
     }
 }
 
 // Rows are counted from 0, as in a cursor frame.
-fn say_mark(page: &mut Page, marked: u16) {
+fn say_mark(marked: u8) {
     if marked == 0 {
-        say(page, b"no inverse mark");
+        say(b"no inverse mark");
         return;
     }
-    say(page, b"inverse mark on row ");
-    say_number(page, marked as u64 - 1);
+    say_count(b"inverse mark on row ", marked as u64 - 1);
 }
 
-// What the number of a field is called.
-fn say_meaning(page: &mut Page, field: u8, n: u16) {
+fn say_label(codes: [u8; LABEL], n: u8) {
+    say(b"[");
+    say_codes(&codes, n as usize);
+    say(b"]");
+}
+
+fn say_value(v: Value) {
+    let field = v.field;
+    let codes = v.codes;
     match field {
-        DISPLAY => say_choice(page, n, b"0 off\n1 on\n"),
-        OVERLAY => say_overlay(page, n),
-        CURSOR => say_choice(page, n, b"0 not shown\n1 shown\n"),
-        POSITION => say_position(page, n),
-        VOLUME => say_volume(page, n),
-        HIDDEN => say_choice(page, n, b"0 no\n1 yes\n"),
-        MUTE => say_choice(page, n, b"0 off\n1 on\n"),
-        BACKLIGHT => say_choice(page, n, b"0 off\n1 on\n2 auto\n"),
-        KEYPAD => say_choice(page, n, b"0 clear\n1 set\n"),
-        INVERSE => say_mark(page, n),
-        _ => say_number(page, n as u64),
-    }
-}
-
-fn say_label(page: &mut Page, label: Label) {
-    say(page, b"[");
-    say_codes(page, &label.codes, label.len as usize);
-    say(page, b"]");
-}
-
-fn say_value(page: &mut Page, field: u8, p: Settings) {
-    let left = p.left;
-    let right = p.right;
-    match field {
-        LEFT_LABEL => say_label(page, left),
-        RIGHT_LABEL => say_label(page, right),
-        _ => say_meaning(page, field, number_of(field, p)),
+        Field::Display => say_entry(b"off\non\n", v.first),
+        Field::Cursor => say_entry(b"not shown\nshown\n", v.first),
+        Field::Position => say_position(v.first, v.second),
+        Field::LeftLabel => say_label(codes, v.first),
+        Field::RightLabel => say_label(codes, v.first),
+        Field::Volume => say_volume(v.first, v.second),
+        Field::Hidden => say_entry(b"no\nyes\n", v.first),
+        Field::Mute => say_entry(b"off\non\n", v.first),
+        Field::Backlight => say_entry(b"off\non\nauto\n", v.first),
+        Field::Keypad => say_entry(b"clear\nset\n", v.first),
+        Field::Overlay => say_overlay(v.first),
+        Field::Inverse => say_mark(v.first),
+        _ => say_number(v.first as u64),
     }
 }
 
 // Changes.
 
-fn codes_differ(before: Label, after: Label) -> bool {
-    let old = before.codes;
-    let new = after.codes;
-    for i in 0..7 {
-        if old[i] != new[i] {
-            return true;
+fn same_codes(a: [u8; LABEL], b: [u8; LABEL]) -> bool {
+    for i in 0..LABEL {
+        if a[i] != b[i] {
+            return false;
         }
     }
-    false
-}
-
-fn differs(field: u8, before: Settings, after: Settings) -> bool {
-    if number_of(field, before) != number_of(field, after) {
-        return true;
-    }
-    let old_left = before.left;
-    let new_left = after.left;
-    let old_right = before.right;
-    let new_right = after.right;
-    match field {
-        LEFT_LABEL => codes_differ(old_left, new_left),
-        RIGHT_LABEL => codes_differ(old_right, new_right),
-        _ => false,
-    }
-}
-
-// A field's change, if it has changed; and whether anything has been said by then.
-fn say_change(page: &mut Page, field: u8, before: Settings, after: Settings, said: bool) -> bool {
-    if !differs(field, before, after) {
-        return said;
-    }
-    say_comma(page, said);
-    say_name(page, field);
-    say_value(page, field, before);
-    say(page, b" to ");
-    say_value(page, field, after);
     true
 }
 
-fn say_changes_of(
-    page: &mut Page,
-    fields: &[u8],
-    before: Settings,
-    after: Settings,
-    said: bool,
-) -> bool {
+fn same_value(a: Value, b: Value) -> bool {
+    let codes = a.codes;
+    let others = b.codes;
+    (a.first == b.first) & (a.second == b.second) & same_codes(codes, others)
+}
+
+// A field's change, if it has changed; and whether anything has been said by then.
+fn say_change(before: Value, after: Value, said: bool) -> bool {
+    if same_value(before, after) {
+        return said;
+    }
+    say_comma(said);
+    let field = after.field;
+    say_name(field);
+    say_value(before);
+    say(b" to ");
+    say_value(after);
+    true
+}
+
+// The changes of these fields, and whether anything has been said by then.
+pub fn say_changes(fields: Fields, before: Settings, after: Settings, said: bool) -> bool {
     let mut now = said;
-    for i in 0..fields.len() {
-        now = say_change(page, fields[i], before, after, now);
+    for i in 0..MOST_FIELDS {
+        let field = fields[i];
+        now = say_change(value_of(field, before), value_of(field, after), now);
     }
     now
 }
 
-// All changes, and whether anything has been said by then.
-pub fn say_changes(page: &mut Page, before: Settings, after: Settings, said: bool) -> bool {
-    say_changes_of(page, b"dDocplrSUFRPWvhMTtBEsnkAZ", before, after, said)
-}
-
 // These fields, and the values that they have.
-pub fn say_values(page: &mut Page, fields: &[u8], p: Settings) {
-    for i in 0..fields.len() {
-        say_comma(page, 0 < i);
-        say_name(page, fields[i]);
-        say_value(page, fields[i], p);
-    }
-}
-
-// The label of a side.
-pub fn say_label_of(page: &mut Page, side: Side, p: Settings) {
-    match side {
-        Side::Left => say_values(page, &[LEFT_LABEL], p),
-        Side::Right => say_values(page, &[RIGHT_LABEL], p),
+pub fn say_values(fields: Fields, p: Settings) {
+    for i in 0..MOST_FIELDS {
+        let field = fields[i];
+        if let Field::Nothing = field {
+            return;
+        }
+        say_comma(0 < i);
+        say_name(field);
+        say_value(value_of(field, p));
     }
 }

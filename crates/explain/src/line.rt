@@ -1,7 +1,8 @@
 // The parts of a line: its columns, numbers, and bytes in a form that can be read aloud.
-use crate::page::Page;
-use crate::page::say;
-use crate::page::say_code;
+ghost use Prim.Native.Nat.{_≤_};
+use lists::CARRIAGE_RETURN;
+use lists::ESCAPE;
+use lists::LINE_FEED;
 
 // Columns of a line, each with two blanks behind it.
 const PLACE_WIDTH: usize = 9;
@@ -11,39 +12,58 @@ const WORD_WIDTH: usize = 7;
 const BYTES_WIDTH: usize = 9;
 
 // What is longer is shown by its first bytes.
-pub const LONGEST: u64 = 250;
+const LONGEST: u64 = record::LONGEST_FRAME as u64;
 
 const FIRST_BYTES: usize = 40;
 
-const ESCAPE: u8 = 0x1B;
+// For answers: any room does that takes the longest one, the version's 29 bytes.
+pub const ROOM: usize = 64;
 
-const CARRIAGE_RETURN: u8 = 0x0D;
-
-const LINE_FEED: u8 = 0x0A;
-
-// The sign that stands before a code in hexadecimal.
+// The signs around a code in hexadecimal.
 const OPENING: u8 = b'<';
 
 const CLOSING: u8 = b'>';
 
-pub fn say_number(page: &mut Page, n: u64) {
-    let mut digits = [0u8; 20];
-    let count = io::decimal(n, &mut digits);
-    say(page, &digits[..count]);
+const HEX_WIDTH: usize = 4;
+
+pub fn say(words: &[u8]) {
+    program::write(b"explain", words);
 }
 
-// Blanks from one width to another.
-fn pad(page: &mut Page, from: usize, to: usize) {
-    for i in from..to {
-        say_code(page, b' ');
+pub fn say_number(n: u64) {
+    program::write_number(b"explain", n);
+}
+
+// Words with a number behind them.
+pub fn say_count(words: &[u8], n: u64) {
+    say(words);
+    say_number(n);
+}
+
+// Between two things of a line.
+pub fn say_comma(wanted: bool) {
+    if wanted {
+        say(b", ");
     }
 }
 
-fn say_right(page: &mut Page, n: u64) {
+// Blanks from one width to another.
+fn pad(from: usize, to: usize) {
+    for i in from..to {
+        say(b" ");
+    }
+}
+
+// Where a line begins: a place, and what stands there.
+pub fn say_place(place: u64, word: &[u8]) {
     let mut digits = [0u8; 20];
-    let count = io::decimal(n, &mut digits);
-    pad(page, count, PLACE_WIDTH);
-    say(page, &digits[..count]);
+    let count = io::decimal(place, &mut digits);
+    pad(count, PLACE_WIDTH);
+    say(&digits[..count]);
+    say(b"  ");
+    say(word);
+    pad(word.len(), WORD_WIDTH);
+    say(b"  ");
 }
 
 fn hex_digit(n: u8) -> u8 {
@@ -52,13 +72,6 @@ fn hex_digit(n: u8) -> u8 {
         return b'0' + digit;
     }
     b'A' + (digit - 10)
-}
-
-fn say_hex(page: &mut Page, code: u8) {
-    say_code(page, OPENING);
-    say_code(page, hex_digit(code / 16));
-    say_code(page, hex_digit(code));
-    say_code(page, CLOSING);
 }
 
 // Whether a code stands for itself. The sign that opens a code in hexadecimal does not, so that the two can't be mistaken.
@@ -70,110 +83,100 @@ fn is_plain(code: u8) -> bool {
     }
 }
 
-fn say_readable(page: &mut Page, code: u8) {
-    if is_plain(code) {
-        say_code(page, code);
-        return;
-    }
-    say_hex(page, code);
+fn say_hex(code: u8) {
+    let hex = [OPENING, hex_digit(code / 16), hex_digit(code), CLOSING];
+    say(&hex);
 }
 
-// How wide a text is with one code more; past the column's width it does not matter how wide.
-fn wider(width: usize, code: u8) -> usize {
+fn least(a: usize, b: usize) -> usize
+    ensures { λ r. ⌜ (r ≤ a) × (r ≤ b) ⌝ }
+{
+    if a < b {
+        return a;
+    }
+    b
+}
+
+// How wide a text is with so much more; past the column's width it does not matter how wide.
+fn wider(width: usize, by: usize) -> usize
+    requires { ⌜ by ≤ 4 ⌝ }
+{
     if BYTES_WIDTH <= width {
         return width;
     }
-    if is_plain(code) {
-        return width + 1;
-    }
-    width + 4
+    width + by
 }
 
-// The first n codes, and how wide they are.
-pub fn say_codes(page: &mut Page, codes: &[u8], n: usize) -> usize {
+// The first n codes, and how wide they are. Those that stand for themselves are written in one go.
+pub fn say_codes(codes: &[u8], n: usize) -> usize {
+    let end = least(n, codes.len());
     let mut width = 0;
-    for i in 0..n {
-        if i < codes.len() {
-            say_readable(page, codes[i]);
-            width = wider(width, codes[i]);
+    let mut start = 0;
+    for i in 0..end {
+        let code = codes[i];
+        if is_plain(code) {
+            width = wider(width, 1);
+            continue;
         }
+        say(&codes[start..i]);
+        say_hex(code);
+        width = wider(width, HEX_WIDTH);
+        start = i + 1;
     }
+    say(&codes[start..end]);
     width
 }
 
-// Codes of which there are so many in all, as they are or, if they are too many, the first of them.
-fn say_bytes(page: &mut Page, codes: &[u8], length: u64) {
+// A place, what stands there, and its bytes, of which there are so many in all: as they are or, if they are too many, the first.
+pub fn begin_line<'a>(place: u64, word: &'a [u8], codes: &'a [u8], length: u64) {
+    say_place(place, word);
     if LONGEST < length {
-        say_codes(page, codes, FIRST_BYTES);
-        say(page, b"..  ");
+        say_codes(codes, FIRST_BYTES);
+        say(b"..  ");
         return;
     }
-    let width = say_codes(page, codes, codes.len());
-    pad(page, width, BYTES_WIDTH);
-    say(page, b"  ");
-}
-
-// Where a line begins: a place, and what stands there.
-pub fn say_place(page: &mut Page, place: u64, word: &[u8]) {
-    say_right(page, place);
-    say(page, b"  ");
-    say(page, word);
-    pad(page, word.len(), WORD_WIDTH);
-    say(page, b"  ");
-}
-
-// The same with the bytes that stand there.
-pub fn begin_line<'a>(page: &mut Page, place: u64, word: &'a [u8], codes: &'a [u8], length: u64) {
-    say_place(page, place, word);
-    say_bytes(page, codes, length);
-}
-
-// Between two things of a line.
-pub fn say_comma(page: &mut Page, wanted: bool) {
-    if wanted {
-        say(page, b", ");
-    }
+    let width = say_codes(codes, codes.len());
+    pad(width, BYTES_WIDTH);
+    say(b"  ");
 }
 
 // A code of an answer: those that begin and end one by their names.
-fn say_sent(page: &mut Page, code: u8) {
+fn say_sent(code: u8) {
     match code {
-        ESCAPE => say(page, b"ESC "),
-        CARRIAGE_RETURN => say(page, b" CR"),
-        LINE_FEED => say(page, b" LF"),
-        _ => say_readable(page, code),
+        ESCAPE => say(b"ESC "),
+        CARRIAGE_RETURN => say(b" CR"),
+        LINE_FEED => say(b" LF"),
+        _ => {
+            let one = [code];
+            say_codes(&one, 1);
+        }
     }
 }
 
 // The first n codes of an answer, as they go down the cord.
-pub fn say_answer(page: &mut Page, answers: &[u8], n: usize) {
-    say(page, b": answered ");
+pub fn say_answer(answers: &[u8; ROOM], n: usize) {
+    say(b": answered ");
     for i in 0..n {
-        if i < answers.len() {
-            say_sent(page, answers[i]);
+        if i < ROOM {
+            say_sent(answers[i]);
         }
     }
 }
 
 // One column, or those from a first to a last one.
-pub fn say_columns(page: &mut Page, first: u64, last: u64) {
+pub fn say_columns(first: u64, last: u64) {
     if first == last {
-        say(page, b"column ");
-        say_number(page, first);
+        say_count(b"column ", first);
         return;
     }
-    say(page, b"columns ");
-    say_number(page, first);
-    say(page, b" to ");
-    say_number(page, last);
+    say_count(b"columns ", first);
+    say_count(b" to ", last);
 }
 
 // A frame that is too long says so.
-pub fn say_if_overlong(page: &mut Page, length: u64) {
+pub fn say_if_overlong(length: u64) {
     if LONGEST < length {
-        say(page, b": ");
-        say_number(page, length);
-        say(page, b" bytes, more than ");
-        say_number(page, LONGEST);
+        say_count(b": ", length);
+        say_count(b" bytes, more than ", LONGEST);
     }
 }

@@ -1,6 +1,6 @@
-// The calls of a handset and of a collector for programs in C: include/handset.h has them for a reader of C. Each hands on a library's
-// call. A record crosses in parts: what is small by value, its three arrays lent. An enum crosses as a number, by one definition each
-// (specs/Numbers.antt).
+// The proved calls behind include/handset.h: door/handset.c takes what a program in C lends, makes one of these calls, and stores what
+// it hands back. Each hands on a library's call. A record crosses in parts: what is small by value, its three arrays lent. An enum
+// crosses as a number, by the tables of `handset_numbers`.
 ghost use mathlib.Core.Path.{_≡_};
 ghost use lib.ListN.{length};
 ghost use Rattle.record.specs.PowerOn.{powerOn, formerPowerOn};
@@ -8,7 +8,8 @@ ghost use Rattle.record.specs.Range.{inRange};
 ghost use Rattle.record.specs.Parts.{together, smallOf};
 ghost use Rattle.stream.specs.Stream.{fedOf, answersAfter};
 ghost use Rattle.key_log.specs.Log.{outcome, handedBack, bufferAfter};
-ghost use Rattle.seconds.specs.Seconds.{passed};
+ghost use Rattle.seconds.specs.Seconds.{passed, lightPassed};
+ghost use Rattle.parts.specs.Parts.{partAt};
 ghost use Rattle.hook.specs.Hook.{hooked};
 ghost use Rattle.seen.specs.Rows.{rowSeen, smsSeen, volumeSeen};
 ghost use Rattle.seen.specs.Columns.{columnSeen};
@@ -17,35 +18,31 @@ ghost use Rattle.writer_ranges.specs.Fitting.{isLabel, isRow};
 ghost use Rattle.writer.specs.Writing.{labelBody, rowBody, frameOf, roomAfter, writtenOf};
 ghost use Rattle.verdict.specs.Verdict.{verdictOf};
 ghost use Rattle.choice.specs.Choice.{choiceOf};
-ghost use Rattle.handset.specs.Numbers.{phaseOf, sideOf, commandOf, smsNumber, volumeNumber, volumeLevel, ownerNumber, ownerPlace, shownNumber, shownValue};
-ghost use Rattle.handset.specs.Calls.{fedWith, afterWith, countWith, fedIn, loggedIn, passedIn, hookedIn, countedIn, writtenIn, judgedIn, choiceIn, smsIn, volumeIn, barIn, rowIn, columnIn, commandWritten, commandRoom};
-use choice::Choice;
-use command::Command;
-use command::Side;
+ghost use Rattle.handset_numbers.specs.Numbers.{phaseOf, sideOf};
+ghost use Rattle.handset.specs.Calls.{fedWith, afterWith, countWith, fedIn, loggedIn, passedIn, hookedIn, countedIn, writtenIn, judgedIn, choiceIn, partIn, lightIn, smsIn, volumeIn, barIn, rowIn, columnIn, commandWritten, commandRoom};
+use record::Backlight;
+use record::FrameBytes;
 use record::Label;
 use record::Number;
+use record::Picture;
 use record::Record;
 use record::Small;
+use record::Text;
+use seconds::LightPassed;
 use seen::Bar;
 use seen::ColumnSeen;
-use seen::Owner;
-use seen::Phase;
 use seen::Row;
-use seen::Shown;
-use seen::SmsPanel;
-use seen::VolumePanel;
-use verdict::Verdict;
 use writer::Written;
 
 // The last kind of command, and the number for what is out of range.
 const LAST_COMMAND: u8 = 32;
 
-const COMMAND_OUT_OF_RANGE: u8 = 2;
+const COMMAND_OUT_OF_RANGE: usize = 2;
 
 // How a stream call or a key log ended: the paper's number, the record without its arrays, how many bytes or entries were used, how many
 // answer bytes or key codes were written.
 #[repr(C)]
-pub struct HandsetFed {
+pub struct ProvedFed {
     pub number: u8,
     pub small: Small,
     pub used: usize,
@@ -54,38 +51,59 @@ pub struct HandsetFed {
 
 // How a second or the hook call ended.
 #[repr(C)]
-pub struct HandsetAfter {
+pub struct ProvedAfter {
     pub number: u8,
     pub small: Small,
 }
 
-// How a writer or the count of room ended.
+// How a second in place ended.
 #[repr(C)]
-pub struct HandsetCount {
+pub struct ProvedLight {
     pub number: u8,
+    pub light: Backlight,
+}
+
+// How a writer or the count of room ended. Both are as wide, so that compilers for all processors hand the pair back alike.
+#[repr(C)]
+pub struct ProvedCount {
+    pub number: usize,
     pub count: usize,
 }
 
 // verdict: 0 bad, 1 passed over, 2 obeyed; value: the first number that is out of range of one that is passed over, else 0.
 #[repr(C)]
-pub struct HandsetVerdict {
+pub struct ProvedVerdict {
     pub verdict: u8,
     pub value: u16,
 }
 
 // rule: 0 for yes, else the rule that is broken first, 1 to 4, and the offset where.
 #[repr(C)]
-pub struct HandsetChoice {
-    pub rule: u8,
+pub struct ProvedChoice {
+    pub rule: usize,
     pub offset: usize,
+}
+
+// The part of a stream that stands at a place, and where its end and its body lie.
+#[repr(C)]
+pub struct HandsetPart {
+    pub kind: u8,
+    pub end: usize,
+    pub body: usize,
+    pub body_end: usize,
 }
 
 // A panel of the icon bar; level is 0 where there is none.
 #[repr(C)]
 pub struct HandsetPanel {
-    pub number: u8,
     pub panel: u8,
     pub level: u8,
+}
+
+#[repr(C)]
+pub struct ProvedPanel {
+    pub number: u8,
+    pub seen: HandsetPanel,
 }
 
 // The icon bar.
@@ -102,7 +120,6 @@ pub struct HandsetBar {
 // What a row shows: owner and the row, or half of the large line, of the owner; all that it does not use is zero.
 #[repr(C)]
 pub struct HandsetRow {
-    pub number: u8,
     pub owner: u8,
     pub place: u8,
     pub inverse: bool,
@@ -114,10 +131,15 @@ pub struct HandsetRow {
     pub w: u8,
 }
 
+#[repr(C)]
+pub struct ProvedRow {
+    pub number: u8,
+    pub seen: HandsetRow,
+}
+
 // What a place shows.
 #[repr(C)]
 pub struct HandsetColumn {
-    pub number: u8,
     pub owner: u8,
     pub place: u8,
     pub shown: u8,
@@ -126,164 +148,18 @@ pub struct HandsetColumn {
     pub bar: HandsetBar,
 }
 
-// Enums by number.
-
-// 0 is lit, any other the pause of a flashing icon.
-fn phase_of(n: u8) -> Phase
-    ensures same { λ p. ⌜ p ≡ phaseOf n ⌝ }
-{
-    if n == 0 {
-        return Phase::Lit;
-    }
-    Phase::Pause
-}
-
-// 0 is left, any other right.
-fn side_of(n: u8) -> Side
-    ensures same { λ s. ⌜ s ≡ sideOf n ⌝ }
-{
-    if n == 0 {
-        return Side::Left;
-    }
-    Side::Right
-}
-
-fn command_of(kind: u8, a: u16, b: u16) -> Command
-    ensures same { λ c. ⌜ c ≡ commandOf kind a b ⌝ }
-{
-    match kind {
-        0 => Command::DisplayOff,
-        1 => Command::DisplayOn,
-        2 => Command::Mode(a),
-        3 => Command::CursorShown,
-        4 => Command::CursorHidden,
-        5 => Command::Clear,
-        6 => Command::Position(a, b),
-        7 => Command::LabelsEmpty,
-        8 => Command::IconS(a),
-        9 => Command::IconU(a),
-        10 => Command::IconF(a),
-        11 => Command::IconR(a),
-        12 => Command::IconP(a),
-        13 => Command::IconW(a),
-        14 => Command::Private(a),
-        15 => Command::Handsfree(a),
-        16 => Command::HandsfreeOfNote(a),
-        17 => Command::Mute(a),
-        18 => Command::KeyTimes(a, b),
-        19 => Command::Buzzer(a),
-        20 => Command::Light(a),
-        21 => Command::LightOn,
-        22 => Command::LightAutoStart,
-        23 => Command::LightAuto,
-        24 => Command::DefaultDuration,
-        25 => Command::KeypadSet,
-        26 => Command::KeypadCleared,
-        27 => Command::Contrast(a),
-        28 => Command::ContrastAsked,
-        29 => Command::HookAsked,
-        30 => Command::VersionAsked,
-        31 => Command::ClearLine,
-        _ => Command::Inverse(a),
-    }
-}
-
-fn sms_number(panel: SmsPanel) -> u8
-    ensures same { λ n. ⌜ n ≡ smsNumber panel ⌝ }
-{
-    match panel {
-        SmsPanel::Nothing => 0,
-        SmsPanel::Read => 1,
-        SmsPanel::Unread => 2,
-    }
-}
-
-fn volume_number(panel: VolumePanel) -> u8
-    ensures same { λ n. ⌜ n ≡ volumeNumber panel ⌝ }
-{
-    match panel {
-        VolumePanel::Nothing => 0,
-        VolumePanel::Mute => 1,
-        VolumePanel::Private(n) => 2,
-        VolumePanel::Handsfree(n) => 3,
-    }
-}
-
-fn volume_level(panel: VolumePanel) -> u8
-    ensures same { λ n. ⌜ n ≡ volumeLevel panel ⌝ }
-{
-    match panel {
-        VolumePanel::Nothing => 0,
-        VolumePanel::Mute => 0,
-        VolumePanel::Private(n) => n,
-        VolumePanel::Handsfree(n) => n,
-    }
-}
-
-fn owner_number(owner: Owner) -> u8
-    ensures same { λ n. ⌜ n ≡ ownerNumber owner ⌝ }
-{
-    match owner {
-        Owner::Nothing => 0,
-        Owner::IconBar => 1,
-        Owner::TextRow(n) => 2,
-        Owner::PictureRow(n) => 3,
-        Owner::SmallLine => 4,
-        Owner::BigLine(n) => 5,
-        Owner::PictureWithRocker(n) => 6,
-        Owner::SoftKeys => 7,
-    }
-}
-
-fn owner_place(owner: Owner) -> u8
-    ensures same { λ n. ⌜ n ≡ ownerPlace owner ⌝ }
-{
-    match owner {
-        Owner::Nothing => 0,
-        Owner::IconBar => 0,
-        Owner::TextRow(n) => n,
-        Owner::PictureRow(n) => n,
-        Owner::SmallLine => 0,
-        Owner::BigLine(n) => n,
-        Owner::PictureWithRocker(n) => n,
-        Owner::SoftKeys => 0,
-    }
-}
-
-fn shown_number(shown: Shown) -> u8
-    ensures same { λ n. ⌜ n ≡ shownNumber shown ⌝ }
-{
-    match shown {
-        Shown::Nothing => 0,
-        Shown::Bar => 1,
-        Shown::Code(n) => 2,
-        Shown::Column(n) => 3,
-        Shown::LeftLabel(n) => 4,
-        Shown::Rocker(n) => 5,
-        Shown::RightLabel(n) => 6,
-    }
-}
-
-fn shown_value(shown: Shown) -> u8
-    ensures same { λ n. ⌜ n ≡ shownValue shown ⌝ }
-{
-    match shown {
-        Shown::Nothing => 0,
-        Shown::Bar => 0,
-        Shown::Code(n) => n,
-        Shown::Column(n) => n,
-        Shown::LeftLabel(n) => n,
-        Shown::Rocker(n) => n,
-        Shown::RightLabel(n) => n,
-    }
+#[repr(C)]
+pub struct ProvedColumn {
+    pub number: u8,
+    pub seen: HandsetColumn,
 }
 
 // How a call ended, by the paper's number.
 
-fn fed_with(number: Number, small: Small, used: usize, written: usize) -> HandsetFed
+fn fed_with(number: Number, small: Small, used: usize, written: usize) -> ProvedFed
     ensures same { λ f. ⌜ f ≡ fedWith number small used written ⌝ }
 {
-    HandsetFed {
+    ProvedFed {
         number: record::paper_number(number),
         small: small,
         used: used,
@@ -291,20 +167,20 @@ fn fed_with(number: Number, small: Small, used: usize, written: usize) -> Handse
     }
 }
 
-fn after_with(ended: Number, after: Small) -> HandsetAfter
+fn after_with(ended: Number, after: Small) -> ProvedAfter
     ensures same { λ q. ⌜ q ≡ afterWith ended after ⌝ }
 {
-    HandsetAfter {
+    ProvedAfter {
         number: record::paper_number(ended),
         small: after,
     }
 }
 
-fn count_with(counted: Number, count: usize) -> HandsetCount
+fn count_with(counted: Number, count: usize) -> ProvedCount
     ensures same { λ q. ⌜ q ≡ countWith counted count ⌝ }
 {
-    HandsetCount {
-        number: record::paper_number(counted),
+    ProvedCount {
+        number: record::paper_number(counted) as usize,
         count: count,
     }
 }
@@ -312,12 +188,7 @@ fn count_with(counted: Number, count: usize) -> HandsetCount
 // Power-on.
 
 // Puts a record's arrays where they are lent, and hands back the rest.
-fn put_apart(
-    r: Record,
-    text: &mut [u8; 104],
-    picture: &mut [u8; 672],
-    frame: &mut [u8; 250],
-) -> Small
+fn put_apart(r: Record, text: &mut Text, picture: &mut Picture, frame: &mut FrameBytes) -> Small
     ensures same { λ s. ⌜ s ≡ smallOf r ⌝ }
     ensures text { λ _. ⌜ now (text .exit) ≡ r .text ⌝ }
     ensures picture { λ _. ⌜ now (picture .exit) ≡ r .picture ⌝ }
@@ -334,10 +205,10 @@ fn put_apart(
 
 // The record of this edition.
 #[no_mangle]
-pub extern "C" fn handset_power_on(
-    text: &mut [u8; 104],
-    picture: &mut [u8; 672],
-    frame: &mut [u8; 250],
+pub extern "C" fn proved_power_on(
+    text: &mut Text,
+    picture: &mut Picture,
+    frame: &mut FrameBytes,
 ) -> Small
     ensures same { λ s. ⌜ s ≡ smallOf powerOn ⌝ }
     ensures text { λ _. ⌜ now (text .exit) ≡ powerOn .text ⌝ }
@@ -349,10 +220,10 @@ pub extern "C" fn handset_power_on(
 
 // The same with the former defaults of the key times.
 #[no_mangle]
-pub extern "C" fn handset_power_on_former(
-    text: &mut [u8; 104],
-    picture: &mut [u8; 672],
-    frame: &mut [u8; 250],
+pub extern "C" fn proved_power_on_former(
+    text: &mut Text,
+    picture: &mut Picture,
+    frame: &mut FrameBytes,
 ) -> Small
     ensures same { λ s. ⌜ s ≡ smallOf formerPowerOn ⌝ }
     ensures text { λ _. ⌜ now (text .exit) ≡ formerPowerOn .text ⌝ }
@@ -365,11 +236,11 @@ pub extern "C" fn handset_power_on_former(
 // Calls on the record in parts.
 
 #[no_mangle]
-pub extern "C" fn handset_in_range<'a>(
+pub extern "C" fn proved_in_range<'a>(
     small: Small,
-    text: &'a [u8; 104],
-    picture: &'a [u8; 672],
-    frame: &'a [u8; 250],
+    text: &'a Text,
+    picture: &'a Picture,
+    frame: &'a FrameBytes,
 ) -> bool
     ensures same { λ b. ⌜ b ≡ inRange (together small (now (text .entry)) (now (picture .entry)) (now (frame .entry))) ⌝ }
 {
@@ -378,14 +249,14 @@ pub extern "C" fn handset_in_range<'a>(
 
 // Bytes from the cord.
 #[no_mangle]
-pub extern "C" fn handset_feed(
+pub extern "C" fn proved_feed(
     small: Small,
-    text: &mut [u8; 104],
-    picture: &mut [u8; 672],
-    frame: &mut [u8; 250],
+    text: &mut Text,
+    picture: &mut Picture,
+    frame: &mut FrameBytes,
     bytes: &[u8],
     answers: &mut [u8],
-) -> HandsetFed
+) -> ProvedFed
     ensures same { λ f. ⌜ f ≡ fedIn (fedOf (together small (now (text .entry)) (now (picture .entry)) (now (frame .entry))) (now (bytes .entry)) (length (now (answers .entry)))) ⌝ }
     ensures text { λ f. ⌜ now (text .exit) ≡ fedOf (together small (now (text .entry)) (now (picture .entry)) (now (frame .entry))) (now (bytes .entry)) (length (now (answers .entry))) .record .text ⌝ }
     ensures picture { λ f. ⌜ now (picture .exit) ≡ fedOf (together small (now (text .entry)) (now (picture .entry)) (now (frame .entry))) (now (bytes .entry)) (length (now (answers .entry))) .record .picture ⌝ }
@@ -400,15 +271,15 @@ pub extern "C" fn handset_feed(
 
 // Keys: a tick and an edge for each entry.
 #[no_mangle]
-pub extern "C" fn handset_take_log<'a>(
+pub extern "C" fn proved_take_log<'a>(
     small: Small,
-    text: &'a [u8; 104],
-    picture: &'a [u8; 672],
-    frame: &'a [u8; 250],
+    text: &'a Text,
+    picture: &'a Picture,
+    frame: &'a FrameBytes,
     ticks: &'a [u16],
     edges: &'a [u8],
     codes: &mut [u8],
-) -> HandsetFed
+) -> ProvedFed
     ensures same { λ l. ⌜ l ≡ loggedIn (handedBack (outcome (together small (now (text .entry)) (now (picture .entry)) (now (frame .entry))) (now (ticks .entry)) (now (edges .entry)) (length (now (codes .entry))))) ⌝ }
     ensures buffer { λ _. ⌜ now (codes .exit) ≡ bufferAfter (outcome (together small (now (text .entry)) (now (picture .entry)) (now (frame .entry))) (now (ticks .entry)) (now (edges .entry)) (length (now (codes .entry)))) (now (codes .entry)) ⌝ }
 {
@@ -420,12 +291,12 @@ pub extern "C" fn handset_take_log<'a>(
 
 // A second passes.
 #[no_mangle]
-pub extern "C" fn handset_second<'a>(
+pub extern "C" fn proved_second<'a>(
     small: Small,
-    text: &'a [u8; 104],
-    picture: &'a [u8; 672],
-    frame: &'a [u8; 250],
-) -> HandsetAfter
+    text: &'a Text,
+    picture: &'a Picture,
+    frame: &'a FrameBytes,
+) -> ProvedAfter
     ensures same { λ q. ⌜ q ≡ passedIn (passed (together small (now (text .entry)) (now (picture .entry)) (now (frame .entry)))) ⌝ }
 {
     let q = seconds::second_lent(small, text, picture, frame);
@@ -434,15 +305,41 @@ pub extern "C" fn handset_second<'a>(
     after_with(number, after)
 }
 
+// The entry in place, on a copy.
+fn second_of(b: Backlight) -> LightPassed
+    ensures { λ q. ⌜ q ≡ lightPassed b ⌝ }
+{
+    let mut lent = b;
+    let number = seconds::second_in_place(&mut lent);
+    LightPassed {
+        number: number,
+        backlight: lent,
+    }
+}
+
+// A second passes, on a backlight alone.
+#[no_mangle]
+pub extern "C" fn proved_light_second(light: Backlight) -> ProvedLight
+    ensures same { λ q. ⌜ q ≡ lightIn (lightPassed light) ⌝ }
+{
+    let q = second_of(light);
+    let number = q.number;
+    let after = q.backlight;
+    ProvedLight {
+        number: record::paper_number(number),
+        light: after,
+    }
+}
+
 // The hook: `on` is whether it is on-hook now.
 #[no_mangle]
-pub extern "C" fn handset_hook<'a>(
+pub extern "C" fn proved_hook<'a>(
     small: Small,
-    text: &'a [u8; 104],
-    picture: &'a [u8; 672],
-    frame: &'a [u8; 250],
+    text: &'a Text,
+    picture: &'a Picture,
+    frame: &'a FrameBytes,
     on: bool,
-) -> HandsetAfter
+) -> ProvedAfter
     ensures same { λ q. ⌜ q ≡ hookedIn (hooked (together small (now (text .entry)) (now (picture .entry)) (now (frame .entry))) on) ⌝ }
 {
     let q = hook::hook_lent(small, text, picture, frame, on);
@@ -453,13 +350,13 @@ pub extern "C" fn handset_hook<'a>(
 
 // How much room the answers to these bytes can need.
 #[no_mangle]
-pub extern "C" fn handset_room_needed<'a>(
+pub extern "C" fn proved_room_needed<'a>(
     small: Small,
-    text: &'a [u8; 104],
-    picture: &'a [u8; 672],
-    frame: &'a [u8; 250],
+    text: &'a Text,
+    picture: &'a Picture,
+    frame: &'a FrameBytes,
     bytes: &'a [u8],
-) -> HandsetCount
+) -> ProvedCount
     ensures same { λ q. ⌜ q ≡ countedIn (roomNeeded (together small (now (text .entry)) (now (picture .entry)) (now (frame .entry))) (now (bytes .entry))) ⌝ }
 {
     let q = answer_room::room_needed_lent(small, text, picture, frame, bytes);
@@ -470,41 +367,52 @@ pub extern "C" fn handset_room_needed<'a>(
 // What is seen. phase 0 is lit, any other the pause of a flashing icon.
 
 #[no_mangle]
-pub extern "C" fn handset_sms_seen<'a>(
+pub extern "C" fn proved_sms_seen<'a>(
     small: Small,
-    text: &'a [u8; 104],
-    picture: &'a [u8; 672],
-    frame: &'a [u8; 250],
+    text: &'a Text,
+    picture: &'a Picture,
+    frame: &'a FrameBytes,
     phase: u8,
-) -> HandsetPanel
+) -> ProvedPanel
     ensures same { λ q. ⌜ q ≡ smsIn (smsSeen (together small (now (text .entry)) (now (picture .entry)) (now (frame .entry))) (phaseOf phase)) ⌝ }
 {
-    let q = seen::sms_seen_lent(small, text, picture, frame, phase_of(phase));
+    let q = seen::sms_seen_lent(
+        small,
+        text,
+        picture,
+        frame,
+        handset_numbers::phase_of(phase),
+    );
     let number = q.number;
     let panel = q.panel;
-    HandsetPanel {
+    ProvedPanel {
         number: record::paper_number(number),
-        panel: sms_number(panel),
-        level: 0,
+        seen: HandsetPanel {
+            panel: handset_numbers::sms_number(panel),
+            level: 0,
+        },
     }
 }
 
 #[no_mangle]
-pub extern "C" fn handset_volume_seen<'a>(
+pub extern "C" fn proved_volume_seen<'a>(
     small: Small,
-    text: &'a [u8; 104],
-    picture: &'a [u8; 672],
-    frame: &'a [u8; 250],
-) -> HandsetPanel
+    text: &'a Text,
+    picture: &'a Picture,
+    frame: &'a FrameBytes,
+) -> ProvedPanel
     ensures same { λ q. ⌜ q ≡ volumeIn (volumeSeen (together small (now (text .entry)) (now (picture .entry)) (now (frame .entry)))) ⌝ }
 {
     let q = seen::volume_seen_lent(small, text, picture, frame);
     let number = q.number;
     let panel = q.panel;
-    HandsetPanel {
+    let told = handset_numbers::volume_numbers(panel);
+    ProvedPanel {
         number: record::paper_number(number),
-        panel: volume_number(panel),
-        level: volume_level(panel),
+        seen: HandsetPanel {
+            panel: told.0,
+            level: told.1,
+        },
     }
 }
 
@@ -512,18 +420,19 @@ fn bar_in(bar: Bar) -> HandsetBar
     ensures same { λ b. ⌜ b ≡ barIn bar ⌝ }
 {
     let sms = bar.sms;
-    let volume = bar.volume;
+    let panel = bar.volume;
+    let volume = handset_numbers::volume_numbers(panel);
     HandsetBar {
         f: bar.f,
         p: bar.p,
         r: bar.r,
-        sms: sms_number(sms),
-        volume: volume_number(volume),
-        level: volume_level(volume),
+        sms: handset_numbers::sms_number(sms),
+        volume: volume.0,
+        level: volume.1,
     }
 }
 
-fn row_in(row: Row) -> HandsetRow
+fn row_in(row: Row) -> ProvedRow
     ensures same { λ q. ⌜ q ≡ rowIn row ⌝ }
 {
     let number = row.number;
@@ -533,69 +442,91 @@ fn row_in(row: Row) -> HandsetRow
     let labels = row.labels;
     let left = labels.left;
     let right = labels.right;
-    HandsetRow {
+    let told = handset_numbers::owner_numbers(owner);
+    ProvedRow {
         number: record::paper_number(number),
-        owner: owner_number(owner),
-        place: owner_place(owner),
-        inverse: row.inverse,
-        codes: codes,
-        columns: columns,
-        bar: bar_in(row.bar),
-        left: left,
-        right: right,
-        w: labels.w,
+        seen: HandsetRow {
+            owner: told.0,
+            place: told.1,
+            inverse: row.inverse,
+            codes: codes,
+            columns: columns,
+            bar: bar_in(row.bar),
+            left: left,
+            right: right,
+            w: labels.w,
+        },
     }
 }
 
 #[no_mangle]
-pub extern "C" fn handset_row_seen<'a>(
+pub extern "C" fn proved_row_seen<'a>(
     small: Small,
-    text: &'a [u8; 104],
-    picture: &'a [u8; 672],
-    frame: &'a [u8; 250],
+    text: &'a Text,
+    picture: &'a Picture,
+    frame: &'a FrameBytes,
     row: u8,
     phase: u8,
-) -> HandsetRow
+) -> ProvedRow
     ensures same { λ q. ⌜ q ≡ rowIn (rowSeen (together small (now (text .entry)) (now (picture .entry)) (now (frame .entry))) row (phaseOf phase)) ⌝ }
 {
-    row_in(seen::row_seen_lent(small, text, picture, frame, row, phase_of(phase)))
+    row_in(seen::row_seen_lent(
+        small,
+        text,
+        picture,
+        frame,
+        row,
+        handset_numbers::phase_of(phase),
+    ))
 }
 
-fn column_in(c: ColumnSeen) -> HandsetColumn
+fn column_in(c: ColumnSeen) -> ProvedColumn
     ensures same { λ q. ⌜ q ≡ columnIn c ⌝ }
 {
     let number = c.number;
     let owner = c.owner;
     let shown = c.shown;
-    HandsetColumn {
+    let told = handset_numbers::owner_numbers(owner);
+    let stands = handset_numbers::shown_numbers(shown);
+    ProvedColumn {
         number: record::paper_number(number),
-        owner: owner_number(owner),
-        place: owner_place(owner),
-        shown: shown_number(shown),
-        value: shown_value(shown),
-        inverse: c.inverse,
-        bar: bar_in(c.bar),
+        seen: HandsetColumn {
+            owner: told.0,
+            place: told.1,
+            shown: stands.0,
+            value: stands.1,
+            inverse: c.inverse,
+            bar: bar_in(c.bar),
+        },
     }
 }
 
 #[no_mangle]
-pub extern "C" fn handset_column_seen<'a>(
+pub extern "C" fn proved_column_seen<'a>(
     small: Small,
-    text: &'a [u8; 104],
-    picture: &'a [u8; 672],
-    frame: &'a [u8; 250],
+    text: &'a Text,
+    picture: &'a Picture,
+    frame: &'a FrameBytes,
     row: u8,
     column: u8,
     phase: u8,
-) -> HandsetColumn
+) -> ProvedColumn
     ensures same { λ q. ⌜ q ≡ columnIn (columnSeen (together small (now (text .entry)) (now (picture .entry)) (now (frame .entry))) row column (phaseOf phase)) ⌝ }
 {
-    column_in(seen::column_seen_lent(small, text, picture, frame, row, column, phase_of(phase)))
+    column_in(seen::column_seen_lent(
+        small,
+        text,
+        picture,
+        frame,
+        row,
+        column,
+        handset_numbers::phase_of(phase),
+    ))
 }
 
 // Writers.
 
-fn written_in(w: Written) -> HandsetCount
+fn written_in(w: Written) -> ProvedCount
     ensures same { λ q. ⌜ q ≡ writtenIn w ⌝ }
 {
     let number = w.number;
@@ -604,33 +535,29 @@ fn written_in(w: Written) -> HandsetCount
 
 // A kind of command that is not known is a command out of range.
 #[no_mangle]
-pub extern "C" fn handset_write_command(kind: u8, a: u16, b: u16, room: &mut [u8]) -> HandsetCount
+pub extern "C" fn proved_write_command(kind: u8, a: u16, b: u16, room: &mut [u8]) -> ProvedCount
     ensures same { λ q. ⌜ q ≡ commandWritten kind a b (now (room .entry)) ⌝ }
     ensures left { λ _. ⌜ now (room .exit) ≡ commandRoom kind a b (now (room .entry)) ⌝ }
 {
     if LAST_COMMAND < kind {
-        return HandsetCount {
+        return ProvedCount {
             number: COMMAND_OUT_OF_RANGE,
             count: 0,
         };
     }
-    written_in(writer::write_command(command_of(kind, a, b), room))
+    written_in(writer::write_command(handset_numbers::command_of(kind, a, b), room))
 }
 
 #[no_mangle]
-pub extern "C" fn handset_write_label(side: u8, codes: &[u8], room: &mut [u8]) -> HandsetCount
+pub extern "C" fn proved_write_label(side: u8, codes: &[u8], room: &mut [u8]) -> ProvedCount
     ensures same { λ q. ⌜ q ≡ writtenIn (writtenOf (isLabel (now (codes .entry))) (frameOf (labelBody (sideOf side) (now (codes .entry)))) (now (room .entry))) ⌝ }
     ensures left { λ _. ⌜ now (room .exit) ≡ roomAfter (isLabel (now (codes .entry))) (frameOf (labelBody (sideOf side) (now (codes .entry)))) (now (room .entry)) ⌝ }
 {
-    written_in(writer::write_label(side_of(side), codes, room))
+    written_in(writer::write_label(handset_numbers::side_of(side), codes, room))
 }
 
 #[no_mangle]
-pub extern "C" fn handset_write_picture_row(
-    row: u8,
-    columns: &[u8],
-    room: &mut [u8],
-) -> HandsetCount
+pub extern "C" fn proved_write_picture_row(row: u8, columns: &[u8], room: &mut [u8]) -> ProvedCount
     ensures same { λ q. ⌜ q ≡ writtenIn (writtenOf (isRow row (now (columns .entry))) (frameOf (rowBody row (now (columns .entry)))) (now (room .entry))) ⌝ }
     ensures left { λ _. ⌜ now (room .exit) ≡ roomAfter (isRow row (now (columns .entry))) (frameOf (rowBody row (now (columns .entry)))) (now (room .entry)) ⌝ }
 {
@@ -641,47 +568,40 @@ pub extern "C" fn handset_write_picture_row(
 
 // What becomes of a frame, all between ESC and CR, in a text mode.
 #[no_mangle]
-pub extern "C" fn handset_judge(mode: u8, frame: &[u8]) -> HandsetVerdict
+pub extern "C" fn proved_judge(mode: u8, frame: &[u8]) -> ProvedVerdict
     ensures same { λ v. ⌜ v ≡ judgedIn (verdictOf mode (now (frame .entry))) ⌝ }
 {
-    match verdict::judge(mode, frame) {
-        Verdict::Bad => HandsetVerdict {
-            verdict: 0,
-            value: 0,
-        },
-        Verdict::PassedOver(n) => HandsetVerdict {
-            verdict: 1,
-            value: n,
-        },
-        Verdict::Obeyed => HandsetVerdict {
-            verdict: 2,
-            value: 0,
-        },
+    let v = handset_numbers::verdict_numbers(verdict::judge(mode, frame));
+    ProvedVerdict {
+        verdict: v.0,
+        value: v.1,
     }
 }
 
 // Whether a collector's stream keeps the rules of the choice screen.
 #[no_mangle]
-pub extern "C" fn handset_check_choice(bytes: &[u8]) -> HandsetChoice
+pub extern "C" fn proved_check_choice(bytes: &[u8]) -> ProvedChoice
     ensures same { λ c. ⌜ c ≡ choiceIn (choiceOf (now (bytes .entry))) ⌝ }
 {
-    match choice::check(bytes) {
-        Choice::Yes => HandsetChoice { rule: 0, offset: 0 },
-        Choice::NoScreen(at) => HandsetChoice {
-            rule: 1,
-            offset: at,
-        },
-        Choice::LabelMissing(at) => HandsetChoice {
-            rule: 2,
-            offset: at,
-        },
-        Choice::QuestionMark(at) => HandsetChoice {
-            rule: 3,
-            offset: at,
-        },
-        Choice::FrameOpen(at) => HandsetChoice {
-            rule: 4,
-            offset: at,
-        },
+    let c = choice::check(bytes);
+    let rule = c.rule;
+    ProvedChoice {
+        rule: handset_numbers::rule_number(rule) as usize,
+        offset: c.offset,
+    }
+}
+
+// The part of a stream that stands at a place.
+#[no_mangle]
+pub extern "C" fn proved_part_at(bytes: &[u8], place: usize) -> HandsetPart
+    ensures same { λ q. ⌜ q ≡ partIn (partAt (now (bytes .entry)) place) ⌝ }
+{
+    let p = parts::part_at(bytes, place);
+    let kind = p.kind;
+    HandsetPart {
+        kind: handset_numbers::kind_number(kind),
+        end: p.end,
+        body: p.body,
+        body_end: p.body_end,
     }
 }

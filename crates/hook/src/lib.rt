@@ -2,9 +2,12 @@
 ghost use mathlib.Core.Path.{_≡_};
 ghost use Rattle.record.specs.Parts.{together};
 ghost use Rattle.hook.specs.Hook.{hooked, lentOf};
+use record::FrameBytes;
 use record::Number;
+use record::Picture;
 use record::Record;
 use record::Small;
+use record::Text;
 use record_ranges::in_range_lent;
 
 pub struct Hooked {
@@ -21,14 +24,14 @@ pub struct HookedLent {
 // `on` is whether it is on-hook now. It changes no array, so they are only lent to be judged.
 pub fn hook_lent<'a>(
     small: Small,
-    text: &'a [u8; 104],
-    picture: &'a [u8; 672],
-    bytes: &'a [u8; 250],
+    text: &'a Text,
+    picture: &'a Picture,
+    frame: &'a FrameBytes,
     on: bool,
 ) -> HookedLent
-    ensures same { λ q. ⌜ q ≡ lentOf (hooked (together small (now (text .entry)) (now (picture .entry)) (now (bytes .entry))) on) ⌝ }
+    ensures same { λ q. ⌜ q ≡ lentOf (hooked (together small (now (text .entry)) (now (picture .entry)) (now (frame .entry))) on) ⌝ }
 {
-    let ok = in_range_lent(small, text, picture, bytes);
+    let ok = in_range_lent(small, text, picture, frame);
     if !ok {
         return HookedLent {
             number: Number::FieldOutOfRange,

@@ -4,6 +4,7 @@ ghost use mathlib.Core.Path.{_≡_};
 ghost use Rattle.lists.specs.Every.{every};
 ghost use Rattle.key_entry.specs.Codes.{columnOf, codeOf};
 ghost use Rattle.key_entry.specs.Rules.{isRelease, listed, elapsed as elapsedOf, inTicks, over as overOf, nothing as nothingOf, lit, pressed, polledShort, polledLong, polled, releaseCode, released, keyed};
+use record::AUTO;
 use record::Backlight;
 use record::Held;
 use record::Tenths;
@@ -11,7 +12,7 @@ use record::Tick;
 use record::Times;
 
 // 0 stands for none: it is no key's code.
-const NONE: u8 = 0;
+pub const NONE: u8 = 0;
 
 // Short, long and repeat code of keys 0 to 18, in document 01's order.
 const CODES: [[u8; 3]; 19] = [
@@ -44,9 +45,6 @@ const LAST_KEY: u8 = 18;
 const RELEASES: u8 = 128;
 
 const POLL: u8 = 255;
-
-// The backlight's mode auto.
-const AUTO: u8 = 2;
 
 // Which of a key's codes: a column of the table.
 pub enum Stage {

@@ -11,7 +11,7 @@ use Rattle.record.specs.declared.Held.{Held}
 use Rattle.record.specs.declared.Times.{Times}
 use Rattle.record.specs.declared.Backlight.{Backlight}
 use Rattle.record.specs.Range.{auto, keyInRange, heldInRange, durationInRange, backlightInRange, inRange}
-use Rattle.record.specs.Laws.{Ranges, ranges, in-range}
+use Rattle.record.specs.Laws.{Ranges, ranges, in-range, backlight-set}
 use Rattle.key_entry.specs.declared.Keyed.{Keyed}
 use Rattle.key_entry.specs.Rules.{Entry, lit, longSince, keyed, step}
 use Rattle.key_log.specs.Log.{outcome}
@@ -54,26 +54,8 @@ pub step-in-range : (r : Record) (e : Entry) → inRange r ≡ true → inRange 
 unfolding step
 step-in-range r e good =
     let k : Ranges r = ranges r good in
-    let fine = keyed-fine (r .held) (r .settings .times) (r .settings .backlight) (e .tick) (e .edge) (k .held) (k .backlight) in
-    in-range _
-    record {
-      mode = k .mode;
-      overlay = k .overlay;
-      cursor = k .cursor;
-      text = k .text;
-      left = k .left;
-      right = k .right;
-      picture = k .picture;
-      icons = k .icons;
-      volume = k .volume;
-      times = k .times;
-      buzzer = k .buzzer;
-      backlight = fine .1;
-      contrast = k .contrast;
-      inverse = k .inverse;
-      held = fine .0;
-      frame = k .frame;
-    }
+    let fine = keyed-fine (r .held) (r .settings .times) (r .settings .backlight) (e .tick) (e .edge) (k .held) (k .settings .backlight) in
+    in-range _ record { settings = backlight-set (k .settings) _ (fine .1); text = k .text; picture = k .picture; held = fine .0; frame = k .frame }
 
 -- So every log does.
 pub log-in-range : (r : Record) (ticks edges : List ℕ) (room : ℕ) → inRange r ≡ true → inRange (outcome r ticks edges room .ran .state) ≡ true

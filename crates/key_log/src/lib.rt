@@ -5,16 +5,17 @@ ghost use mathlib.Core.Path.{_≡_};
 ghost use lib.ListN.{length};
 ghost use Rattle.record.specs.Parts.{together};
 ghost use Rattle.key_log.specs.Log.{outcome, handedBack, lentOf, bufferAfter, refusedWith, doneWith, Takes};
+use key_entry::NONE;
 use key_entry::all_listed;
 use key_entry::take_entry;
 use record::Backlight;
+use record::FrameBytes;
 use record::Held;
 use record::Number;
+use record::Picture;
 use record::Record;
 use record::Small;
-
-// 0 stands for none: it is no key's code.
-const NONE: u8 = 0;
+use record::Text;
 
 // How a key log ended: the number, the record, how many entries were used and how many codes written.
 pub struct Logged {
@@ -101,17 +102,17 @@ fn refuse(number: Number, small: Small) -> LoggedLent
 // end or a code has no room.
 pub fn take_log_lent<'a>(
     small: Small,
-    text: &'a [u8; 104],
-    picture: &'a [u8; 672],
-    bytes: &'a [u8; 250],
+    text: &'a Text,
+    picture: &'a Picture,
+    frame: &'a FrameBytes,
     ticks: &[u16],
     edges: &[u8],
     codes: &mut [u8],
 ) -> LoggedLent
-    ensures same { λ l. ⌜ l ≡ lentOf (handedBack (outcome (together small (now (text .entry)) (now (picture .entry)) (now (bytes .entry))) (now (ticks .entry)) (now (edges .entry)) (length (now (codes .entry))))) ⌝ }
-    ensures buffer { λ _. ⌜ now (codes .exit) ≡ bufferAfter (outcome (together small (now (text .entry)) (now (picture .entry)) (now (bytes .entry))) (now (ticks .entry)) (now (edges .entry)) (length (now (codes .entry)))) (now (codes .entry)) ⌝ }
+    ensures same { λ l. ⌜ l ≡ lentOf (handedBack (outcome (together small (now (text .entry)) (now (picture .entry)) (now (frame .entry))) (now (ticks .entry)) (now (edges .entry)) (length (now (codes .entry))))) ⌝ }
+    ensures buffer { λ _. ⌜ now (codes .exit) ≡ bufferAfter (outcome (together small (now (text .entry)) (now (picture .entry)) (now (frame .entry))) (now (ticks .entry)) (now (edges .entry)) (length (now (codes .entry)))) (now (codes .entry)) ⌝ }
 {
-    let good = record_ranges::in_range_lent(small, text, picture, bytes);
+    let good = record_ranges::in_range_lent(small, text, picture, frame);
     if !good {
         return refuse(Number::FieldOutOfRange, small);
     }

@@ -6,6 +6,7 @@ use program::Input;
 use record::Label;
 use record::Record;
 use record::Settings;
+use record::Text;
 
 fn say(words: &[u8]) {
     program::write(b"list_screen", words);
@@ -51,7 +52,7 @@ fn say_label(words: &[u8], label: Label) {
     say_codes(&label.codes, label.len as usize);
 }
 
-fn say_text(text: [u8; 104]) {
+fn say_text(text: Text) {
     for row in 0..5 {
         say_number(b"TEXT ", row as u64);
         say(b" ");

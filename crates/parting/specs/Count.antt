@@ -2,12 +2,13 @@
 use Prim.Native.Nat.{ℕ, _+_, _≤_}
 use native.Mathlib.Omega.{arith}
 use mathlib.Core.Path.{_≡_, refl, ap}
-use mathlib.Core.Bool.{cond}
+use mathlib.Core.Bool.{Bool}
 use mathlib.Core.List.{List, [], _∷_, _++_}
 use lib.Dec.{eqb}
 use lib.ListN.{length, length-append}
 use borrow.Author.Tests.{ne-eqb}
 use Rattle.lists.specs.Codes.{escape}
+use Rattle.lists.specs.Counted.{counted, counted-append}
 use Rattle.lists.specs.Tests.{either-way}
 use Rattle.turns.specs.Room.{answers-begin}
 use Rattle.parting.specs.Rules.{Body, empty, collect, Part, text, skipped, closed, abandoned, bytesOf, Parted, done, unfinished, then, Parting, ends, waits, goes-on, Frame, noFrame, openFrame, overlong, inLimit, Stands, none-stands, open-stands, overlong-stands}
@@ -18,9 +19,11 @@ use Rattle.parting.specs.Frames.{OfThese, EachClosed, endedBy, ended}
 use Rattle.parting.specs.Room.{run}
 
 -- how many ESC bytes there are
+abbrev pub isEscape : ℕ → Bool
+isEscape b = eqb b escape
+
 unfoldable pub escapes : List ℕ → ℕ
-escapes [] = 0
-escapes (b ∷ rest) = cond (eqb b escape) 1 0 + escapes rest
+escapes = counted isEscape
 
 -- one for a frame that is open or overlong
 abbrev pub waiting : Frame → ℕ
@@ -37,8 +40,7 @@ pub record OneAnswer (M : Meaning) (These : List ℕ → Type 0) : Type 0 where
 
 escapes-append : (xs ys : List ℕ) → escapes (xs ++ ys) ≡ escapes xs + escapes ys
 unfolding escapes
-escapes-append [] ys = omega arith
-escapes-append (x ∷ xs) ys = omega (arith, escapes-append xs ys)
+escapes-append = counted-append isEscape
 
 part-escapes : (part : Part) → endedBy part ≤ escapes (bytesOf part)
 unfolding escapes

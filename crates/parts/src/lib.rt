@@ -6,13 +6,9 @@ ghost use Prim.Native.Nat.{_+_, _<_};
 ghost use lib.ListN.{length, drop};
 ghost use Rattle.parting.specs.Cut.{inside, cut};
 ghost use Rattle.parts.specs.Parts.{firstPart, partAt};
-
-const ESCAPE: u8 = 0x1B;
-
-const CARRIAGE_RETURN: u8 = 0x0D;
-
-// The lowest code of a text.
-const BLANK: u8 = 0x20;
+use lists::BLANK;
+use lists::CARRIAGE_RETURN;
+use lists::ESCAPE;
 
 // What stands at a place: a part, or the unfinished tail, or none, at the stream's end and past it.
 pub enum Kind {

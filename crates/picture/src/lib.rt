@@ -9,7 +9,7 @@ ghost use Rattle.lists.specs.Padded.{padded};
 ghost use Rattle.picture.specs.Reading.{hexOf, timesOf, pairOf, firstOf, columnsIn, columnsRead};
 
 // A picture row holds so many columns.
-const MOST_COLUMNS: usize = 96;
+pub const MOST_COLUMNS: usize = 96;
 
 // The columns that data draws, the places past `len` zero; `len` is 0 where it is no data.
 pub struct Columns {

@@ -7,9 +7,7 @@ ghost use lib.Seq.{sets};
 ghost use Rattle.lists.specs.Padded.{padded};
 ghost use Rattle.picture.specs.Writing.{hexCode, itemText, dataWritten};
 use picture::Data;
-
-// A picture row holds so many columns, and one item at most so many.
-const MOST_COLUMNS: usize = 96;
+use picture::MOST_COLUMNS;
 
 const LONGEST_RUN: usize = 26;
 

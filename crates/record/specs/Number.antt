@@ -8,7 +8,7 @@ use Rattle.record.specs.declared.Number.{Number}
 use Rattle.record.specs.declared.Number.the-variants.{Done, FieldOutOfRange, CommandOutOfRange, NoRoom, NotListed, UnequalLengths}
 
 -- 0: the work is done. 1: a field of the record is out of range. 2: a writer's command, label, columns or row is out of range.
--- 3: a writer's frame is longer than the room. 4: a display row above 6, or an edge byte that is not listed.
+-- 3: a writer's frame is longer than the room. 4: a display row above 6 or a column above 95, or an edge byte that is not listed.
 -- 5: the two slices of a key log differ in length.
 abbrev pub paperNumber : Number → ℕ
 paperNumber Done = 0

@@ -9,6 +9,7 @@ use lib.Seq.{slice}
 use Rattle.lists.specs.Codes.{escape, carriageReturn, blank}
 use Rattle.lists.specs.Every.{every}
 use Rattle.record.specs.declared.Record.{Record}
+use Rattle.record.specs.declared.Settings.{Settings}
 use Rattle.record.specs.declared.Screen.{Screen}
 use Rattle.record.specs.declared.Label.{Label}
 use Rattle.record.specs.declared.Icons.{Icons}
@@ -83,6 +84,10 @@ rowInRange mode row = ltb row (rowsOf mode)
 
 abbrev pub cursorInRange : Screen → Bool
 cursorInRange s = rowInRange (s .mode) (s .row) && leb (s .column) (rowEndOf (s .mode))
+
+-- all that a screen has
+abbrev pub screenInRange : Screen → Bool
+screenInRange s = modeInRange (s .mode) && overlayInRange (s .overlay) && cursorInRange s
 
 -- text: 5 rows of 16 codes, and the large line of 24, 0x20 to 0xFF
 unfoldable pub textInRange : List ℕ → Bool
@@ -187,22 +192,24 @@ frameInRange f =
     eqb (length (f .bytes)) 250 && leb (f .len) 250 && leb (f .state) 2 && (eqb (f .state) 1 || eqb (f .len) 0)
     && every isFrameByte (slice 0 (f .len) (f .bytes)) && every isUnused (slice (f .len) 250 (f .bytes))
 
+-- The whole -------------------------------------------------------------------------------------------------------
+
+-- the settings but for the labels
+abbrev pub plainInRange : Settings → Bool
+plainInRange p =
+    screenInRange (p .screen)
+    && iconsInRange (p .icons)
+    && volumeInRange (p .volume)
+    && timesInRange (p .times)
+    && buzzerInRange (p .buzzer .0)
+    && backlightInRange (p .backlight)
+    && contrastInRange (p .contrast)
+    && inverseInRange (p .inverse)
+
+abbrev pub settingsInRange : Settings → Bool
+settingsInRange p = plainInRange p && labelInRange (p .left) && labelInRange (p .right)
+
 -- every field is within its range
 unfoldable pub inRange : Record → Bool
 inRange r =
-    modeInRange (r .settings .screen .mode)
-    && overlayInRange (r .settings .screen .overlay)
-    && cursorInRange (r .settings .screen)
-    && textInRange (r .text)
-    && labelInRange (r .settings .left)
-    && labelInRange (r .settings .right)
-    && pictureInRange (r .picture)
-    && iconsInRange (r .settings .icons)
-    && volumeInRange (r .settings .volume)
-    && timesInRange (r .settings .times)
-    && buzzerInRange (r .settings .buzzer .0)
-    && backlightInRange (r .settings .backlight)
-    && contrastInRange (r .settings .contrast)
-    && inverseInRange (r .settings .inverse)
-    && heldInRange (r .held)
-    && frameInRange (r .frame)
+    settingsInRange (r .settings) && textInRange (r .text) && pictureInRange (r .picture) && heldInRange (r .held) && frameInRange (r .frame)

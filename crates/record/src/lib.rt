@@ -7,7 +7,39 @@ ghost use Rattle.record.specs.Parts.{smallOf};
 ghost use Rattle.record.specs.PowerOn.{timesAtPowerOn, formerTimes, startingWith, powerOn, formerPowerOn};
 
 // The text mode of large digits: its one row is the large line.
-const LARGE: u8 = 10;
+pub const LARGE: u8 = 10;
+
+// The last display row; a picture row is one of them.
+pub const LAST_ROW: u8 = 6;
+
+// Picture row 6 holds columns below this one.
+pub const LOW_COLUMN_END: u8 = 32;
+
+// The codes of a label.
+pub const LONGEST_LABEL: usize = 7;
+
+// A volume's which: none is 0.
+pub const PRIVATE: u8 = 1;
+
+pub const HANDSFREE: u8 = 2;
+
+// The modes of the backlight, and its duration where no frame says another.
+pub const OFF: u8 = 0;
+
+pub const ON: u8 = 1;
+
+pub const AUTO: u8 = 2;
+
+pub const DEFAULT_DURATION: u8 = 30;
+
+// The states of the frame, and how many bytes an open one has at most.
+pub const NO_FRAME: u8 = 0;
+
+pub const OPEN: u8 = 1;
+
+pub const OVERLONG: u8 = 2;
+
+pub const LONGEST_FRAME: usize = 250;
 
 // A count of 100 ms: Time1 and Time2 of the keys.
 #[repr(C)]
@@ -61,7 +93,7 @@ pub struct Icons {
     pub w: u8,
 }
 
-// which: 0 none, 1 private, 2 handsfree.
+// which: none is 0, or one of the two above.
 #[repr(C)]
 pub struct Volume {
     pub which: u8,
@@ -77,7 +109,7 @@ pub struct Times {
     pub time2: Tenths,
 }
 
-// mode: 0 off, 1 on, 2 auto.
+// mode: off, on or auto.
 #[repr(C)]
 pub struct Backlight {
     pub mode: u8,
@@ -113,7 +145,7 @@ pub struct Held {
     pub long: bool,
 }
 
-// state: 0 none, 1 open, 2 overlong.
+// state: none, open or overlong.
 #[repr(C)]
 pub struct Frame {
     pub state: u8,
@@ -131,6 +163,13 @@ pub struct Record {
     pub held: Held,
     pub frame: Frame,
 }
+
+// The record's three arrays, each by itself, as they are lent.
+pub type Text = [u8; 104];
+
+pub type Picture = [u8; 672];
+
+pub type FrameBytes = [u8; LONGEST_FRAME];
 
 // All of the record but its three arrays, for one who keeps these elsewhere and lends them: state and len are the frame's.
 #[repr(C)]
@@ -226,81 +265,103 @@ impl Times {
     }
 }
 
+impl Settings {
+    // What is small of the power-on record.
+    pub const POWER_ON: Settings = Settings {
+        screen: Screen {
+            display: true,
+            mode: 0,
+            overlay: 0,
+            row: 0,
+            column: 0,
+        },
+        shown: false,
+        left: Label {
+            len: 0,
+            codes: [0u8; 7],
+        },
+        right: Label {
+            len: 0,
+            codes: [0u8; 7],
+        },
+        icons: Icons {
+            s: 0,
+            u: 0,
+            f: 0,
+            r: 0,
+            p: 0,
+            w: 0,
+        },
+        volume: Volume {
+            which: 0,
+            level: 0,
+            mute: false,
+            hidden: false,
+        },
+        times: Times::POWER_ON,
+        buzzer: Hundredths(0),
+        backlight: Backlight {
+            mode: OFF,
+            duration: Seconds(DEFAULT_DURATION),
+            left: Seconds(0),
+            keypad: false,
+        },
+        contrast: 10,
+        hook: true,
+        inverse: [false; 5],
+    };
+}
+
 impl Record {
+    pub const POWER_ON: Record = Record {
+        settings: Settings::POWER_ON,
+        text: [lists::BLANK; 104],
+        picture: [0u8; 672],
+        held: Held {
+            down: false,
+            key: 0,
+            tick: Tick(0),
+            long: false,
+        },
+        frame: Frame {
+            state: NO_FRAME,
+            len: 0,
+            bytes: [0u8; LONGEST_FRAME],
+        },
+    };
+
+    // The power-on record with the former defaults: it differs in Time2 alone.
+    pub const FORMER: Record = Record {
+        settings: Settings {
+            times: Times::FORMER,
+            ..Settings::POWER_ON
+        },
+        ..Record::POWER_ON
+    };
+
     // The power-on record but for its times.
     pub fn starting_with(times: Times) -> Record
         ensures same { λ r. ⌜ r ≡ startingWith times ⌝ }
     {
+        let settings = Settings {
+            times: times,
+            ..Settings::POWER_ON
+        };
         Record {
-            settings: Settings {
-                screen: Screen {
-                    display: true,
-                    mode: 0,
-                    overlay: 0,
-                    row: 0,
-                    column: 0,
-                },
-                shown: false,
-                left: Label {
-                    len: 0,
-                    codes: [0u8; 7],
-                },
-                right: Label {
-                    len: 0,
-                    codes: [0u8; 7],
-                },
-                icons: Icons {
-                    s: 0,
-                    u: 0,
-                    f: 0,
-                    r: 0,
-                    p: 0,
-                    w: 0,
-                },
-                volume: Volume {
-                    which: 0,
-                    level: 0,
-                    mute: false,
-                    hidden: false,
-                },
-                times: times,
-                buzzer: Hundredths(0),
-                backlight: Backlight {
-                    mode: 0,
-                    duration: Seconds(30),
-                    left: Seconds(0),
-                    keypad: false,
-                },
-                contrast: 10,
-                hook: true,
-                inverse: [false; 5],
-            },
-            text: [0x20u8; 104],
-            picture: [0u8; 672],
-            held: Held {
-                down: false,
-                key: 0,
-                tick: Tick(0),
-                long: false,
-            },
-            frame: Frame {
-                state: 0,
-                len: 0,
-                bytes: [0u8; 250],
-            },
+            settings: settings,
+            ..Record::POWER_ON
         }
     }
 
     pub fn power_on() -> Record
         ensures same { λ r. ⌜ r ≡ powerOn ⌝ }
     {
-        Record::starting_with(Times::POWER_ON)
+        Record::POWER_ON
     }
 
-    // The power-on record with the former defaults: it differs in Time2 alone.
     pub fn former_defaults() -> Record
         ensures same { λ r. ⌜ r ≡ formerPowerOn ⌝ }
     {
-        Record::starting_with(Times::FORMER)
+        Record::FORMER
     }
 }

@@ -5,14 +5,24 @@ ghost use lib.ListN.{length};
 ghost use Rattle.record.specs.Range.{textInRange, labelInRange, pictureInRange, frameInRange, inRange};
 ghost use Rattle.record.specs.Parts.{together};
 ghost use Rattle.record_ranges.specs.Scan.{testOf, rightAt, filled};
+use lists::BLANK;
+use lists::CARRIAGE_RETURN;
+use lists::ESCAPE;
+use record::FrameBytes;
+use record::LOW_COLUMN_END;
 use record::Label;
+use record::OPEN;
+use record::OVERLONG;
+use record::Picture;
 use record::Record;
 use record::Small;
+use record::Text;
 use record_small_ranges::small_in_range;
 
-const ESCAPE: u8 = 0x1B;
+// A length is a byte in a record.
+const MOST_CODES: u8 = record::LONGEST_LABEL as u8;
 
-const CARRIAGE_RETURN: u8 = 0x0D;
+const MOST_BYTES: u8 = record::LONGEST_FRAME as u8;
 
 // What a used place of an array may hold.
 enum Place {
@@ -25,8 +35,8 @@ fn fits(place: Place, b: u8) -> bool
     ensures { λ r. ⌜ r ≡ testOf place b ⌝ }
 {
     match place {
-        Place::Code => 0x20 <= b,
-        Place::LowColumn => b < 32,
+        Place::Code => BLANK <= b,
+        Place::LowColumn => b < LOW_COLUMN_END,
         Place::FrameByte => (b != ESCAPE) & (b != CARRIAGE_RETURN),
     }
 }
@@ -57,14 +67,14 @@ fn scan(s: &[u8], len: u8, place: Place) -> bool
     ok
 }
 
-fn text_in_range(text: &[u8; 104]) -> bool
+fn text_in_range(text: &Text) -> bool
     ensures { λ r. ⌜ r ≡ textInRange (now (text .entry)) ⌝ }
 {
     scan(text, 104, Place::Code)
 }
 
 // Rows 0 to 5 take every byte.
-fn picture_in_range(picture: &[u8; 672]) -> bool
+fn picture_in_range(picture: &Picture) -> bool
     ensures { λ r. ⌜ r ≡ pictureInRange (now (picture .entry)) ⌝ }
 {
     let rows = &picture[..];
@@ -75,31 +85,34 @@ fn label_in_range(l: Label) -> bool
     ensures { λ r. ⌜ r ≡ labelInRange l ⌝ }
 {
     let len = l.len;
-    (len <= 7) & scan(&l.codes, len, Place::Code)
+    (len <= MOST_CODES) & scan(&l.codes, len, Place::Code)
 }
 
-fn frame_in_range(state: u8, len: u8, bytes: &[u8; 250]) -> bool
-    ensures { λ r. ⌜ r ≡ frameInRange (record { state = state; len = len; bytes = now (bytes .entry) }) ⌝ }
+fn frame_in_range(state: u8, len: u8, frame: &FrameBytes) -> bool
+    ensures { λ r. ⌜ r ≡ frameInRange (record { state = state; len = len; bytes = now (frame .entry) }) ⌝ }
 {
-    (len <= 250) & (state <= 2) & ((state == 1) | (len == 0)) & scan(bytes, len, Place::FrameByte)
+    (len <= MOST_BYTES)
+        & (state <= OVERLONG)
+        & ((state == OPEN) | (len == 0))
+        & scan(frame, len, Place::FrameByte)
 }
 
 // Whether every field is within its range, for one who keeps the arrays elsewhere.
 pub fn in_range_lent<'a>(
     small: Small,
-    text: &'a [u8; 104],
-    picture: &'a [u8; 672],
-    bytes: &'a [u8; 250],
+    text: &'a Text,
+    picture: &'a Picture,
+    frame: &'a FrameBytes,
 ) -> bool
-    ensures same { λ b. ⌜ b ≡ inRange (together small (now (text .entry)) (now (picture .entry)) (now (bytes .entry))) ⌝ }
+    ensures same { λ b. ⌜ b ≡ inRange (together small (now (text .entry)) (now (picture .entry)) (now (frame .entry))) ⌝ }
 {
     let settings = small.settings;
     small_in_range(settings, small.held)
-        & text_in_range(text)
         & label_in_range(settings.left)
         & label_in_range(settings.right)
+        & text_in_range(text)
         & picture_in_range(picture)
-        & frame_in_range(small.state, small.len, bytes)
+        & frame_in_range(small.state, small.len, frame)
 }
 
 // The same of a record.

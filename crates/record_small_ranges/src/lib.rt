@@ -3,9 +3,12 @@
 ghost use mathlib.Core.Path.{_≡_};
 ghost use Rattle.record.specs.Range.{modeInRange, overlayInRange, cursorInRange, iconsInRange, volumeInRange, timesInRange, buzzerInRange, backlightInRange, contrastInRange, inverseInRange, heldInRange};
 ghost use Rattle.record_small_ranges.specs.Small.{smallInRange};
+use record::AUTO;
 use record::Backlight;
+use record::HANDSFREE;
 use record::Held;
 use record::Icons;
+use record::LARGE;
 use record::Screen;
 use record::Settings;
 use record::Times;
@@ -14,7 +17,7 @@ use record::Volume;
 fn mode_in_range(mode: u8) -> bool
     ensures { λ r. ⌜ r ≡ modeInRange mode ⌝ }
 {
-    (mode == 0) | (mode == 1) | (mode == 5) | (mode == 6) | (mode == 10)
+    (mode == 0) | (mode == 1) | (mode == 5) | (mode == 6) | (mode == LARGE)
 }
 
 fn overlay_in_range(overlay: u8) -> bool
@@ -43,7 +46,7 @@ fn icons_in_range(i: Icons) -> bool
 fn volume_in_range(v: Volume) -> bool
     ensures { λ r. ⌜ r ≡ volumeInRange v ⌝ }
 {
-    (v.which <= 2)
+    (v.which <= HANDSFREE)
         & (((v.which == 0) & (v.level == 0)) | ((v.which != 0) & (1 <= v.level) & (v.level <= 10)))
         & ((v.which == 0) | !v.hidden)
 }
@@ -65,9 +68,9 @@ fn buzzer_in_range(value: u8) -> bool
 pub fn backlight_in_range(b: Backlight) -> bool
     ensures same { λ r. ⌜ r ≡ backlightInRange b ⌝ }
 {
-    (b.mode <= 2)
+    (b.mode <= AUTO)
         & ((1 <= b.duration.0) & (b.duration.0 <= 255))
-        & ((b.left.0 == 0) | (b.mode == 2))
+        & ((b.left.0 == 0) | (b.mode == AUTO))
 }
 
 fn contrast_in_range(contrast: u8) -> bool

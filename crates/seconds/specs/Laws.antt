@@ -8,7 +8,7 @@ use borrow.Author.Tests.{eqb-true, eq-eqb}
 use Rattle.lists.specs.Both.{both, and-both}
 use Rattle.lists.specs.Tests.{by-test}
 use Rattle.record.specs.Number.{paperNumber}
-use Rattle.record.specs.Laws.{ranges, in-range}
+use Rattle.record.specs.Laws.{ranges, in-range, backlight-set}
 use Rattle.record.specs.Range.{durationInRange, backlightInRange, inRange}
 use Rattle.record.specs.declared.Backlight.{Backlight}
 use Rattle.record.specs.declared.Record.{Record}
@@ -32,24 +32,8 @@ lowered-in-range b h =
 pub dimmed-in-range : (r : Record) → inRange r ≡ true → inRange (dimmed r) ≡ true
 dimmed-in-range r h =
     let k = ranges r h in
-    in-range (dimmed r) (record {
-      mode = k .mode;
-      overlay = k .overlay;
-      cursor = k .cursor;
-      text = k .text;
-      left = k .left;
-      right = k .right;
-      picture = k .picture;
-      icons = k .icons;
-      volume = k .volume;
-      times = k .times;
-      buzzer = k .buzzer;
-      backlight = lowered-in-range (r .settings .backlight) (k .backlight);
-      contrast = k .contrast;
-      inverse = k .inverse;
-      held = k .held;
-      frame = k .frame;
-    })
+    in-range (dimmed r)
+    (record { settings = backlight-set (k .settings) _ (lowered-in-range (r .settings .backlight) (k .settings .backlight)); text = k .text; picture = k .picture; held = k .held; frame = k .frame })
 
 -- A record in range is a second further, with number 0, and comes back in range.
 pub second-done : (r : Record) → inRange r ≡ true
@@ -76,7 +60,7 @@ second-refused r h = (rw h, rw h)
 pub in-place-agrees : (r : Record) → inRange r ≡ true
     → lightPassed (r .settings .backlight) ≡ record { number = passed r .number; backlight = passed r .after .settings .backlight }
 unfolding lightPassed passed
-in-place-agrees r h = rw (h, ranges r h .backlight)
+in-place-agrees r h = rw (h, ranges r h .settings .backlight)
 
 -- Put together again with the arrays, what a call hands back where they were lent is what it hands back of a record.
 pub lent-back : (r : Record) → record { number = lentOf (passed r) .number; after = withSettings r (lentOf (passed r) .small .settings) } ≡ passed r

@@ -4,9 +4,12 @@ ghost use Prim.Native.Nat.{_-_};
 ghost use Rattle.record.specs.Parts.{together};
 ghost use Rattle.seconds.specs.Seconds.{lowered, lightPassed, passed, lentOf};
 use record::Backlight;
+use record::FrameBytes;
 use record::Number;
+use record::Picture;
 use record::Record;
 use record::Small;
+use record::Text;
 use record_ranges::in_range_lent;
 use record_small_ranges::backlight_in_range;
 
@@ -65,13 +68,13 @@ fn light_passed(b: Backlight) -> LightPassed
 // A second passes. It changes no array, so they are only lent to be judged.
 pub fn second_lent<'a>(
     small: Small,
-    text: &'a [u8; 104],
-    picture: &'a [u8; 672],
-    bytes: &'a [u8; 250],
+    text: &'a Text,
+    picture: &'a Picture,
+    frame: &'a FrameBytes,
 ) -> PassedLent
-    ensures same { λ q. ⌜ q ≡ lentOf (passed (together small (now (text .entry)) (now (picture .entry)) (now (bytes .entry)))) ⌝ }
+    ensures same { λ q. ⌜ q ≡ lentOf (passed (together small (now (text .entry)) (now (picture .entry)) (now (frame .entry)))) ⌝ }
 {
-    let ok = in_range_lent(small, text, picture, bytes);
+    let ok = in_range_lent(small, text, picture, frame);
     if !ok {
         return PassedLent {
             number: Number::FieldOutOfRange,

@@ -14,16 +14,17 @@ use Rattle.lists.specs.Padded.{padded}
 use Rattle.record.specs.Range.{inRange}
 use Rattle.record.specs.declared.Record.{Record}
 use Rattle.seen_panels.specs.declared.Phase.{Phase}
-use Rattle.seen.specs.declared.Owner.{Owner}
-use Rattle.seen.specs.declared.Owner.the-variants.{Nothing, IconBar, TextRow, PictureRow, SoftKeys, SmallLine, BigLine, PictureWithRocker}
+use Rattle.seen_owners.specs.declared.Owner.{Owner}
+use Rattle.seen_owners.specs.declared.Owner.the-variants.{Nothing, IconBar, TextRow, PictureRow, SoftKeys, SmallLine, BigLine, PictureWithRocker}
 use Rattle.seen.specs.declared.Shown.the-variants as Shows
 use Rattle.seen.specs.declared.Labels.{Labels}
 use Rattle.seen.specs.declared.Row.{Row}
-use Rattle.seen.specs.Places.{isRocker, twoOwners, rowOwner}
+use Rattle.seen_owners.specs.Table.{lastRow, lastColumn, isRocker, ownerIn, twoOwners, rowOwner}
+use Rattle.seen_owners.specs.Laws.{one-owner}
 use Rattle.seen.specs.Line.{bigLine}
 use Rattle.seen.specs.Rows.{pictureRow, aroundRocker, contents, rowSeen}
-use Rattle.seen.specs.Columns.{bigCell, softKeyAt, shownAt, placeOf, columnSeen, ownerIn, columnOf}
-use Rattle.seen.specs.Laws.{seen-row, seen-column, contents-told, one-owner, owner-in-row}
+use Rattle.seen.specs.Columns.{bigCell, softKeyAt, shownAt, placeOf, columnSeen, columnOf}
+use Rattle.seen.specs.Laws.{seen-row, seen-column, contents-told}
 
 -- Zeros after a list change no place of it, since a place past its end is read as zero too.
 zeros : (k i : ℕ) → getD {A = ℕ} (replicate k 0) i 0 ≡ 0
@@ -78,16 +79,15 @@ place-in-row r phase column (PictureWithRocker n) =
 
 -- The column question tells what the row question has at that column: the number, the owner, what stands there, and the bar. Where a
 -- row has one owner it is each column's; where it has two each column has its own.
-pub columns-agree : (r : Record) (row column : ℕ) (phase : Phase) → inRange r ≡ true → row ≤ 6 → column ≤ 95
+pub columns-agree : (r : Record) (row column : ℕ) (phase : Phase) → inRange r ≡ true → row ≤ lastRow → column ≤ lastColumn
     → columnSeen r row column phase ≡ columnOf (rowSeen r row phase) column
 columns-agree r row column phase ok h k =
     seen-column r row column phase ok h k
-    ∙ ap (placeOf r phase column) (owner-in-row (r .settings .screen) row column)
     ∙ place-in-row r phase column (rowOwner r row)
     ∙ ap (λ (q : Row). columnOf q column) (sym (seen-row r row phase ok h))
 
 -- Where a row's columns have one owner the row question names it.
-pub row-names-owner : (r : Record) (row column : ℕ) (phase : Phase) → inRange r ≡ true → row ≤ 6 → column ≤ 95 → twoOwners (r .settings .screen) row ≡ false
+pub row-names-owner : (r : Record) (row column : ℕ) (phase : Phase) → inRange r ≡ true → row ≤ lastRow → column ≤ lastColumn → twoOwners (r .settings .screen) row ≡ false
     → columnSeen r row column phase .owner ≡ rowSeen r row phase .owner
 row-names-owner r row column phase ok h k one =
     rw (seen-column r row column phase ok h k, seen-row r row phase ok h, contents-told r phase (rowOwner r row) .1) (one-owner (r .settings .screen) row column one)

@@ -16,15 +16,15 @@ use Rattle.record.specs.Number.{numbered}
 use Rattle.record.specs.declared.Icons.{Icons}
 use Rattle.record.specs.declared.Record.{Record}
 use Rattle.record.specs.declared.Volume.{Volume}
-use Rattle.seen.specs.declared.Owner.{Owner}
-use Rattle.seen.specs.declared.Owner.the-variants.{Nothing, IconBar, TextRow, PictureRow, SoftKeys, SmallLine, BigLine, PictureWithRocker}
+use Rattle.seen_owners.specs.declared.Owner.{Owner}
+use Rattle.seen_owners.specs.declared.Owner.the-variants.{Nothing, IconBar, TextRow, PictureRow, SoftKeys, SmallLine, BigLine, PictureWithRocker}
 use Rattle.seen.specs.declared.Shown.{Shown}
 use Rattle.seen.specs.declared.Shown.the-variants as Shows
 use Rattle.seen_panels.specs.declared.Phase.the-variants.{Lit, Pause}
 use Rattle.seen_panels.specs.declared.SmsPanel.the-variants as Sms
 use Rattle.seen_panels.specs.declared.VolumePanel.the-variants as Sound
 use Rattle.seen_panels.specs.Panels.{smsPanel, volumePanel}
-use Rattle.seen.specs.Places.{covers, leavesRocker, covered, underBar, underLabels, ofTextMode, underText, underSmall, underBig, ownerOn, twoOwners}
+use Rattle.seen_owners.specs.Table.{letterIn, modeLine, lineOf, letterAt, byLetter, ownerOfRow}
 use Rattle.seen.specs.Line.{afterLast, smallCells, bigCells}
 use Rattle.seen.specs.Rows.{noLabel, contents, rowSeen}
 use Rattle.seen.specs.Columns.{softKeyAt, shownAt, columnSeen}
@@ -117,7 +117,7 @@ pub row-cases :
     ∷ [])
     × (rowSeen written 2 Lit .owner ≡ TextRow 1)
     × (rowSeen written 2 Lit .codes ≡ ascii "Meter           ")
-unfolding rowSeen contents ownerOn twoOwners covers leavesRocker covered underBar underLabels ofTextMode underText underSmall underBig inRange textInRange labelInRange pictureInRange inverseInRange frameInRange
+unfolding rowSeen contents letterIn modeLine lineOf letterAt byLetter ownerOfRow inRange textInRange labelInRange pictureInRange inverseInRange frameInRange
 row-cases = (refl, refl, refl)
 
 -- a large line that begins with these codes, and the column where text goes on
@@ -156,7 +156,7 @@ pub line-cases :
     ∷ smallAndBig (ascii "1               ") (ascii "2345678 ")
     ∷ smallAndBig (ascii "                ") (ascii "12345678")
     ∷ []
-unfolding rowSeen contents afterLast smallCells bigCells padded ownerOn twoOwners covers leavesRocker covered underBar underLabels ofTextMode underText underSmall underBig inRange textInRange labelInRange pictureInRange inverseInRange frameInRange
+unfolding rowSeen contents afterLast smallCells bigCells padded letterIn modeLine lineOf letterAt byLetter ownerOfRow inRange textInRange labelInRange pictureInRange inverseInRange frameInRange
 line-cases = refl
 
 -- labels of seven and of four codes, icon W 2, and a picture of 3, 4 and 5 in row 5 before, in and after the rocker panel, under an
@@ -218,7 +218,7 @@ pub column-cases :
     ∷ (numbered 4, (Nothing, Shows.Nothing))
     ∷ (numbered 1, (Nothing, Shows.Nothing))
     ∷ []
-unfolding columnSeen shownAt softKeyAt afterLast smallCells bigCells ownerOn covers leavesRocker covered underBar underLabels ofTextMode underText underSmall underBig inRange textInRange labelInRange pictureInRange inverseInRange frameInRange
+unfolding columnSeen contents shownAt softKeyAt afterLast smallCells bigCells letterIn modeLine lineOf letterAt byLetter ownerOfRow inRange textInRange labelInRange pictureInRange inverseInRange frameInRange
 column-cases = refl
 
 -- Row 5 under 18 is told as the picture with zero in columns 42 to 53, and icon W.
@@ -226,7 +226,7 @@ pub rocker-case :
     (rowSeen (keyed 18) 5 Lit .owner ≡ PictureWithRocker 5)
     × (rowSeen (keyed 18) 5 Lit .columns ≡ replicate 42 3 ++ replicate 12 0 ++ replicate 42 5)
     × (rowSeen (keyed 18) 5 Lit .labels ≡ record { left = noLabel; right = noLabel; w = 2 })
-unfolding rowSeen contents ownerOn twoOwners covers leavesRocker covered underBar underLabels inRange textInRange labelInRange pictureInRange inverseInRange frameInRange
+unfolding rowSeen contents letterIn modeLine lineOf letterAt byLetter ownerOfRow inRange textInRange labelInRange pictureInRange inverseInRange frameInRange
 rocker-case = (refl, refl, refl)
 
 -- a screen with the mark of one text row
@@ -251,5 +251,5 @@ onlyMarked row = set noneMarked row (true, true)
 pub mark-cases :
     map marksSeen (rowMarked 1 0 0 ∷ rowMarked 1 0 16 ∷ rowMarked 4 0 0 ∷ rowMarked 4 5 0 ∷ rowMarked 1 large 0 ∷ [])
     ≡ onlyMarked 2 ∷ noneMarked ∷ noneMarked ∷ onlyMarked 4 ∷ noneMarked ∷ []
-unfolding rowSeen contents columnSeen ownerOn twoOwners covers leavesRocker covered underBar underLabels ofTextMode underText underSmall underBig inRange textInRange labelInRange pictureInRange inverseInRange frameInRange
+unfolding rowSeen contents columnSeen letterIn modeLine lineOf letterAt byLetter ownerOfRow inRange textInRange labelInRange pictureInRange inverseInRange frameInRange
 mark-cases = refl

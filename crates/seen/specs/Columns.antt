@@ -8,11 +8,12 @@ use Rattle.record.specs.declared.Record.{Record}
 use Rattle.record.specs.declared.Number.{Number}
 use Rattle.record.specs.Number.{numbered}
 use Rattle.seen_panels.specs.declared.Phase.{Phase}
-use Rattle.seen.specs.Places.{isRocker, ownerAt}
+use Rattle.seen_panels.specs.declared.Phase.the-variants.{Lit}
+use Rattle.seen_owners.specs.Table.{lastRow, lastColumn, isRocker, ownerIn, ownerAt}
 use Rattle.seen.specs.Line.{smallLine, bigLine}
-use Rattle.seen.specs.Rows.{textRow, markOf, pictureRow, barOf, labelsOf, noBar}
-use Rattle.seen.specs.declared.Owner.{Owner}
-use Rattle.seen.specs.declared.Owner.the-variants.{Nothing, IconBar, TextRow, PictureRow, SoftKeys, SmallLine, BigLine, PictureWithRocker}
+use Rattle.seen.specs.Rows.{textRow, pictureRow, labelsOf, noBar, contents}
+use Rattle.seen_owners.specs.declared.Owner.{Owner}
+use Rattle.seen_owners.specs.declared.Owner.the-variants.{Nothing, IconBar, TextRow, PictureRow, SoftKeys, SmallLine, BigLine, PictureWithRocker}
 use Rattle.seen.specs.declared.Shown.{Shown}
 use Rattle.seen.specs.declared.Shown.the-variants as Shows
 use Rattle.seen.specs.declared.Bar.{Bar}
@@ -45,27 +46,12 @@ shownAt r column SmallLine = Shows.Code (getD (smallLine r) (cell column) 0)
 shownAt r column (BigLine half) = Shows.Code (getD (bigLine r) (bigCell column) 0)
 shownAt r column (PictureWithRocker n) = Shows.Nothing
 
--- the icon bar is told whole
+-- the icon bar is told whole, and the mark is its row's
 abbrev pub barAt : Record → Phase → Owner → Bar
-barAt r phase Nothing = noBar
-barAt r phase IconBar = barOf (r .settings) phase
-barAt r phase (TextRow n) = noBar
-barAt r phase (PictureRow n) = noBar
-barAt r phase SoftKeys = noBar
-barAt r phase SmallLine = noBar
-barAt r phase (BigLine half) = noBar
-barAt r phase (PictureWithRocker n) = noBar
+barAt r phase owner = contents r phase owner .bar
 
--- a place of a text row has the row's mark
 abbrev pub inverseAt : Record → Owner → Bool
-inverseAt r Nothing = false
-inverseAt r IconBar = false
-inverseAt r (TextRow n) = markOf r n
-inverseAt r (PictureRow n) = false
-inverseAt r SoftKeys = false
-inverseAt r SmallLine = false
-inverseAt r (BigLine half) = false
-inverseAt r (PictureWithRocker n) = false
+inverseAt r owner = contents r Lit owner .inverse
 
 abbrev pub noPlace : Number → ColumnSeen
 noPlace a = record { number = a; owner = Nothing; shown = Shows.Nothing; bar = noBar; inverse = false }
@@ -73,26 +59,15 @@ noPlace a = record { number = a; owner = Nothing; shown = Shows.Nothing; bar = n
 abbrev pub placeOf : Record → Phase → ℕ → Owner → ColumnSeen
 placeOf r phase column owner = record { number = numbered 0; owner = owner; shown = shownAt r column owner; bar = barAt r phase owner; inverse = inverseAt r owner }
 
--- number 1 for a field out of range, then 4 for a display row above 6 or a column above 95: then it tells nothing
+-- number 1 for a field out of range, then 4 for a display row or a column above the last: then it tells nothing
 unfoldable pub columnSeen : Record → ℕ → ℕ → Phase → ColumnSeen
 columnSeen r row column phase =
     cond (not (inRange r)) (noPlace (numbered 1))
-    (cond (ltb 6 row || ltb 95 column) (noPlace (numbered 4)) (placeOf r phase column (ownerAt r row column)))
+    (cond (ltb lastRow row || ltb lastColumn column) (noPlace (numbered 4)) (placeOf r phase column (ownerAt r row column)))
 
 -- The same read off a row -----------------------------------------------------------------------------------------
 
--- whose a column is, of a row that is told: of the two owners of a row it has one
-abbrev pub ownerIn : Owner → ℕ → Owner
-ownerIn Nothing column = Nothing
-ownerIn IconBar column = IconBar
-ownerIn (TextRow n) column = TextRow n
-ownerIn (PictureRow n) column = PictureRow n
-ownerIn SoftKeys column = SoftKeys
-ownerIn SmallLine column = SmallLine
-ownerIn (BigLine half) column = BigLine half
-ownerIn (PictureWithRocker n) column = cond (isRocker column) SoftKeys (PictureRow n)
-
--- and what stands there
+-- what stands there
 abbrev pub shownIn : Row → Owner → ℕ → Shown
 shownIn q Nothing column = Shows.Nothing
 shownIn q IconBar column = Shows.Bar

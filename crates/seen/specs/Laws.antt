@@ -20,26 +20,27 @@ use Rattle.seen_panels.specs.declared.Phase.{Phase}
 use Rattle.seen_panels.specs.declared.Phase.the-variants.{Lit}
 use Rattle.seen_panels.specs.declared.SmsPanel.the-variants as Sms
 use Rattle.seen_panels.specs.declared.VolumePanel.the-variants as Sound
-use Rattle.seen.specs.declared.Owner.{Owner}
-use Rattle.seen.specs.declared.Owner.the-variants.{Nothing, IconBar, TextRow, PictureRow, SoftKeys, SmallLine, BigLine, PictureWithRocker}
+use Rattle.seen_owners.specs.declared.Owner.{Owner}
+use Rattle.seen_owners.specs.declared.Owner.the-variants.{Nothing, IconBar, TextRow, PictureRow, SoftKeys, SmallLine, BigLine, PictureWithRocker}
 use Rattle.seen.specs.declared.Row.{Row}
 use Rattle.seen.specs.declared.ColumnSeen.{ColumnSeen}
-use Rattle.seen.specs.Tests.{at-rocker}
 use Rattle.seen.specs.LineLaws.{row-at}
-use Rattle.seen.specs.Places.{isRocker, covers, leavesRocker, covered, underBar, underLabels, underText, underSmall, underBig, ownerOn, ownerAt, twoOwners, ownerOfRow, rowOwner}
+use Rattle.seen_owners.specs.Table.{lastRow, lastColumn, ownerOfRow, rowOwner, ownerAt, isLine}
+use Rattle.seen_owners.specs.Laws.{off-nothing}
+use Rattle.seen_owners.specs.Sentences.{line-in-row, line-at}
 use Rattle.seen.specs.Rows.{rowOf, nothingSeen, contents, rowSeen, smsSeen, volumeSeen}
-use Rattle.seen.specs.Columns.{shownAt, noPlace, placeOf, columnSeen, ownerIn}
+use Rattle.seen.specs.Columns.{shownAt, noPlace, placeOf, columnSeen}
 
 -- The row question, once it is not refused.
-pub seen-row : (r : Record) (row : ℕ) (phase : Phase) → inRange r ≡ true → row ≤ 6 → rowSeen r row phase ≡ contents r phase (rowOwner r row)
+pub seen-row : (r : Record) (row : ℕ) (phase : Phase) → inRange r ≡ true → row ≤ lastRow → rowSeen r row phase ≡ contents r phase (rowOwner r row)
 unfolding rowSeen
-seen-row r row phase ok h = rw (ok, le-ltb 6 row h)
+seen-row r row phase ok h = rw (ok, le-ltb lastRow row h)
 
 -- And the column question.
-pub seen-column : (r : Record) (row column : ℕ) (phase : Phase) → inRange r ≡ true → row ≤ 6 → column ≤ 95
+pub seen-column : (r : Record) (row column : ℕ) (phase : Phase) → inRange r ≡ true → row ≤ lastRow → column ≤ lastColumn
     → columnSeen r row column phase ≡ placeOf r phase column (ownerAt r row column)
 unfolding columnSeen
-seen-column r row column phase ok h k = rw (ok, le-ltb 6 row h, le-ltb 95 column k)
+seen-column r row column phase ok h k = rw (ok, le-ltb lastRow row h, le-ltb lastColumn column k)
 
 -- Numbers -------------------------------------------------------------------------------------------------------
 
@@ -55,20 +56,20 @@ contents-told r phase SmallLine = (refl, refl)
 contents-told r phase (BigLine half) = (refl, refl)
 contents-told r phase (PictureWithRocker n) = (refl, refl)
 
--- The row question hands back 1 for a field out of range, then 4 for a display row above 6, else 0.
-pub row-number : (r : Record) (row : ℕ) (phase : Phase) → paperNumber (rowSeen r row phase .number) ≡ cond (not (inRange r)) 1 (cond (ltb 6 row) 4 0)
+-- The row question hands back 1 for a field out of range, then 4 for a display row above the last, else 0.
+pub row-number : (r : Record) (row : ℕ) (phase : Phase) → paperNumber (rowSeen r row phase .number) ≡ cond (not (inRange r)) 1 (cond (ltb lastRow row) 4 0)
 unfolding rowSeen
 row-number r row phase =
     by-test (inRange r)
-    (λ ok. by-test (ltb 6 row) (λ above. rw (ok, above)) (λ above. rw (ok, above, contents-told r phase (rowOwner r row) .0)))
+    (λ ok. by-test (ltb lastRow row) (λ above. rw (ok, above)) (λ above. rw (ok, above, contents-told r phase (rowOwner r row) .0)))
     (λ bad. rw bad)
 
--- The column question hands back 1 for a field out of range, then 4 for a display row above 6 or a column above 95, else 0.
+-- The column question hands back 1 for a field out of range, then 4 for a display row or a column above the last, else 0.
 pub column-number : (r : Record) (row column : ℕ) (phase : Phase)
-    → paperNumber (columnSeen r row column phase .number) ≡ cond (not (inRange r)) 1 (cond (ltb 6 row || ltb 95 column) 4 0)
+    → paperNumber (columnSeen r row column phase .number) ≡ cond (not (inRange r)) 1 (cond (ltb lastRow row || ltb lastColumn column) 4 0)
 unfolding columnSeen
 column-number r row column phase =
-    by-test (inRange r) (λ ok. by-test (ltb 6 row || ltb 95 column) (λ above. rw (ok, above)) (λ above. rw (ok, above))) (λ bad. rw bad)
+    by-test (inRange r) (λ ok. by-test (ltb lastRow row || ltb lastColumn column) (λ above. rw (ok, above)) (λ above. rw (ok, above))) (λ bad. rw bad)
 
 -- The panels' questions hand back 1 for a field out of range, else 0.
 pub panel-numbers : (r : Record) (phase : Phase)
@@ -78,16 +79,16 @@ panel-numbers r phase = by-test (inRange r) (λ ok. (rw ok, rw ok)) (λ bad. (rw
 
 -- A question that is refused tells nothing: the whole of what comes back, for number 1 and for number 4.
 pub row-refused : (r : Record) (row : ℕ) (phase : Phase)
-    → (inRange r ≡ false → rowSeen r row phase ≡ nothingSeen (numbered 1)) × (inRange r ≡ true → 6 < row → rowSeen r row phase ≡ nothingSeen (numbered 4))
+    → (inRange r ≡ false → rowSeen r row phase ≡ nothingSeen (numbered 1)) × (inRange r ≡ true → lastRow < row → rowSeen r row phase ≡ nothingSeen (numbered 4))
 unfolding rowSeen
-row-refused r row phase = (λ bad. rw bad, λ ok above. rw (ok, lt-ltb 6 row above))
+row-refused r row phase = (λ bad. rw bad, λ ok above. rw (ok, lt-ltb lastRow row above))
 
 pub column-refused : (r : Record) (row column : ℕ) (phase : Phase)
     → (inRange r ≡ false → columnSeen r row column phase ≡ noPlace (numbered 1))
-    × (inRange r ≡ true → 6 < row → columnSeen r row column phase ≡ noPlace (numbered 4))
-    × (inRange r ≡ true → 95 < column → columnSeen r row column phase ≡ noPlace (numbered 4))
+    × (inRange r ≡ true → lastRow < row → columnSeen r row column phase ≡ noPlace (numbered 4))
+    × (inRange r ≡ true → lastColumn < column → columnSeen r row column phase ≡ noPlace (numbered 4))
 unfolding columnSeen
-column-refused r row column phase = (λ bad. rw bad, λ ok above. rw (ok, lt-ltb 6 row above), λ ok above. rw (ok, lt-ltb 95 column above, or-true))
+column-refused r row column phase = (λ bad. rw bad, λ ok above. rw (ok, lt-ltb lastRow row above), λ ok above. rw (ok, lt-ltb lastColumn column above, or-true))
 
 pub panels-refused : (r : Record) (phase : Phase) → inRange r ≡ false
     → (smsSeen r phase ≡ record { number = numbered 1; panel = Sms.Nothing }) × (volumeSeen r ≡ record { number = numbered 1; panel = Sound.Nothing })
@@ -115,6 +116,7 @@ module _ (r : Record) (phase : Phase) (steady : r .settings .icons .u ≡ 255 �
   steady-contents (PictureWithRocker n) = refl
 
   steady-place : (column : ℕ) (o : Owner) → placeOf r phase column o ≡ placeOf r Lit column o
+  unfolding contents
   steady-place column Nothing = refl
   steady-place column IconBar = rw (steady-panel (r .settings .icons) steady phase)
   steady-place column (TextRow n) = refl
@@ -139,59 +141,15 @@ module _ (r : Record) (phase : Phase) (steady : r .settings .icons .u ≡ 255 �
 pub off-shows-nothing : (r : Record) (row : ℕ) (phase : Phase) → r .settings .screen .display ≡ false
     → (rowSeen r row phase ≡ nothingSeen (rowSeen r row phase .number))
     × ((column : ℕ) → columnSeen r row column phase ≡ noPlace (columnSeen r row column phase .number))
-unfolding rowSeen columnSeen ownerOn twoOwners contents shownAt
+unfolding rowSeen columnSeen contents shownAt
 off-shows-nothing r row phase off =
+    let nobody = off-nothing (r .settings .screen) row off in
     by-test (inRange r)
     (λ ok. (
-      by-test (ltb 6 row) (λ above. rw (ok, above)) (λ above. rw (ok, above, off)),
-      λ column. by-test (ltb 6 row || ltb 95 column) (λ above. rw (ok, above)) (λ above. rw (ok, above, off)),
+      by-test (ltb lastRow row) (λ above. rw (ok, above)) (λ above. rw (ok, above, nobody)),
+      λ column. by-test (ltb lastRow row || ltb lastColumn column) (λ above. rw (ok, above)) (λ above. rw (ok, above, nobody)),
     ))
     (λ bad. (rw bad, λ column. rw bad))
-
--- Owners ----------------------------------------------------------------------------------------------------------
-
--- Every column of a row has the row's owner, unless the row has two.
-pub one-owner : (s : Screen) (row column : ℕ) → twoOwners s row ≡ false → ownerOn s row column ≡ ownerOfRow s row
-unfolding ownerOn twoOwners covered underLabels
-one-owner s row column one =
-    by-test (s .display)
-    (λ on. let whole : leavesRocker (s .overlay) row ≡ false = rw on at one in rw (on, whole))
-    (λ off. rw off)
-
--- A row of two owners is told as that, and each of its columns has one: the soft keys in the rocker panel, else the picture.
-pub two-owners : (s : Screen) (row : ℕ) → twoOwners s row ≡ true
-    → (ownerOfRow s row ≡ PictureWithRocker row) × ((column : ℕ) → ownerOn s row column ≡ cond (isRocker column) SoftKeys (PictureRow row))
-unfolding twoOwners ownerOn covers leavesRocker covered underBar underLabels
-two-owners s row two =
-    let parts : (s .display ≡ true) × (leavesRocker (s .overlay) row ≡ true) = both two in (
-      rw two,
-      λ column.
-          let P : ℕ → ℕ → Type 0 = λ overlay at. ownerOn (withOverlay (withDisplay s true) overlay) at column ≡ cond (isRocker column) SoftKeys (PictureRow at) in
-          rw (parts .0)
-          (by-test (isRocker column)
-          (λ inside. at-rocker P (rw inside) (rw inside) (rw inside) (s .overlay) row (parts .1))
-          (λ outside. at-rocker P (rw outside) (rw outside) (rw outside) (s .overlay) row (parts .1))),
-    )
-
--- No place has two owners.
-pub no-place-has-two : (s : Screen) (row column place : ℕ) → ownerIn (ownerOn s row column) place ≡ ownerOn s row column
-unfolding ownerOn
-no-place-has-two s row column place =
-    let P : Owner → Type 0 = λ o. ownerIn o place ≡ o in
-    either-way P (not (s .display)) (λ _. refl)
-    (λ _. either-way P (covered s row column) (λ _. refl)
-    (λ _. either-way P (underBar s row) (λ _. refl)
-    (λ _. either-way P (underLabels s row column) (λ _. refl)
-    (λ _. either-way P (underText s row) (λ _. refl)
-    (λ _. either-way P (underSmall s row) (λ _. refl)
-    (λ _. either-way P (underBig s row) (λ _. refl) (λ _. refl)))))))
-
--- So a row's owner says whose each of its columns is.
-pub owner-in-row : (s : Screen) (row column : ℕ) → ownerOn s row column ≡ ownerIn (ownerOfRow s row) column
-owner-in-row s row column =
-    by-test (twoOwners s row)
-    (λ two. rw two (two-owners s row two .1 column))
-    (λ one. sym (no-place-has-two s row column column) ∙ ap (λ (o : Owner). ownerIn o column) (one-owner s row column one))
 
 -- The cursor ------------------------------------------------------------------------------------------------------
 
@@ -199,38 +157,6 @@ owner-in-row s row column =
 abbrev pub withCursor : Record → Bool → ℕ → ℕ → Record
 withCursor r shown row column =
     withSettings r (withShown (withScreen (r .settings) (withColumn (withRow (r .settings .screen) row) column)) shown)
-
--- an owner that shows the large line
-abbrev isLine : Owner → Bool
-isLine Nothing = false
-isLine IconBar = false
-isLine (TextRow n) = false
-isLine (PictureRow n) = false
-isLine SoftKeys = false
-isLine SmallLine = true
-isLine (BigLine half) = true
-isLine (PictureWithRocker n) = false
-
--- whoever shows no line has nothing to say
-other : {A B : Type 0} → A → false ≡ true → B
-other _ e = absurd (true≢false (sym e))
-
--- The large line is seen in mode 10 alone.
-line-at : (s : Screen) (row column : ℕ) → isLine (ownerOn s row column) ≡ true → s .mode ≡ large
-unfolding ownerOn underSmall underBig
-line-at s row column =
-    let P : Owner → Type 0 = λ o. isLine o ≡ true → s .mode ≡ large in
-    by-test (eqb (s .mode) large) (λ yes _. eqb-true (s .mode) large yes)
-    (λ no. either-way P (not (s .display)) other
-    (λ _. either-way P (covered s row column) other
-    (λ _. either-way P (underBar s row) other
-    (λ _. either-way P (underLabels s row column) other
-    (λ _. either-way P (underText s row) other
-    (λ _. either-way P (underSmall s row) (λ small _. other small (rw (no, and-false) at small))
-    (λ _. either-way P (underBig s row) (λ big _. other big (rw (no, and-false) at big)) other)))))))
-
-line-in-row : (s : Screen) (row : ℕ) → isLine (ownerOfRow s row) ≡ true → s .mode ≡ large
-line-in-row s row = either-way (λ (o : Owner). isLine o ≡ true → s .mode ≡ large) (twoOwners s row) other (λ _. line-at s row 0)
 
 -- Two records that differ only in the cursor are seen alike, but where the large line is: there with one column.
 module _ (r : Record) (shown : Bool) (row column : ℕ) (phase : Phase) where
@@ -246,7 +172,7 @@ module _ (r : Record) (shown : Bool) (row column : ℕ) (phase : Phase) where
   contents-alike (PictureWithRocker n) same = refl
 
   place-alike : (place : ℕ) (o : Owner) → (isLine o ≡ true → column ≡ r .settings .screen .column) → placeOf (withCursor r shown row column) phase place o ≡ placeOf r phase place o
-  unfolding shownAt
+  unfolding shownAt contents
   place-alike place Nothing same = refl
   place-alike place IconBar same = refl
   place-alike place (TextRow n) same = refl
@@ -263,27 +189,26 @@ module _ (r : Record) (shown : Bool) (row column : ℕ) (phase : Phase) where
       × ((at place : ℕ) → columnSeen (withCursor r shown row column) at place phase ≡ columnSeen r at place phase)
       × (smsSeen (withCursor r shown row column) phase ≡ smsSeen r phase)
       × (volumeSeen (withCursor r shown row column) ≡ volumeSeen r)
-  unfolding rowSeen columnSeen smsSeen volumeSeen ownerOn twoOwners covered underBar underLabels underText underSmall underBig
-  cursor-unseen ok ok′ same =
-      let s = r .settings .screen in (
-        λ at. rw (ok, ok′) (ap (λ (q : Row). cond (ltb 6 at) (nothingSeen (numbered 4)) q)
-            (contents-alike (rowOwner r at) (λ line. same (line-in-row s at line)))),
-        λ at place. rw (ok, ok′) (ap (λ (q : ColumnSeen). cond (ltb 6 at || ltb 95 place) (noPlace (numbered 4)) q)
-            (place-alike place (ownerAt r at place) (λ line. same (line-at s at place line)))),
-        rw (ok, ok′),
-        rw (ok, ok′),
-      )
+  unfolding rowSeen columnSeen smsSeen volumeSeen ownerOfRow
+  cursor-unseen ok ok′ same = (
+    λ at. rw (ok, ok′) (ap (λ (q : Row). cond (ltb lastRow at) (nothingSeen (numbered 4)) q)
+        (contents-alike (rowOwner r at) (λ line. same (line-in-row r at ok line)))),
+    λ at place. rw (ok, ok′) (ap (λ (q : ColumnSeen). cond (ltb lastRow at || ltb lastColumn place) (noPlace (numbered 4)) q)
+        (place-alike place (ownerAt r at place) (λ line. same (line-at r at place ok line)))),
+    rw (ok, ok′),
+    rw (ok, ok′),
+  )
 
 -- The contents ----------------------------------------------------------------------------------------------------
 
 -- Text row n shows codes 16n to 16n + 15 of the text.
-pub text-row-own : (r : Record) (row n i : ℕ) (phase : Phase) → inRange r ≡ true → row ≤ 6 → rowOwner r row ≡ TextRow n → i < 16
+pub text-row-own : (r : Record) (row n i : ℕ) (phase : Phase) → inRange r ≡ true → row ≤ lastRow → rowOwner r row ≡ TextRow n → i < 16
     → getD (rowSeen r row phase .codes) i 0 ≡ getD (r .text) (16 * n + i) 0
 unfolding contents
 text-row-own r row n i phase ok h e k = rw (seen-row r row phase ok h, e) (row-at 16 (r .text) n i k)
 
 -- Picture row n shows columns 96n to 96n + 95 of the picture.
-pub picture-row-own : (r : Record) (row n i : ℕ) (phase : Phase) → inRange r ≡ true → row ≤ 6 → rowOwner r row ≡ PictureRow n → i < 96
+pub picture-row-own : (r : Record) (row n i : ℕ) (phase : Phase) → inRange r ≡ true → row ≤ lastRow → rowOwner r row ≡ PictureRow n → i < 96
     → getD (rowSeen r row phase .columns) i 0 ≡ getD (r .picture) (96 * n + i) 0
 unfolding contents
 picture-row-own r row n i phase ok h e k = rw (seen-row r row phase ok h, e) (row-at 96 (r .picture) n i k)

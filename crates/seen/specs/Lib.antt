@@ -1,11 +1,7 @@
-pub mod Tests
-pub mod Places
-pub mod Placed
 pub mod Line
 pub mod LineLaws
 pub mod Rows
 pub mod Columns
 pub mod Laws
-pub mod Table
 pub mod Cases
 pub mod Agree

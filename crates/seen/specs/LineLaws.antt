@@ -79,7 +79,7 @@ line-length text l = length-drop 80 text ∙ omega arith
 pub column-fits : (r : Record) → inRange r ≡ true → r .settings .screen .column ≤ 24
 column-fits r ok =
     let s = r .settings .screen in
-    let parts : (rowInRange (s .mode) (s .row) ≡ true) × (leb (s .column) (rowEndOf (s .mode)) ≡ true) = both (ranges r ok .cursor) in
+    let parts : (rowInRange (s .mode) (s .row) ≡ true) × (leb (s .column) (rowEndOf (s .mode)) ≡ true) = both (ranges r ok .settings .screen .cursor) in
     either-way (λ (end : ℕ). leb (s .column) end ≡ true → s .column ≤ 24) (eqb (s .mode) large)
     (λ e h. leb-true (s .column) 24 h) (λ e h. omega (arith, leb-true (s .column) 16 h)) (parts .1)
 

@@ -16,10 +16,10 @@ use Rattle.record.specs.declared.Number.{Number}
 use Rattle.record.specs.Number.{numbered}
 use Rattle.seen_panels.specs.Panels.{smsPanel, volumePanel}
 use Rattle.seen_panels.specs.declared.Phase.{Phase}
-use Rattle.seen.specs.Places.{rowOwner}
+use Rattle.seen_owners.specs.Table.{lastRow, rowOwner}
 use Rattle.seen.specs.Line.{smallLine, bigLine}
-use Rattle.seen.specs.declared.Owner.{Owner}
-use Rattle.seen.specs.declared.Owner.the-variants.{Nothing, IconBar, TextRow, PictureRow, SoftKeys, SmallLine, BigLine, PictureWithRocker}
+use Rattle.seen_owners.specs.declared.Owner.{Owner}
+use Rattle.seen_owners.specs.declared.Owner.the-variants.{Nothing, IconBar, TextRow, PictureRow, SoftKeys, SmallLine, BigLine, PictureWithRocker}
 use Rattle.seen_panels.specs.declared.SmsPanel.the-variants as Sms
 use Rattle.seen_panels.specs.declared.VolumePanel.the-variants as Sound
 use Rattle.seen.specs.declared.Bar.{Bar}
@@ -96,11 +96,11 @@ contents r phase (PictureWithRocker n) = record { number = numbered 0; owner = P
 
 -- The questions ---------------------------------------------------------------------------------------------------
 
--- number 1 for a field out of range, then 4 for a display row above 6: then it tells nothing
+-- number 1 for a field out of range, then 4 for a display row above the last: then it tells nothing
 unfoldable pub rowSeen : Record → ℕ → Phase → Row
 rowSeen r row phase =
     cond (not (inRange r)) (nothingSeen (numbered 1))
-    (cond (ltb 6 row) (nothingSeen (numbered 4)) (contents r phase (rowOwner r row)))
+    (cond (ltb lastRow row) (nothingSeen (numbered 4)) (contents r phase (rowOwner r row)))
 
 unfoldable pub smsSeen : Record → Phase → SmsSeen
 smsSeen r phase =

@@ -1,5 +1,5 @@
 // What a person sees: the owner and the contents of each display row and of each column of it, and the two panels of the icon bar.
-// The definitions are document 01's "What is seen", in specs/ and, for the panels, in the crate `seen_panels`. The cursor is no part of
+// The definitions are document 01's "What is seen", in specs/ and, for owners and panels, in the crates `seen_owners` and `seen_panels`. The cursor is no part of
 // what is told, but the column says how many codes the large line has. Each question is asked of a record whose arrays are lent, so that
 // asking copies none of them; by value it lends those of its record.
 ghost use mathlib.Core.Path.{_≡_};
@@ -11,36 +11,33 @@ ghost use Rattle.lists.specs.Padded.{padded};
 ghost use lib.Seq.{slice};
 ghost use Rattle.record.specs.Range.{lineOf};
 ghost use Rattle.record.specs.Parts.{together};
-ghost use Rattle.seen.specs.Places.{isRocker, covers, leavesRocker, covered, underBar, underLabels, ofTextMode, underText, underSmall, underBig, firstTextRow, ownerOn, twoOwners, ownerOfRow, placed};
+ghost use Rattle.seen_owners.specs.Table.{lastColumn, placed};
 ghost use Rattle.seen.specs.Line.{codesIn, smallIn, smallCells, bigCells};
 ghost use Rattle.seen.specs.Columns.{softKeyAt, shownAt, barAt, inverseAt, noPlace, columnSeen};
-ghost use Rattle.seen.specs.Rows.{Showing, rowOf, aroundRocker, barOf, labelsOf, noColumns, nothingSeen, contents, rowSeen, smsSeen, volumeSeen};
+ghost use Rattle.seen.specs.Rows.{Showing, rowOf, aroundRocker, barOf, labelsOf, noColumns, noBar, nothingSeen, contents, rowSeen, smsSeen, volumeSeen};
+use lists::BLANK;
+use record::FrameBytes;
+use record::LAST_ROW;
 use record::Label;
 use record::Number;
+use record::Picture;
 use record::Record;
-use record::Screen;
 use record::Settings;
 use record::Small;
+use record::Text;
 use record::small_of;
 use record_ranges::in_range_lent;
+use seen_owners::LAST_COLUMN;
+pub use seen_owners::Owner;
+use seen_owners::RIGHT_LABEL;
+use seen_owners::ROCKER;
+use seen_owners::owner_of;
+use seen_owners::owner_of_row;
 pub use seen_panels::Phase;
 pub use seen_panels::SmsPanel;
 pub use seen_panels::VolumePanel;
 use seen_panels::sms_panel;
 use seen_panels::volume_panel;
-
-// The code of an empty cell.
-const BLANK: u8 = 0x20;
-
-// The text mode of large digits.
-const LARGE: u8 = 10;
-
-// The soft keys' row, and where its parts begin: the rocker panel stands between the labels.
-const LABELS_ROW: u8 = 5;
-
-const ROCKER: u8 = 42;
-
-const RIGHT_LABEL: u8 = 54;
 
 // So many columns has a character, and a big one.
 const CELL: u8 = 6;
@@ -51,19 +48,6 @@ const BIG_CELL: u8 = 12;
 const BIG_CODES: u8 = 8;
 
 const LINE: usize = 80;
-
-// Who owns a display row or a place of it. The number is the text row or the picture row, and of the big codes the half that is
-// shown: 0 the upper, 1 the lower. PictureWithRocker has a row alone: each of its places belongs to one of the two.
-pub enum Owner {
-    Nothing,
-    IconBar,
-    TextRow(u8),
-    PictureRow(u8),
-    SoftKeys,
-    SmallLine,
-    BigLine(u8),
-    PictureWithRocker(u8),
-}
 
 // What stands at a place: a code, a picture's column, icon W; a cell past a label's length is 0. The icon bar is told whole.
 pub enum Shown {
@@ -126,14 +110,14 @@ pub struct VolumeSeen {
 
 pub fn sms_seen_lent<'a>(
     small: Small,
-    text: &'a [u8; 104],
-    picture: &'a [u8; 672],
-    bytes: &'a [u8; 250],
+    text: &'a Text,
+    picture: &'a Picture,
+    frame: &'a FrameBytes,
     phase: Phase,
 ) -> SmsSeen
-    ensures same { λ q. ⌜ q ≡ smsSeen (together small (now (text .entry)) (now (picture .entry)) (now (bytes .entry))) phase ⌝ }
+    ensures same { λ q. ⌜ q ≡ smsSeen (together small (now (text .entry)) (now (picture .entry)) (now (frame .entry))) phase ⌝ }
 {
-    let ok = in_range_lent(small, text, picture, bytes);
+    let ok = in_range_lent(small, text, picture, frame);
     if !ok {
         return SmsSeen {
             number: Number::FieldOutOfRange,
@@ -157,13 +141,13 @@ pub fn sms_seen(r: Record, phase: Phase) -> SmsSeen
 
 pub fn volume_seen_lent<'a>(
     small: Small,
-    text: &'a [u8; 104],
-    picture: &'a [u8; 672],
-    bytes: &'a [u8; 250],
+    text: &'a Text,
+    picture: &'a Picture,
+    frame: &'a FrameBytes,
 ) -> VolumeSeen
-    ensures same { λ q. ⌜ q ≡ volumeSeen (together small (now (text .entry)) (now (picture .entry)) (now (bytes .entry))) ⌝ }
+    ensures same { λ q. ⌜ q ≡ volumeSeen (together small (now (text .entry)) (now (picture .entry)) (now (frame .entry))) ⌝ }
 {
-    let ok = in_range_lent(small, text, picture, bytes);
+    let ok = in_range_lent(small, text, picture, frame);
     if !ok {
         return VolumeSeen {
             number: Number::FieldOutOfRange,
@@ -185,138 +169,6 @@ pub fn volume_seen(r: Record) -> VolumeSeen
     volume_seen_lent(small, &r.text, &r.picture, &r.frame.bytes)
 }
 
-fn in_rocker(column: u8) -> bool
-    ensures { λ b. ⌜ b ≡ isRocker column ⌝ }
-{
-    (ROCKER <= column) & (column < RIGHT_LABEL)
-}
-
-// The rows of each overlay's picture.
-fn picture_covers(overlay: u8, row: u8) -> bool
-    ensures { λ b. ⌜ b ≡ covers overlay row ⌝ }
-{
-    ((overlay == 11) & (1 <= row) & (row <= 4))
-        | ((overlay == 12) & (row <= 4))
-        | ((overlay == 13) & (row <= 6))
-        | ((overlay == 14) & (1 <= row) & (row <= 6))
-        | ((overlay == 15) & (row <= 6))
-        | ((overlay == 16) & (1 <= row) & (row <= 2))
-        | ((overlay == 17) & (3 <= row) & (row <= 4))
-        | ((overlay == 18) & (5 <= row) & (row <= 6))
-}
-
-fn leaves_rocker(overlay: u8, row: u8) -> bool
-    ensures { λ b. ⌜ b ≡ leavesRocker overlay row ⌝ }
-{
-    (row == LABELS_ROW) & ((overlay == 14) | (overlay == 15) | (overlay == 18))
-}
-
-fn covered_at(s: Screen, row: u8, column: u8) -> bool
-    ensures { λ b. ⌜ b ≡ covered s row column ⌝ }
-{
-    picture_covers(s.overlay, row) & !(leaves_rocker(s.overlay, row) & in_rocker(column))
-}
-
-fn bar_at(s: Screen, row: u8) -> bool
-    ensures { λ b. ⌜ b ≡ underBar s row ⌝ }
-{
-    (row == 0)
-        & ((s.overlay == 11)
-            | (s.overlay == 14)
-            | (s.overlay == 16)
-            | (s.overlay == 17)
-            | (s.overlay == 18)
-            | ((s.overlay == 0) & ((s.mode <= 1) | (s.mode == LARGE))))
-}
-
-fn labels_at(s: Screen, row: u8, column: u8) -> bool
-    ensures { λ b. ⌜ b ≡ underLabels s row column ⌝ }
-{
-    (row == LABELS_ROW)
-        & ((s.overlay == 0)
-            | (s.overlay == 11)
-            | (s.overlay == 12)
-            | (s.overlay == 16)
-            | (s.overlay == 17)
-            | (leaves_rocker(s.overlay, row) & in_rocker(column)))
-}
-
-// The rows that each overlay leaves to the text mode.
-fn of_text_mode(overlay: u8, row: u8) -> bool
-    ensures { λ b. ⌜ b ≡ ofTextMode overlay row ⌝ }
-{
-    ((overlay == 0) & (row <= 4))
-        | ((overlay == 16) & (3 <= row) & (row <= 4))
-        | ((overlay == 17) & (1 <= row) & (row <= 2))
-        | ((overlay == 18) & (1 <= row) & (row <= 4))
-}
-
-fn first_text_row(mode: u8) -> u8
-    ensures { λ n. ⌜ n ≡ firstTextRow mode ⌝ }
-{
-    if mode <= 1 {
-        return 1;
-    }
-    0
-}
-
-fn text_at(s: Screen, row: u8) -> bool
-    ensures { λ b. ⌜ b ≡ underText s row ⌝ }
-{
-    let first = first_text_row(s.mode);
-    of_text_mode(s.overlay, row) & (s.mode != LARGE) & (first <= row)
-}
-
-fn small_at(s: Screen, row: u8) -> bool
-    ensures { λ b. ⌜ b ≡ underSmall s row ⌝ }
-{
-    of_text_mode(s.overlay, row) & (s.mode == LARGE) & (row == 1)
-}
-
-fn big_at(s: Screen, row: u8) -> bool
-    ensures { λ b. ⌜ b ≡ underBig s row ⌝ }
-{
-    of_text_mode(s.overlay, row) & (s.mode == LARGE) & (2 <= row) & (row <= 3)
-}
-
-fn owner_of(s: Screen, row: u8, column: u8) -> Owner
-    ensures { λ o. ⌜ o ≡ ownerOn s row column ⌝ }
-{
-    if !s.display {
-        return Owner::Nothing;
-    }
-    if covered_at(s, row, column) {
-        return Owner::PictureRow(row);
-    }
-    if bar_at(s, row) {
-        return Owner::IconBar;
-    }
-    if labels_at(s, row, column) {
-        return Owner::SoftKeys;
-    }
-    if text_at(s, row) {
-        let first = first_text_row(s.mode);
-        return Owner::TextRow(row - first);
-    }
-    if small_at(s, row) {
-        return Owner::SmallLine;
-    }
-    if big_at(s, row) {
-        return Owner::BigLine(row - 2);
-    }
-    Owner::Nothing
-}
-
-// The columns of a row have one owner, that of the first, but for a picture with the rocker in it.
-fn owner_of_row(s: Screen, row: u8) -> Owner
-    ensures { λ o. ⌜ o ≡ ownerOfRow s row ⌝ }
-{
-    if s.display & leaves_rocker(s.overlay, row) {
-        return Owner::PictureWithRocker(row);
-    }
-    owner_of(s, row, 0)
-}
-
 // Fills `to` with what stands in `cells` from place `at` on.
 fn fill(to: &mut [u8], cells: &[u8], at: usize)
     requires { ⌜ at + length (now to) ≤ length (now cells) ⌝ }
@@ -329,7 +181,7 @@ fn fill(to: &mut [u8], cells: &[u8], at: usize)
     }
 }
 
-fn text_row(text: &[u8; 104], n: u8) -> [u8; 16]
+fn text_row(text: &Text, n: u8) -> [u8; 16]
     requires { ⌜ n < 5 ⌝ }
     ensures { λ codes. ⌜ codes ≡ rowOf 16 (now (text .entry)) n ⌝ }
 {
@@ -347,7 +199,7 @@ fn mark_of(p: Settings, n: u8) -> bool
     marks[n as usize]
 }
 
-fn picture_row(picture: &[u8; 672], n: u8) -> [u8; 96]
+fn picture_row(picture: &Picture, n: u8) -> [u8; 96]
     requires { ⌜ n < 7 ⌝ }
     ensures { λ columns. ⌜ columns ≡ rowOf 96 (now (picture .entry)) n ⌝ }
 {
@@ -357,7 +209,7 @@ fn picture_row(picture: &[u8; 672], n: u8) -> [u8; 96]
 }
 
 // A picture row with zero in the columns of the rocker panel.
-fn picture_around_rocker(picture: &[u8; 672], n: u8) -> [u8; 96]
+fn picture_around_rocker(picture: &Picture, n: u8) -> [u8; 96]
     requires { ⌜ n < 7 ⌝ }
     ensures { λ columns. ⌜ columns ≡ aroundRocker (rowOf 96 (now (picture .entry)) n) ⌝ }
 {
@@ -386,7 +238,7 @@ fn codes_in(text: &[u8], column: u8) -> u8
 }
 
 // How many of them are small: all but the last eight.
-fn small_count(text: &[u8; 104], column: u8) -> u8
+fn small_count(text: &Text, column: u8) -> u8
     ensures { λ n. ⌜ n ≡ smallIn column (lineOf (now (text .entry))) ⌝ }
 {
     let count = codes_in(text, column);
@@ -397,7 +249,7 @@ fn small_count(text: &[u8; 104], column: u8) -> u8
 }
 
 // From here on the text is read as a slice: of a slice a proof knows the length, of a lent array it does not.
-fn small_line(text: &[u8; 104], column: u8) -> [u8; 16]
+fn small_line(text: &Text, column: u8) -> [u8; 16]
     requires { ⌜ column ≤ 24 ⌝ }
     ensures { λ codes. ⌜ codes ≡ smallCells column (lineOf (now (text .entry))) ⌝ }
 {
@@ -408,7 +260,7 @@ fn small_line(text: &[u8; 104], column: u8) -> [u8; 16]
     codes
 }
 
-fn big_line(text: &[u8; 104], column: u8) -> [u8; 16]
+fn big_line(text: &Text, column: u8) -> [u8; 16]
     requires { ⌜ column ≤ 24 ⌝ }
     ensures { λ codes. ⌜ codes ≡ padded 16 (bigCells column (lineOf (now (text .entry)))) ⌝ }
 {
@@ -425,22 +277,29 @@ fn no_columns() -> [u8; 96]
     [0u8; 96]
 }
 
+fn no_bar() -> Bar
+    ensures { λ bar. ⌜ bar ≡ noBar ⌝ }
+{
+    Bar {
+        f: 0,
+        p: 0,
+        r: 0,
+        sms: SmsPanel::Nothing,
+        volume: VolumePanel::Nothing,
+    }
+}
+
 fn nothing_seen(number: Number) -> Row
     ensures { λ q. ⌜ q ≡ nothingSeen number ⌝ }
 {
     let columns = no_columns();
+    let bar = no_bar();
     Row {
         number: number,
         owner: Owner::Nothing,
         codes: [0u8; 16],
         columns: columns,
-        bar: Bar {
-            f: 0,
-            p: 0,
-            r: 0,
-            sms: SmsPanel::Nothing,
-            volume: VolumePanel::Nothing,
-        },
+        bar: bar,
         labels: Labels {
             left: Label {
                 len: 0,
@@ -484,8 +343,8 @@ fn labels_of(p: Settings) -> Labels
 
 fn contents_of<'a>(
     p: Settings,
-    text: &'a [u8; 104],
-    picture: &'a [u8; 672],
+    text: &'a Text,
+    picture: &'a Picture,
     phase: Phase,
     owner: Owner,
 ) -> Row
@@ -558,22 +417,22 @@ fn contents_of<'a>(
     }
 }
 
-// Row 0 is the top one. A row above 6 is refused, a bad record before it. The icon bar has the SMS panel, which goes by the phase.
+// Row 0 is the top one. A row above the last is refused, a bad record before it. The icon bar has the SMS panel, which goes by the phase.
 pub fn row_seen_lent<'a>(
     small: Small,
-    text: &'a [u8; 104],
-    picture: &'a [u8; 672],
-    bytes: &'a [u8; 250],
+    text: &'a Text,
+    picture: &'a Picture,
+    frame: &'a FrameBytes,
     row: u8,
     phase: Phase,
 ) -> Row
-    ensures same { λ q. ⌜ q ≡ rowSeen (together small (now (text .entry)) (now (picture .entry)) (now (bytes .entry))) row phase ⌝ }
+    ensures same { λ q. ⌜ q ≡ rowSeen (together small (now (text .entry)) (now (picture .entry)) (now (frame .entry))) row phase ⌝ }
 {
-    let ok = in_range_lent(small, text, picture, bytes);
+    let ok = in_range_lent(small, text, picture, frame);
     if !ok {
         return nothing_seen(Number::FieldOutOfRange);
     }
-    if 6 < row {
+    if LAST_ROW < row {
         return nothing_seen(Number::NotListed);
     }
     let owner = owner_of_row(small.settings.screen, row);
@@ -591,23 +450,18 @@ pub fn row_seen(r: Record, row: u8, phase: Phase) -> Row
 fn no_place(number: Number) -> ColumnSeen
     ensures { λ q. ⌜ q ≡ noPlace number ⌝ }
 {
+    let bar = no_bar();
     ColumnSeen {
         number: number,
         owner: Owner::Nothing,
         shown: Shown::Nothing,
-        bar: Bar {
-            f: 0,
-            p: 0,
-            r: 0,
-            sms: SmsPanel::Nothing,
-            volume: VolumePanel::Nothing,
-        },
+        bar: bar,
         inverse: false,
     }
 }
 
 fn soft_key_at(labels: Labels, column: u8) -> Shown
-    requires { ⌜ column ≤ 95 ⌝ }
+    requires { ⌜ column ≤ lastColumn ⌝ }
     ensures { λ s. ⌜ s ≡ softKeyAt labels column ⌝ }
 {
     if column < ROCKER {
@@ -622,7 +476,7 @@ fn soft_key_at(labels: Labels, column: u8) -> Shown
 }
 
 // Cell `cell` of the small codes of the large line.
-fn small_cell(text: &[u8; 104], column: u8, cell: u8) -> u8
+fn small_cell(text: &Text, column: u8, cell: u8) -> u8
     requires { ⌜ (column ≤ 24) × (cell < 16) ⌝ }
     ensures { λ b. ⌜ b ≡ getD (smallCells column (lineOf (now (text .entry)))) cell 0 ⌝ }
 {
@@ -634,7 +488,7 @@ fn small_cell(text: &[u8; 104], column: u8, cell: u8) -> u8
 }
 
 // Cell `cell` of the big ones.
-fn big_cell(text: &[u8; 104], column: u8, cell: u8) -> u8
+fn big_cell(text: &Text, column: u8, cell: u8) -> u8
     requires { ⌜ (column ≤ 24) × (cell < 8) ⌝ }
     ensures { λ b. ⌜ b ≡ getD (bigCells column (lineOf (now (text .entry)))) cell 0 ⌝ }
 {
@@ -645,12 +499,12 @@ fn big_cell(text: &[u8; 104], column: u8, cell: u8) -> u8
 
 fn shown_at<'a>(
     p: Settings,
-    text: &'a [u8; 104],
-    picture: &'a [u8; 672],
+    text: &'a Text,
+    picture: &'a Picture,
     column: u8,
     owner: Owner,
 ) -> Shown
-    requires { ⌜ (placed owner ≡ true) × (p .screen .column ≤ 24) × (column ≤ 95) ⌝ }
+    requires { ⌜ (placed owner ≡ true) × (p .screen .column ≤ 24) × (column ≤ lastColumn) ⌝ }
     ensures { λ s. ⌜ Showing p (now (text .entry)) (now (picture .entry)) (λ r. s ≡ shownAt r column owner) ⌝ }
 {
     match owner {
@@ -670,13 +524,7 @@ fn bar_at_place(p: Settings, phase: Phase, owner: Owner) -> Bar
 {
     match owner {
         Owner::IconBar => bar_of(p, phase),
-        _ => Bar {
-            f: 0,
-            p: 0,
-            r: 0,
-            sms: SmsPanel::Nothing,
-            volume: VolumePanel::Nothing,
-        },
+        _ => no_bar(),
     }
 }
 
@@ -690,23 +538,23 @@ fn inverse_at(p: Settings, owner: Owner) -> bool
     }
 }
 
-// Row 0 is the top one, column 0 the left one. A row above 6 or a column above 95 is refused, a bad record before it.
+// Row 0 is the top one, column 0 the left one. A row or a column above the last is refused, a bad record before it.
 pub fn column_seen_lent<'a>(
     small: Small,
-    text: &'a [u8; 104],
-    picture: &'a [u8; 672],
-    bytes: &'a [u8; 250],
+    text: &'a Text,
+    picture: &'a Picture,
+    frame: &'a FrameBytes,
     row: u8,
     column: u8,
     phase: Phase,
 ) -> ColumnSeen
-    ensures same { λ q. ⌜ q ≡ columnSeen (together small (now (text .entry)) (now (picture .entry)) (now (bytes .entry))) row column phase ⌝ }
+    ensures same { λ q. ⌜ q ≡ columnSeen (together small (now (text .entry)) (now (picture .entry)) (now (frame .entry))) row column phase ⌝ }
 {
-    let ok = in_range_lent(small, text, picture, bytes);
+    let ok = in_range_lent(small, text, picture, frame);
     if !ok {
         return no_place(Number::FieldOutOfRange);
     }
-    if (6 < row) | (95 < column) {
+    if (LAST_ROW < row) | (LAST_COLUMN < column) {
         return no_place(Number::NotListed);
     }
     let owner = owner_of(small.settings.screen, row, column);

@@ -275,7 +275,7 @@ row-fits mode row = cases (leb mode 1) (eqb mode large)
 -- the cursor of a core in range is at a place of the text, or at the end of its row
 pub in-place : {p : Settings} {t g : List ℕ} → CoreInRange (core p t g) → InRow (rowStartOf (p .screen .mode) (p .screen .row)) (p .screen .column) (rowEndOf (p .screen .mode))
 in-place {p} k =
-    let e = both {a = ltb (p .screen .row) (rowsOf (p .screen .mode))} (k .cursor) in
+    let e = both {a = ltb (p .screen .row) (rowsOf (p .screen .mode))} (k .settings .screen .cursor) in
     record { within = leb-true (p .screen .column) (rowEndOf (p .screen .mode)) (e .1); kept = row-fits (p .screen .mode) (p .screen .row) (e .0) }
 
 -- A run of text bytes in a row that begins at `start` and ends at `end`: wherever the loop stood before it, it stands after it ---------------

@@ -9,23 +9,20 @@ ghost use Rattle.stream.specs.Turns.{Stores};
 ghost use Rattle.stream.specs.Stream.{InRow, columnAfter, textAfter, lentOf, standing, fedOf, answersAfter, Ready, Closes, Reads};
 use answer::Answer;
 use effect::Obeyed;
+use lists::BLANK;
+use lists::CARRIAGE_RETURN;
+use lists::ESCAPE;
+use record::FrameBytes;
+use record::LONGEST_FRAME;
+use record::NO_FRAME;
 use record::Number;
+use record::OPEN;
+use record::OVERLONG;
+use record::Picture;
 use record::Record;
 use record::Settings;
 use record::Small;
-
-const ESCAPE: u8 = 0x1B;
-
-const CARRIAGE_RETURN: u8 = 0x0D;
-
-const BLANK: u8 = 0x20;
-
-// The three states of the record's frame.
-const NO_FRAME: u8 = 0;
-
-const OPEN: u8 = 1;
-
-const OVERLONG: u8 = 2;
+use record::Text;
 
 pub struct Fed {
     pub number: Number,
@@ -58,7 +55,7 @@ fn wide(b: u8) -> usize
 }
 
 // A text byte is stored at the cursor: the column after it. At the row's end it is dropped.
-fn store(text: &mut [u8; 104], start: usize, column: u8, end: u8, b: u8) -> u8
+fn store(text: &mut Text, start: usize, column: u8, end: u8, b: u8) -> u8
     requires { ⌜ InRow start column end ⌝ }
     ensures { λ r. ⌜ (r ≡ columnAfter end column) × (r ≤ end) × (now (text .exit) ≡ textAfter end (now (text .entry)) start column b) ⌝ }
 {
@@ -76,14 +73,7 @@ struct Run {
 }
 
 // Stores the text byte at a place and all that follow it at once: most of a stream is text, and this loop is short.
-fn store_all(
-    text: &mut [u8; 104],
-    start: usize,
-    column: u8,
-    end: u8,
-    bytes: &[u8],
-    from: usize,
-) -> Run
+fn store_all(text: &mut Text, start: usize, column: u8, end: u8, bytes: &[u8], from: usize) -> Run
     requires { ⌜ InRow start column end × (from < length (now bytes)) × (blank ≤ getD (now bytes) from 0) ⌝ }
     ensures { λ r. ⌜ (from < r .at) × (Stores start end column (now (text .entry)) (now (bytes .entry)) from (r .at) (r .column) (now (text .exit))) ⌝ }
 {
@@ -109,8 +99,8 @@ fn store_all(
 // CR in a frame: a whole one is obeyed, if it is good. One that is not, and an overlong one, gets a question mark.
 fn close(
     settings: Settings,
-    text: &mut [u8; 104],
-    picture: &mut [u8; 672],
+    text: &mut Text,
+    picture: &mut Picture,
     frame: &[u8],
     state: u8,
 ) -> Obeyed
@@ -128,8 +118,8 @@ fn close(
 // Reads bytes until they end or an answer has no room.
 fn read(
     mut settings: Settings,
-    text: &mut [u8; 104],
-    picture: &mut [u8; 672],
+    text: &mut Text,
+    picture: &mut Picture,
     frame: &mut [u8],
     mut state: u8,
     mut len: usize,
@@ -214,7 +204,7 @@ fn read(
             i += 1;
             continue;
         }
-        if len < 250 {
+        if len < LONGEST_FRAME {
             frame[len] = b;
             len += 1;
             i += 1;
@@ -236,9 +226,9 @@ fn read(
 // The stream call on lent arrays, for any record at all.
 pub fn feed_lent(
     small: Small,
-    text: &mut [u8; 104],
-    picture: &mut [u8; 672],
-    frame: &mut [u8; 250],
+    text: &mut Text,
+    picture: &mut Picture,
+    frame: &mut FrameBytes,
     bytes: &[u8],
     answers: &mut [u8],
 ) -> FedLent

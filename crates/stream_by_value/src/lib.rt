@@ -4,13 +4,16 @@ ghost use lib.ListN.{length};
 ghost use Rattle.record.specs.Parts.{together};
 ghost use Rattle.stream.specs.Stream.{fedOf, answersAfter};
 use record::Frame;
+use record::FrameBytes;
+use record::Picture;
 use record::Record;
 use record::Small;
+use record::Text;
 use stream::Fed;
 
 // The record put together of its small fields and its arrays.
-pub fn whole(small: Small, text: [u8; 104], picture: [u8; 672], bytes: [u8; 250]) -> Record
-    ensures same { λ r. ⌜ r ≡ together small text picture bytes ⌝ }
+pub fn whole(small: Small, text: Text, picture: Picture, frame: FrameBytes) -> Record
+    ensures same { λ r. ⌜ r ≡ together small text picture frame ⌝ }
 {
     let settings = small.settings;
     let held = small.held;
@@ -22,7 +25,7 @@ pub fn whole(small: Small, text: [u8; 104], picture: [u8; 672], bytes: [u8; 250]
         frame: Frame {
             state: small.state,
             len: small.len,
-            bytes: bytes,
+            bytes: frame,
         },
     }
 }

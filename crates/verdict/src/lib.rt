@@ -7,9 +7,7 @@ ghost use Rattle.verdict.specs.Verdict.{byNumber, byOrder, verdictOf};
 use command::PictureFrame;
 use command::Reading;
 use numeral::Numeral;
-
-// The last picture row.
-const LAST_ROW: u8 = 6;
+use record::LAST_ROW;
 
 // A bad frame gets a question mark. A good one with a number out of range is passed over, and the first such number is told; any other
 // is obeyed.

@@ -8,19 +8,15 @@ ghost use lib.ListN.{length};
 use command::Command;
 use command::Side;
 use libc::STDERR_FILENO;
+use lists::BLANK;
+use lists::CARRIAGE_RETURN;
+use lists::LINE_FEED;
 use numeral::Numeral;
 use numeral::read_number;
+use picture::MOST_COLUMNS;
 use program::Input;
 use record::Number;
 use writer::Written;
-
-const BLANK: u8 = b' ';
-
-const LINE_FEED: u8 = b'\n';
-
-const CARRIAGE_RETURN: u8 = b'\r';
-
-const LOWEST_CODE: u8 = 0x20;
 
 // Past every place of a line, and past every count of digits; it is odd, as no count of whole columns is.
 const NOWHERE: usize = 0xFFFF_FFFF_FFFF_FFFF;
@@ -31,9 +27,7 @@ const NO_NUMBER: u16 = 1000;
 // The sign of no phrase.
 const NO_PHRASE: u8 = 0;
 
-const LAST_ROW: u16 = 6;
-
-const MOST_COLUMNS: usize = 96;
+const LAST_ROW: u16 = record::LAST_ROW as u16;
 
 // Nothing says that the input ends, so its pieces are counted down.
 const MOST_PIECES: u64 = 0xFFFF_FFFF_FFFF_FFFF;
@@ -126,7 +120,7 @@ fn send_row(row: u8, columns: &[u8]) -> Outcome {
 // A text goes out as it is.
 fn send_text(s: &[u8]) -> Outcome {
     for i in 0..s.len() {
-        if s[i] < LOWEST_CODE {
+        if s[i] < BLANK {
             return Outcome::BadText;
         }
     }

@@ -16,17 +16,14 @@ ghost use Rattle.writer.specs.Lines.{held, Added, planBody};
 use command::Command;
 use command::Side;
 use command_ranges::in_range;
+use lists::CARRIAGE_RETURN;
+use lists::ESCAPE;
+use lists::LINE_FEED;
 use numeral::digits_of;
 use picture_writer::write_data;
 use record::Number;
 use writer_ranges::label_in_range;
 use writer_ranges::row_in_range;
-
-const ESCAPE: u8 = 0x1B;
-
-const CARRIAGE_RETURN: u8 = 0x0D;
-
-const LINE_FEED: u8 = 0x0A;
 
 // A writer knows no text mode: it takes the cursor rows and marks of the mode that has most.
 const MOST_ROWS: u8 = 5;

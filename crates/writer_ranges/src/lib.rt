@@ -2,17 +2,11 @@
 ghost use mathlib.Core.Path.{_≡_};
 ghost use Rattle.lists.specs.Every.{every};
 ghost use Rattle.writer_ranges.specs.Fitting.{isLabel, isRow, testOf};
-
-const LOWEST_CODE: u8 = 0x20;
-
-const LONGEST_LABEL: usize = 7;
-
-const MOST_COLUMNS: usize = 96;
-
-const LAST_ROW: u8 = 6;
-
-// The last picture row has five dots in a column, so its columns stay below this.
-const LOW_COLUMN_END: u8 = 32;
+use lists::BLANK;
+use picture::MOST_COLUMNS;
+use record::LAST_ROW;
+use record::LONGEST_LABEL;
+use record::LOW_COLUMN_END;
 
 // What a lent slice is made of.
 enum Kind {
@@ -24,7 +18,7 @@ fn passes(kind: Kind, b: u8) -> bool
     ensures { λ r. ⌜ r ≡ testOf kind b ⌝ }
 {
     match kind {
-        Kind::LabelCode => LOWEST_CODE <= b,
+        Kind::LabelCode => BLANK <= b,
         Kind::LowColumn => b < LOW_COLUMN_END,
     }
 }

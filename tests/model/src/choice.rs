@@ -4,7 +4,7 @@
 //! and there the first rule. No record is taken: what the rules ask of a frame
 //! rests on its bytes alone.
 
-use crate::grammar::{Command, Spelt};
+use crate::grammar::Spelt;
 use crate::record::LARGE;
 use crate::stream::{good, parting, Part};
 
@@ -32,11 +32,7 @@ pub fn pieces(stream: &[u8]) -> Vec<Piece> {
                 Part::Closed(body) => good(body),
                 _ => None,
             };
-            Piece {
-                part,
-                good,
-                place: std::mem::replace(&mut place, behind),
-            }
+            Piece { part, good, place: std::mem::replace(&mut place, behind) }
         })
         .collect()
 }
@@ -45,14 +41,12 @@ impl Piece {
     /// The n of a good IDn frame, in range or not.
     pub fn mode(&self) -> Option<u16> {
         let good = self.good.as_ref()?;
-        (good.command == Command::Mode).then(|| good.numbers[0])
+        good.is("Mode").then(|| good.numbers[0])
     }
 
     /// Whether it sets a text mode.
     pub fn sets_text_mode(&self) -> bool {
-        [0, 1, 5, 6, u16::from(LARGE)]
-            .map(Some)
-            .contains(&self.mode())
+        [0, 1, 5, 6, u16::from(LARGE)].map(Some).contains(&self.mode())
     }
 
     /// Whether the labels must stand when it comes.
@@ -70,18 +64,18 @@ impl Piece {
     }
 
     /// What it leaves in a label: codes, none, or (no answer) what was there.
-    pub fn leaves(&self, side: Command) -> Option<&[u8]> {
+    pub fn leaves(&self, side: &str) -> Option<&[u8]> {
         let good = self.good.as_ref()?;
-        match good.command {
-            Command::LabelsEmpty => Some(&[]),
-            command if command == side => Some(&good.codes),
+        match good.command.name {
+            "LabelsEmpty" => Some(&[]),
+            name if name == side => Some(&good.codes),
             _ => None,
         }
     }
 }
 
 /// Whether these pieces set a label, and leave it with codes.
-pub fn sets(pieces: &[Piece], side: Command) -> bool {
+pub fn sets(pieces: &[Piece], side: &str) -> bool {
     let last = pieces.iter().rev().find_map(|piece| piece.leaves(side));
     last.is_some_and(|codes| !codes.is_empty())
 }
@@ -104,7 +98,7 @@ fn without_labels(pieces: &[Piece], length: usize) -> Vec<usize> {
             let since = &pieces[at + 1..];
             let next = since.iter().position(Piece::looks);
             let stretch = &since[..next.unwrap_or(since.len())];
-            let both = [Command::LeftLabel, Command::RightLabel].map(|side| sets(stretch, side));
+            let both = ["LeftLabel", "RightLabel"].map(|side| sets(stretch, side));
             let offset = next.map_or(length, |next| since[next].place);
             (both != [true; 2]).then_some(offset)
         })
@@ -120,20 +114,9 @@ pub fn all_broken(stream: &[u8]) -> Vec<Broken> {
         no_first_screen(&pieces).into_iter().collect(),
         without_labels(&pieces, stream.len()),
         marked.map(|piece| piece.place).collect(),
-        pieces
-            .iter()
-            .filter(open)
-            .map(|piece| piece.place)
-            .collect(),
+        pieces.iter().filter(open).map(|piece| piece.place).collect(),
     ];
-    (1..)
-        .zip(places)
-        .flat_map(|(rule, places)| {
-            places
-                .into_iter()
-                .map(move |offset| Broken { rule, offset })
-        })
-        .collect()
+    (1..).zip(places).flat_map(|(rule, places)| places.into_iter().map(move |offset| Broken { rule, offset })).collect()
 }
 
 /// What is wrong with a stream. None: yes, it keeps all rules.

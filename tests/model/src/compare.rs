@@ -40,9 +40,7 @@ impl Drop for Folder {
 fn run(words: &[String], folder: &Folder, input: &[u8]) -> Result<Vec<u8>, String> {
     let text = |error: std::io::Error| error.to_string();
     let [script, output, errors] = ["script", "output", "errors"].map(|name| folder.file(name));
-    File::create(&script)
-        .and_then(|mut file| file.write_all(input))
-        .map_err(text)?;
+    File::create(&script).and_then(|mut file| file.write_all(input)).map_err(text)?;
     let mut child = Command::new(&words[0])
         .args(&words[1..])
         .stdin(Stdio::from(File::open(&script).map_err(text)?))
@@ -69,10 +67,7 @@ fn run(words: &[String], folder: &Folder, input: &[u8]) -> Result<Vec<u8>, Strin
         let said = std::fs::read(&errors).unwrap_or_default();
         let said = String::from_utf8_lossy(&said);
         let lines = bytes.split(|&b| b == LF).count().saturating_sub(1);
-        return Err(format!(
-            "ended with {status} after {lines} lines of answer: {}",
-            short(said.trim().as_bytes())
-        ));
+        return Err(format!("ended with {status} after {lines} lines of answer: {}", short(said.trim().as_bytes())));
     }
     Ok(bytes)
 }
@@ -92,13 +87,7 @@ fn place_of_difference(a: &[u8], b: &[u8]) -> usize {
 }
 
 /// Compares one script. None: no difference.
-pub fn script_differs(
-    words: &[String],
-    folder: &Folder,
-    seed: u64,
-    calls: usize,
-    kinds: &str,
-) -> Option<String> {
+pub fn script_differs(words: &[String], folder: &Folder, seed: u64, calls: usize, kinds: &str) -> Option<String> {
     let text = generate::script(seed, calls, kinds);
     let theirs = match run(words, folder, &text) {
         Ok(theirs) => theirs,
@@ -132,13 +121,8 @@ pub fn script_differs(
         }
     }
     let rest: Vec<&[u8]> = theirs.filter(|line| !line.is_empty()).collect();
-    rest.first().map(|line| {
-        format!(
-            "seed {seed}: {} lines more than the model, the first: {}",
-            rest.len(),
-            short(line)
-        )
-    })
+    rest.first()
+        .map(|line| format!("seed {seed}: {} lines more than the model, the first: {}", rest.len(), short(line)))
 }
 
 /// Compares one listing of the program "list screen".
@@ -156,11 +140,7 @@ pub fn listing_differs(words: &[String], folder: &Folder, seed: u64) -> Option<S
         Err(why) => return Some(format!("seed {seed}: the program {why}")),
     };
     (ours.as_bytes() != theirs).then(|| {
-        format!(
-            "seed {seed}: listing of {} bytes differs\nmodel:\n{ours}program:\n{}",
-            stream.len(),
-            short(&theirs)
-        )
+        format!("seed {seed}: listing of {} bytes differs\nmodel:\n{ours}program:\n{}", stream.len(), short(&theirs))
     })
 }
 

@@ -1,470 +1,421 @@
-//! Counts what random scripts reach, and names what they should reach.
+//! Counts what random scripts reach, and names what they should reach. What
+//! has to do with commands, fields and letters goes by their tables.
 
-use std::collections::BTreeMap;
+use std::collections::HashMap;
 
 use crate::choice::{self, Broken, Piece};
-use crate::effect::LONGEST;
-use crate::generate::{
-    distance, number_commands, BORDERS, DAMAGED, MODES, OVERLAYS, PASSED_OVER, REFUSABLE,
-};
-use crate::grammar::{count_of_numbers, spelt, Command, Spelt, QUESTIONS, SHAPES};
-use crate::keys::{self, KEYS};
+use crate::commands::{self, COMMANDS, LONGEST};
+use crate::fields::*;
+use crate::generate::{self, tried, BORDERS, DAMAGED, MODES, OVERLAYS};
+use crate::grammar::{spelt, Command, Spelt, MOST_ROWS};
+use crate::keys::{self, Edge, KEYS};
 use crate::places::{Found, Kind, Verdict};
-use crate::ranges::faults;
 use crate::record::*;
-use crate::script::{cell, command, letter, words, Answer, Call, COMMANDS, FIELDS};
-use crate::seen::{self, Column, Owner, Phase, PHASES};
+use crate::script::{self, cell, command, command_count, letter, words, Answer, Call, LETTERS};
+use crate::seen::{self, Column, Half, Owner, Phase};
 use crate::stream::{self, Part};
-use crate::{effect, generate};
+
+macro_rules! see {
+    ($cover:expr, $($name:tt)+) => { $cover.add(format!($($name)+)) };
+}
 
 #[derive(Default)]
 pub struct Cover {
-    counts: BTreeMap<String, u64>,
+    counts: HashMap<String, u64>,
+}
+
+/// What scripts should reach. In corners stands what takes the place: words
+/// between strokes, all numbers from one to another, or all that a list has.
+const WANTED: &str = "
+frame <command> obeyed
+frame <ranged> passed over
+<command> obeyed under overlay <overlay>
+<command> obeyed with <the display off|a key held|a mark|a line that isn't blank>
+<placed> obeyed in mode <mode>
+<placed> obeyed in mode <mode> with <the display off|a mark|a line that isn't blank>
+frame <number> with the number 0
+padded zero in <number>
+<1..2> zeros before number 0 of <number>
+<1..2> zeros before number 1 of <two>
+all numbers of <two> padded
+padded <number>, else obeyed
+padded <narrow>, else passed over
+<four digits|a zero and three digits> in <number>
+writer <written> <0|3>
+writer <written with numbers> 2
+answer <F|N|C|H|B|M|V|R> <0|1>
+answer K <0|1|4|5>
+answer <Q|U> <0|1|4>
+answer <W|T|G> <0|2|3>
+refused <R|F|N|K|C|H|Q|U|M|V> for <refusable> alone
+refused B for <backlight mode|duration|left> alone
+field <field> set at its <first|last> place
+field <flag> set to <0|1|2 or more>
+field inverse mark place <0..4> set to <0|1>
+row 4 refused in mode <0|1>
+row 5 refused in mode <5|6>
+row 1 refused in mode 10
+column 17 refused in mode <0|1|5|6>
+column 25 refused in mode 10
+column 16 in range in mode <0|1|5|6>
+column 24 in range in mode 10
+frame <length|bytes> wrong in state <0..2>
+key <key> <short at release|long at poll|long at release>
+key <repeating key> repeat
+rule <rule>
+<short poll|long poll|short release> <one below|at|one above> the threshold
+elapsed runs over
+poll of a long key <without repeat code|with Time2 0>
+poll at 120 of a long key with times 12;0: nothing
+poll at 120 of a long key with times 12;12: a code
+poll at 119 of a long key with times 12;12: nothing
+press while a key is held
+release of a key not held
+poll with none held
+press restarts the light
+empty log
+log and bad edge past the stop
+unequal lengths and a bad edge
+log stops at a <poll|release>
+<power-on|former power-on> <from itself|from the other|in range|out of range>
+key log right after <power-on|former power-on>
+second <at left 0|at left 1|lowers left>
+a line that can't be taken
+an empty line
+line <M|Q|U> with <no phase|a byte behind the phase|phase 2|another phase that is none>
+line S one place behind <field>
+line N with 32767 bytes
+line H with 3 bytes
+row <0..6> in mode <mode> overlay <overlay>
+column of row <0..6> in mode <mode> overlay <overlay>
+<panel|icon bar|icon bar by its column> with U <0|1|255> S <0|1> in the phase <Lit|Pause>
+row <0..6> in the phase <Lit|Pause>
+sms <0..2>
+volume panel <0..3>
+volume level <1..10>
+owner <0..8>
+column owner <0..8>
+column <border> of row 5 under overlay <overlay>
+<first|last> column of <text|small> cell <0..15>
+<first|last> column of <upper|lower> big cell <0..7>
+<first|last> column of <left|right> label cell <0..6>
+<first|last> column of <left|right> label cell <0..6>, empty
+rocker <0..3> <by its column|beside a picture>
+U of row <6|7> and column <95|96>
+U 4 for <the row alone|the column alone|both>
+U 1 with a row or column that is none
+picture row with the rocker, not blank below it
+column of a display off
+display off asked
+display off with a mark
+line of <0..24> codes by row <1..3>
+line of <0..24> codes by a column of row <1..3>
+codes of the line counted by <the cursor|the last code|both>
+ID<screen> obeyed in mode <mode>
+ID<screen> obeyed with a line that isn't blank
+ID<mode> obeyed with a mark
+text to the large line under overlay <overlay>
+cursor frame 0;0 in mode 10
+cursor frame in mode 10, else <obeyed|passed over>
+[K at column <0..16> in mode <0|1|5|6>
+[K at column <0..24> in mode 10
+[K blanks from column <0..15> in mode <0|1|5|6>
+[K blanks from column <0..23> in mode 10
+[K in row <0..3> in mode <mode with rows>
+[K in row 4 in mode <5|6>
+[K in row 0 in mode 10
+[K of blanks in mode <mode>
+mark <0..4> seen by <row|column>
+text row <0..4> seen beside another's mark
+IZ<1..5> <to the same mark|to a row with another marked|with none marked>
+IZ0 with <mark 0|mark 1|mark 2|mark 3|mark 4|none marked>
+mark 4 not seen in mode <0|1|10>
+owner <0|1|3|4|5|6|7|8> with a mark in the record
+column owner <3..8> with a mark in the record
+three marks and more refused
+stop at <CR|ESC>
+stop at <CR|ESC> of an overlong frame
+stop <with room 0|after some answers>
+room 0 and all used
+room just enough
+room one short
+frame <abandoned|open before the call>
+frame <abandoned overlong|closed overlong|overlong before the call>
+frame closed <empty|with 250 bytes>
+frame outside the grammar
+bad frame <damaged>
+label of zeros
+IK00
+picture row of two digits
+tail <of 0 bytes|of 250 bytes|overlong>
+text <stored|stored in the large line|dropped|dropped behind the large line>
+text stored in <its last place|the last place of the large line>
+byte skipped
+picture frame of 96 columns
+picture frame of row 6 cut to five bits
+label frame of <0|7> codes
+picture of 200 bytes written
+label of 7 codes written
+<asked> stopped <at once|behind an answer>
+<asked> answered behind an answer
+<asked> open before, <answered|stopped>
+<question> <abandoned|left open|open before, spoilt>
+contrast <1..20> told
+<on-hook|off-hook> told
+hook call to <on-hook|off-hook> from <on-hook|off-hook>
+hook call to <on-hook|off-hook> while AskHook waits
+hook call <0|1|2|128|255>
+hook call with a <frame open|frame overlong|key held>
+three answers of several bytes in one call
+a question mark behind a long answer
+stop at ESC behind a long answer
+more than 255 bytes of answers in one call
+stop with room 300
+bound with <frame> and <offered>
+refused N with <frame> and <no bytes|bytes without ESC|ESC alone|some ESC>
+bound <reached|not reached|passed by questions> with <frame>
+bound with <frame>, <1A|1C|0B|3B|5B|9B|0D> and no ESC
+room of the bound, all used, with <frame>
+room of one less than the bound, <all used|stopped>, with <frame>
+bound <0|1|2|3|10|254|255|256|257|4096|4097>
+bound with an open frame of 250 bytes
+room of the bound, stopped by a question
+part <part> <at place 0|asked for at a later place|that ends at 256 or later>
+part <part> behind place 300, asked for there
+part <text|skipped|closed>, then <none|text|skipped|closed|abandoned|tail>
+part abandoned, then <closed|abandoned|tail>
+part tail, then none
+part <closed|abandoned|tail> of <0|1|249|250|251|252> bytes
+part <closed|abandoned|tail> with a good frame in it
+parts from within a frame <closed|abandoned|tail>
+part skipped <00|0A|0D|1A|1C|1F>
+part text <20|7F|80|FF>
+parts of <0|1|4095|4096> bytes
+parts of no bytes from a later place
+parts from <the end|one place past the end|place 65535>
+parts from the <CR of a frame|LF behind a frame|ESC that abandons a frame>
+<parts|choice> with <the record out of range|a frame open in the record>
+a part that ends at 4096
+more than 256 parts
+verdict <bad|passed over|obeyed> in <judged mode>
+verdict of <placed> obeyed in <judged mode>
+verdict of <ranged> passed over in <judged mode>
+verdict of Position passed over in mode 10
+verdict bad of <command> and a byte more
+verdict bad of <capital> in small letters
+verdict bad of <number>, padded
+verdict with a number above 255 of <number>
+verdict of <two> for <the first|the second|both> out of range
+verdict bad of <damaged>
+verdict of <0|249|250|251|4095|4096> bytes
+verdict bad with <1B|0D|0A> in the frame
+verdict passed over for the number <0|999>
+verdict with the record out of range
+verdict in a mode that the record has not
+choice yes
+choice broken by rule <1..4>
+choice broken by rule <1..4> alone
+choice broken by rule <2..4> at 256 or later
+choice broken by rule <3..4> in the first screen
+choice that begins with <no part|text|skipped|bad|abandoned|tail|ID1|ID6|ID10|ID11|ID2>
+choice that begins with <DisplayOff|DisplayOn|LeftLabel>
+choice yes that begins with <ID0|ID5>
+choice yes of <ID0|ID5> alone
+choice yes of <ID0|ID5> with text and no labels
+choice screen <mode> <with|without> labels at <look>
+choice broken for the <left|right> label, <never set|set to nothing|emptied by IK0|set too late>
+choice broken for the <left|right> label, set before the screen alone
+choice yes with the <left|right> label set again
+choice yes with <0..3> later screens
+choice yes with <DisplayOff|DisplayOn|LabelsEmpty|a frame passed over> behind its screen
+choice yes with <question> behind its screen
+choice yes with a skipped byte behind its screen
+choice breaks rule 1 before rule <2..4>
+choice breaks rule 2 before rule <3..4>
+choice breaks rule 3 before rule <2|4>
+choice breaks rule 4 before rule 2
+choice breaks rules 1 and <3..4> at place 0
+choice broken by <an abandoned frame|an empty frame|a frame of 251 bytes|another bad frame>
+choice broken by a tail of <0|1|251> bytes
+choice of <0|1|4096> bytes
+choice yes of 4096 bytes
+choice broken by rule 2 at 4096
+";
+
+/// What is open when the bound is asked for, and what is offered.
+const FRAMES: &str = "no frame|an open frame|an overlong frame";
+const OFFERED: &str = "no bytes|4,096 bytes without ESC|bytes without ESC|4,096 ESC|ESC alone|\
+    one ESC|256 ESC or more|some ESC";
+
+/// What makes the labels of a choice screen be looked at.
+const LOOKS: &str = "text|a text mode|an overlay|an IDn passed over|the end";
+
+/// The list that a word in corners stands for.
+fn list(word: &str) -> Vec<String> {
+    let strings = |list: &[u8]| list.iter().map(u8::to_string).collect();
+    let of = |keep: &dyn Fn(&Command) -> bool| {
+        let kept = COMMANDS.iter().filter(|command| keep(command));
+        kept.map(|command| command.name.to_string()).collect()
+    };
+    let written = |c: &Command| !c.has_rest();
+    // Padded it would be passed over: it has a number out of range below 100.
+    let narrow = |c: &Command| c.ranges().iter().any(|range| range.outside(MOST_ROWS)[0] < 100);
+    // Those that can be spelt in capitals: no small letter is in them.
+    let capital = |c: &Command| {
+        let body = String::from_utf8(c.spell::<u16>(&[], &[])).unwrap_or_default();
+        body.to_uppercase() == body && body.to_lowercase() != body
+    };
+    let names = |keep: &dyn Fn(u16) -> bool| {
+        let kept = (0..FIELDS.len() as u16).filter(|&field| keep(field));
+        kept.map(|field| FIELDS[usize::from(field)].name.to_string()).collect()
+    };
+    let keys = |all: bool| {
+        let kept = KEYS.iter().filter(|(_, _, _, repeat)| all || repeat.is_some());
+        kept.map(|(name, _, _, _)| name.to_string()).collect()
+    };
+    match word {
+        "command" => of(&|_| true),
+        // In some mode no row can be named, and so no frame that names one obeyed.
+        "placed" => of(&|c| c.ranges().iter().all(|range| !range.inside(0).is_empty())),
+        "ranged" => of(&|c| !c.ranges().is_empty()),
+        "number" => of(&Command::has_number),
+        "two" => of(&|c| c.ranges().len() > 1),
+        "narrow" => of(&|c| c.has_number() && narrow(c)),
+        "written" => of(&written),
+        "written with numbers" => of(&|c| written(c) && !c.ranges().is_empty()),
+        "question" => of(&Command::is_question),
+        "capital" => of(&capital),
+        "screen" => generate::numbers_of_mode().iter().map(u16::to_string).collect(),
+        "mode" => strings(&MODES),
+        "mode with rows" => strings(&MODES[..4]),
+        "overlay" => strings(&OVERLAYS),
+        "border" => strings(&BORDERS),
+        "field" => names(&|_| true),
+        "flag" => names(&|field| values(field).len() == 2),
+        "refusable" => names(&|field| refusable().contains(&field)),
+        "key" => keys(true),
+        "repeating key" => keys(false),
+        "rule" => keys::RULES.iter().map(|rule| rule.name.to_string()).collect(),
+        "damaged" => DAMAGED.split('|').map(|form| format!("{form:?}")).collect(),
+        "asked" => ASKED.iter().map(|(name, length)| format!("{name} of {length}")).collect(),
+        "part" => PARTS[1..].iter().map(|kind| kind.word().to_string()).collect(),
+        "judged mode" => [&MODES[..], &[255]].concat().into_iter().map(mode_name).collect(),
+        "frame" => FRAMES.split('|').map(str::to_string).collect(),
+        "offered" => OFFERED.split('|').map(str::to_string).collect(),
+        "look" => LOOKS.split('|').map(str::to_string).collect(),
+        other => vec![other.to_string()],
+    }
+}
+
+/// The questions, each with a length of its answer.
+const ASKED: [(&str, usize); 4] = [("AskContrast", 5), ("AskContrast", 6), ("AskHook", 5), ("AskVersion", LONGEST)];
+
+const PARTS: [Kind; 6] = [Kind::None, Kind::Text, Kind::Skipped, Kind::Closed, Kind::Abandoned, Kind::Tail];
+
+/// The names that a pattern stands for.
+fn expand(pattern: &str) -> Vec<String> {
+    let Some((before, rest)) = pattern.split_once('<') else {
+        return vec![pattern.to_string()];
+    };
+    let (inside, behind) = rest.split_once('>').unwrap_or((rest, ""));
+    let words: Vec<String> = match inside.split_once("..") {
+        Some((from, to)) => {
+            let number = |word: &str| word.parse::<u32>().unwrap_or(0);
+            (number(from)..=number(to)).map(|n| n.to_string()).collect()
+        }
+        None if inside.contains('|') => inside.split('|').map(str::to_string).collect(),
+        None => list(inside),
+    };
+    let rest = expand(behind);
+    let with = |word: &String| rest.iter().map(|rest| format!("{before}{word}{rest}")).collect::<Vec<_>>();
+    words.iter().flat_map(with).collect()
 }
 
 /// Everything that scripts of all kinds should reach.
 pub fn wanted() -> Vec<String> {
-    let mut names: Vec<String> = vec![];
-    for (command, _) in SHAPES {
-        names.push(format!("frame {command:?} obeyed"));
-        if count_of_numbers(command) > 0 {
-            names.push(format!("frame {command:?} passed over"));
-        }
-    }
-    for command in number_commands() {
-        names.push(format!("frame {command:?} with the number 0"));
-        names.push(format!("padded zero in {command:?}"));
-        for zeros in 1..=2 {
-            for place in 0..count_of_numbers(command) {
-                names.push(format!(
-                    "{zeros} zeros before number {place} of {command:?}"
-                ));
+    let mut names: Vec<String> = WANTED.lines().filter(|line| !line.is_empty()).flat_map(expand).collect();
+    let how = |good: bool| if good { "obeyed" } else { "passed over" };
+    for command in COMMANDS.iter() {
+        for (place, range) in command.ranges().into_iter().enumerate() {
+            for n in tried(range).into_iter().filter(|&n| command.has_number() || n < 10) {
+                let (form, good) = (command.form(place, n), range.has(n, MOST_ROWS));
+                names.push(format!("{form} {}", how(good)));
+                if !command.has_rest() {
+                    names.push(format!("{form} {}written", if good { "" } else { "not " }));
+                }
             }
-        }
-        names.push(format!("padded {command:?}, else obeyed"));
-        // A number above 255 has no room for a zero.
-        if ![Command::Buzzer, Command::LightNumber].contains(&command) {
-            names.push(format!("padded {command:?}, else passed over"));
-        }
-        names.push(format!("four digits in {command:?}"));
-        names.push(format!("a zero and three digits in {command:?}"));
-        if count_of_numbers(command) > 1 {
-            names.push(format!("all numbers of {command:?} padded"));
-        }
-    }
-    for number in 0..COMMANDS {
-        let command = command(number);
-        names.push(format!("writer {command:?} 0"));
-        names.push(format!("writer {command:?} 3"));
-        if count_of_numbers(command) > 0 {
-            names.push(format!("writer {command:?} 2"));
-        }
-    }
-    for (letter, numbers) in [
-        ('F', &[0, 1][..]),
-        ('N', &[0, 1]),
-        ('K', &[0, 1, 4, 5]),
-        ('C', &[0, 1]),
-        ('H', &[0, 1]),
-        ('B', &[0, 1]),
-        ('Q', &[0, 1, 4]),
-        ('U', &[0, 1, 4]),
-        ('M', &[0, 1]),
-        ('V', &[0, 1]),
-        ('W', &[0, 2, 3]),
-        ('T', &[0, 2, 3]),
-        ('G', &[0, 2, 3]),
-        ('R', &[0, 1]),
-    ] {
-        names.extend(numbers.iter().map(|n| format!("answer {letter} {n}")));
-    }
-    for field in REFUSABLE {
-        let name = FIELD_NAMES[usize::from(field)];
-        for letter in ['R', 'F', 'N', 'K', 'C', 'H', 'Q', 'U', 'M', 'V'] {
-            names.push(format!("refused {letter} for {name} alone"));
-        }
-    }
-    for field in [25, 26, 27] {
-        let name = FIELD_NAMES[field];
-        names.push(format!("refused B for {name} alone"));
-    }
-    for (key, _, _, repeat) in KEYS {
-        names.push(format!("key {key} short at release"));
-        names.push(format!("key {key} long at poll"));
-        names.push(format!("key {key} long at release"));
-        if repeat.is_some() {
-            names.push(format!("key {key} repeat"));
-        }
-    }
-    for rule in &keys::RULES {
-        names.push(format!("rule {}", rule.name));
-    }
-    for near in ["one below", "at", "one above"] {
-        for what in ["short poll", "long poll", "short release"] {
-            names.push(format!("{what} {near} the threshold"));
-        }
-    }
-    for mode in MODES {
-        for overlay in OVERLAYS {
-            for row in 0..7 {
-                names.push(format!("row {row} in mode {mode} overlay {overlay}"));
-                names.push(format!(
-                    "column of row {row} in mode {mode} overlay {overlay}"
-                ));
+            for (mode, n) in [0, 1, 5, 6, LARGE, 255].into_iter().flat_map(|m| (0..7).map(move |n| (m, n))) {
+                let good = range.has(n, script::rows_of_verdict(mode).into());
+                let (form, how, mode_name) = (command.form(place, n), how(good), mode_name(mode));
+                if range.by_mode() {
+                    names.push(format!("verdict of {form} {how} in {mode_name}"));
+                }
+                if range.by_mode() && mode != 255 {
+                    names.push(format!("{form} {how} in mode {mode}"));
+                }
             }
         }
     }
-    names.extend(wanted_columns());
-    names.extend(wanted_large());
-    names.extend(wanted_questions());
-    names.extend(wanted_bounds());
-    names.extend(wanted_parts());
-    names.extend(wanted_verdicts());
-    names.extend(wanted_choices());
-    names.extend(wanted_marks());
-    for power in ["power-on", "former power-on"] {
-        for before in ["from itself", "from the other", "in range", "out of range"] {
-            names.push(format!("{power} {before}"));
-        }
-        names.push(format!("key log right after {power}"));
-    }
-    for phase in PHASES {
-        for (u, s) in [(0, 0), (0, 1), (1, 0), (1, 1), (255, 0), (255, 1)] {
-            for asked in ["panel", "icon bar", "icon bar by its column"] {
-                names.push(format!("{asked} with U {u} S {s} in the phase {phase:?}"));
+    // A field that stands by itself, at the ends of its range and beside them.
+    for (number, row) in FIELDS.iter().enumerate().filter(|(_, row)| row.rests_on.is_empty()) {
+        let number = number as u16;
+        let ends = ends_of(number);
+        for (value, good) in ends.iter().filter(|_| row.places == 1) {
+            names.push(format!("field {} set to {value}", row.name));
+            if !good {
+                names.push(format!("{} {value} refused", row.name));
             }
         }
-        for row in 0..7 {
-            names.push(format!("row {row} in the phase {phase:?}"));
+        if values(number).len() == 256 && row.places == 1 {
+            names.push(format!("field {} set to 256 or more", row.name));
         }
     }
-    for letter in ['M', 'Q', 'U'] {
-        for fault in [
-            "no phase",
-            "a byte behind the phase",
-            "phase 2",
-            "another phase that is none",
-        ] {
-            names.push(format!("line {letter} with {fault}"));
+    for (one, other) in (0..TEXT_ROWS).flat_map(|other| (0..other).map(move |one| (one, other))) {
+        names.push(format!("marks {one} and {other} refused"));
+    }
+    for (letter, least, more) in LETTERS {
+        // Without bytes a letter may be another call's, or no call's at all.
+        names.extend((0..least).map(|few| format!("line {letter} with {few} bytes")));
+        names.push(format!("line {letter} with {} bytes", least + more + 1));
+    }
+    names.push(format!("line S with field {}", FIELDS.len()));
+    names.push(format!("line W with command {}", command_count()));
+    for (name, length) in ASKED {
+        names.extend((0..length).map(|left| format!("{name} of {length} stopped with {left} left")));
+        names.extend([0, 1].map(|m| format!("{name} of {length} answered with {} left", length + m)));
+    }
+    // Every place where a text row is seen, with its mark.
+    for (mode, overlay) in MODES.into_iter().flat_map(|mode| OVERLAYS.map(|overlay| (mode, overlay))) {
+        let layout = seen::layout(&Record { mode, overlay, ..power_on() });
+        for row in (0..7).filter(|&row| layout[row].is_ascii_digit()) {
+            let place = format!("row {row} in mode {mode} overlay {overlay}");
+            names.push(format!("marked text by {place}"));
+            names.push(format!("marked text by a column of {place}"));
         }
-    }
-    for state in 0..3 {
-        names.push(format!("frame length wrong in state {state}"));
-        names.push(format!("frame bytes wrong in state {state}"));
-    }
-    for (set, value) in [
-        ("sms", 0..3),
-        ("volume panel", 0..4),
-        ("owner", 0..9),
-        ("column owner", 0..9),
-    ] {
-        names.extend(value.map(|n| format!("{set} {n}")));
-    }
-    for level in 1..=10 {
-        names.push(format!("volume level {level}"));
-    }
-    for name in [
-        "a line that can't be taken",
-        "an empty line",
-        "display off asked",
-        "elapsed runs over",
-        "poll of a long key without repeat code",
-        "poll of a long key with Time2 0",
-        "poll at 120 of a long key with times 12;0: nothing",
-        "poll at 120 of a long key with times 12;12: a code",
-        "poll at 119 of a long key with times 12;12: nothing",
-        "press while a key is held",
-        "release of a key not held",
-        "poll with none held",
-        "press restarts the light",
-        "empty log",
-        "log and bad edge past the stop",
-        "unequal lengths and a bad edge",
-        "stop at CR",
-        "stop at CR of an overlong frame",
-        "stop at ESC",
-        "stop at ESC of an overlong frame",
-        "stop with room 0",
-        "stop after some answers",
-        "room 0 and all used",
-        "log stops at a poll",
-        "log stops at a release",
-        "frame abandoned",
-        "frame abandoned overlong",
-        "frame closed overlong",
-        "frame closed with 250 bytes",
-        "frame closed empty",
-        "frame outside the grammar",
-        "label of zeros",
-        "IK00",
-        "picture row of two digits",
-        "frame open before the call",
-        "frame overlong before the call",
-        "tail of 0 bytes",
-        "tail of 250 bytes",
-        "tail overlong",
-        "text stored",
-        "text stored in the large line",
-        "text dropped",
-        "text dropped behind the large line",
-        "text stored in its last place",
-        "text stored in the last place of the large line",
-        "byte skipped",
-        "picture frame of 96 columns",
-        "picture frame of row 6 cut to five bits",
-        "label frame of 7 codes",
-        "label frame of 0 codes",
-        "second at left 0",
-        "second at left 1",
-        "second lowers left",
-        "picture of 200 bytes written",
-        "label of 7 codes written",
-        "room just enough",
-        "room one short",
-    ] {
-        names.push(name.to_string());
     }
     names
 }
 
-/// The column question: borders, cells, refusals.
-fn wanted_columns() -> Vec<String> {
-    let mut names = vec![];
-    for overlay in OVERLAYS {
-        for column in BORDERS {
-            names.push(format!("column {column} of row 5 under overlay {overlay}"));
-        }
-    }
-    for end in ["first", "last"] {
-        for cell in 0..16 {
-            names.push(format!("{end} column of text cell {cell}"));
-            names.push(format!("{end} column of small cell {cell}"));
-        }
-        for cell in 0..8 {
-            names.push(format!("{end} column of upper big cell {cell}"));
-            names.push(format!("{end} column of lower big cell {cell}"));
-        }
-        for cell in 0..7 {
-            for side in ["left", "right"] {
-                names.push(format!("{end} column of {side} label cell {cell}"));
-                names.push(format!("{end} column of {side} label cell {cell}, empty"));
-            }
-        }
-    }
-    for w in 0..4 {
-        names.push(format!("rocker {w} by its column"));
-        names.push(format!("rocker {w} beside a picture"));
-    }
-    for (row, column) in [("6", "95"), ("6", "96"), ("7", "95"), ("7", "96")] {
-        names.push(format!("U of row {row} and column {column}"));
-    }
-    for name in [
-        "U 4 for the row alone",
-        "U 4 for the column alone",
-        "U 4 for both",
-        "U 1 with a row or column that is none",
-        "picture row with the rocker, not blank below it",
-        "column of a display off",
-    ] {
-        names.push(name.to_string());
-    }
-    names
-}
-
-/// The large line and the modes that came with it.
-fn wanted_large() -> Vec<String> {
-    let mut names = vec![];
-    for count in 0..=LINE {
-        for row in 1..4 {
-            names.push(format!("line of {count} codes by row {row}"));
-            names.push(format!("line of {count} codes by a column of row {row}"));
-        }
-    }
-    for what in ["the cursor", "the last code", "both"] {
-        names.push(format!("codes of the line counted by {what}"));
-    }
-    for number in [0, 1, 5, 6, 10, 11, 12, 13, 14, 15, 16, 17, 18] {
-        names.push(format!("ID{number} obeyed"));
-        names.push(format!("ID{number} written"));
-        names.push(format!("ID{number} obeyed in mode 10"));
-        names.push(format!("ID{number} obeyed with a line that isn't blank"));
-    }
-    for number in [2, 3, 4, 7, 8, 9, 19] {
-        names.push(format!("ID{number} passed over"));
-        names.push(format!("ID{number} not written"));
-    }
-    for mode in MODES {
-        names.push(format!("ID10 obeyed in mode {mode}"));
-        names.push(format!("&# in mode {mode} with a line that isn't blank"));
-        let (row, column) = match mode {
-            0 | 1 => (4, 17),
-            5 | 6 => (5, 17),
-            _ => (1, 25),
-        };
-        names.push(format!("row {row} refused in mode {mode}"));
-        names.push(format!("column {column} refused in mode {mode}"));
-        names.push(format!("column {} in range in mode {mode}", column - 1));
-    }
-    for overlay in OVERLAYS {
-        names.push(format!("text to the large line under overlay {overlay}"));
-    }
-    for name in [
-        "cursor frame 0;0 in mode 10",
-        "cursor frame in mode 10, else obeyed",
-        "cursor frame in mode 10, else passed over",
-        "first place of the large line set",
-        "last place of the large line set",
-    ] {
-        names.push(name.to_string());
-    }
-    for field in [1, 6, 8, 10, 11, 31, 35, 36, 37, 38, 39] {
-        let name = FIELD_NAMES[field];
-        names.push(format!("line S one place behind {name}"));
-    }
-    names.push(format!("line S with field {FIELDS}"));
-    names
-}
-
-/// The questions, the contrast and the hook switch.
-fn wanted_questions() -> Vec<String> {
-    let mut names = vec![];
-    // The bytes of each answer, and the room left for it.
-    for (question, length) in [
-        ("AskContrast", 5),
-        ("AskContrast", 6),
-        ("AskHook", 5),
-        ("AskVersion", LONGEST),
-    ] {
-        for left in 0..length {
-            names.push(format!("{question} of {length} stopped with {left} left"));
-        }
-        for left in length..length + 2 {
-            names.push(format!("{question} of {length} answered with {left} left"));
-        }
-        names.push(format!("{question} of {length} stopped at once"));
-        names.push(format!("{question} of {length} stopped behind an answer"));
-        names.push(format!("{question} of {length} answered behind an answer"));
-        names.push(format!("{question} of {length} open before, answered"));
-        names.push(format!("{question} of {length} open before, stopped"));
-    }
-    for question in QUESTIONS {
-        for mode in MODES {
-            names.push(format!("{question:?} answered in mode {mode}"));
-        }
-        for overlay in OVERLAYS {
-            names.push(format!("{question:?} answered under overlay {overlay}"));
-        }
-        names.push(format!("{question:?} answered with the display off"));
-        names.push(format!("{question:?} answered with a key held"));
-        names.push(format!("{question:?} abandoned"));
-        names.push(format!("{question:?} left open"));
-        names.push(format!("{question:?} open before, spoilt"));
-    }
-    for contrast in 1..=20 {
-        names.push(format!("contrast {contrast} told"));
-        names.push(format!("IA{contrast} obeyed"));
-        names.push(format!("IA{contrast} written"));
-    }
-    for number in [0, 21] {
-        names.push(format!("IA{number} not written"));
-        names.push(format!("contrast {number} refused"));
-    }
-    for value in [0, 1, 20, 21, 255] {
-        names.push(format!("contrast set to {value}"));
-    }
-    for form in DAMAGED {
-        names.push(format!("bad frame {form:?}"));
-    }
-    for form in PASSED_OVER {
-        names.push(format!("frame {form:?} passed over"));
-    }
-    for on in ["on-hook", "off-hook"] {
-        names.push(format!("{on} told"));
-        for before in ["on-hook", "off-hook"] {
-            names.push(format!("hook call to {on} from {before}"));
-        }
-        names.push(format!("hook field set to {on}"));
-        names.push(format!("hook call to {on} while AskHook waits"));
-    }
-    for on in [0, 1, 2, 128, 255] {
-        names.push(format!("hook call {on}"));
-    }
-    for name in [
-        "contrast set to 256 or more",
-        "hook call with a frame open",
-        "hook call with a frame overlong",
-        "hook call with a key held",
-        "hook field set to 2 or more",
-        "line H with 0 bytes",
-        "line H with 2 bytes",
-        "line H with 3 bytes",
-        "line W with command 33",
-        "three answers of several bytes in one call",
-        "a question mark behind a long answer",
-        "stop at ESC behind a long answer",
-        "more than 255 bytes of answers in one call",
-        "stop with room 300",
-    ] {
-        names.push(name.to_string());
-    }
-    names
-}
-
-/// What is open when the bound is asked for, and what is offered.
-const FRAMES: [&str; 3] = ["no frame", "an open frame", "an overlong frame"];
-const OFFERED: [&str; 8] = [
-    "no bytes",
-    "4,096 bytes without ESC",
-    "bytes without ESC",
-    "4,096 ESC",
-    "ESC alone",
-    "one ESC",
-    "256 ESC or more",
-    "some ESC",
-];
-
-/// The room that answers can need.
-fn wanted_bounds() -> Vec<String> {
-    let mut names = vec![];
-    for frame in FRAMES {
-        for offered in OFFERED {
-            names.push(format!("bound with {frame} and {offered}"));
-        }
-        for offered in ["no bytes", "bytes without ESC", "ESC alone", "some ESC"] {
-            names.push(format!("refused N with {frame} and {offered}"));
-        }
-        for how in ["reached", "not reached", "passed by questions"] {
-            names.push(format!("bound {how} with {frame}"));
-        }
-        for byte in [0x1A, 0x1C, 0x0B, 0x3B, 0x5B, 0x9B, CR] {
-            names.push(format!("bound with {frame}, {byte:02X} and no ESC"));
-        }
-        for what in [
-            "the bound, all used",
-            "one less than the bound, all used",
-            "one less than the bound, stopped",
-        ] {
-            names.push(format!("room of {what}, with {frame}"));
-        }
-    }
-    for bound in [0, 1, 2, 3, 10, 254, 255, 256, 257, 4096, 4097] {
-        names.push(format!("bound {bound}"));
-    }
-    for name in [
-        "bound with an open frame of 250 bytes",
-        "room of the bound, stopped by a question",
-        "line N with 4097 bytes",
-        "line N with 32767 bytes",
-    ] {
-        names.push(name.to_string());
-    }
-    names
+/// The values at the ends of a field's range and right beside them, and the
+/// greatest, in the power-on record; whether each is in range.
+fn ends_of(field: u16) -> Vec<(u16, bool)> {
+    let mut record = power_on();
+    let mut judge = |value: u16| {
+        set(&mut record, field, 0, value);
+        (value, fits(&record, field))
+    };
+    let all: Vec<(u16, bool)> = values(field).into_iter().map(&mut judge).collect();
+    let end = |at: usize| {
+        let beside = |other: Option<&(u16, bool)>| other.is_some_and(|(_, good)| *good != all[at].1);
+        beside(all.get(at + 1)) || (at > 0 && beside(all.get(at - 1))) || at + 1 == all.len()
+    };
+    (0..all.len()).filter(|&at| end(at)).map(|at| all[at]).collect()
 }
 
 /// What is offered, as the list has it.
 fn offered(bytes: &[u8]) -> &'static str {
     let escapes = bytes.iter().filter(|&&byte| byte == ESC).count();
-    OFFERED[match (bytes.len(), escapes) {
+    let at = match (bytes.len(), escapes) {
         (0, _) => 0,
         (4096, 0) => 1,
         (_, 0) => 2,
@@ -473,78 +424,14 @@ fn offered(bytes: &[u8]) -> &'static str {
         (_, 1) => 5,
         (_, 256..) => 6,
         _ => 7,
-    }]
+    };
+    OFFERED.split('|').nth(at).unwrap_or("")
 }
 
 /// What is open, as the list has it.
 fn frame_name(record: &Record) -> &'static str {
     let state = usize::from(record.frame.state);
-    FRAMES.get(state).copied().unwrap_or("no state")
-}
-
-/// The kinds of parts that a stream has.
-const PARTS: [Kind; 5] = [
-    Kind::Text,
-    Kind::Skipped,
-    Kind::Closed,
-    Kind::Abandoned,
-    Kind::Tail,
-];
-
-/// The parts of a stream by their places.
-fn wanted_parts() -> Vec<String> {
-    let mut names = vec![];
-    for kind in PARTS {
-        let word = kind.word();
-        names.push(format!("part {word} at place 0"));
-        names.push(format!("part {word} asked for at a later place"));
-        names.push(format!("part {word} that ends at 256 or later"));
-        names.push(format!("part {word} behind place 300, asked for there"));
-        let next: &[Kind] = match kind {
-            Kind::Tail => &[Kind::None],
-            // The ESC that abandons a frame opens the next.
-            Kind::Abandoned => &PARTS[2..],
-            _ => &[&[Kind::None][..], &PARTS].concat(),
-        };
-        for next in next {
-            names.push(format!("part {word}, then {}", next.word()));
-        }
-    }
-    for kind in [Kind::Closed, Kind::Abandoned, Kind::Tail] {
-        for length in [0, 1, 249, 250, 251, 252] {
-            names.push(format!("part {} of {length} bytes", kind.word()));
-        }
-        names.push(format!("parts from within a frame {}", kind.word()));
-        names.push(format!("part {} with a good frame in it", kind.word()));
-    }
-    for code in [0x00, LF, CR, 0x1A, 0x1C, 0x1F] {
-        names.push(format!("part skipped {code:02X}"));
-    }
-    for code in [0x20, 0x7F, 0x80, 0xFF] {
-        names.push(format!("part text {code:02X}"));
-    }
-    for length in [0, 1, 4095, 4096] {
-        names.push(format!("parts of {length} bytes"));
-    }
-    for name in [
-        "parts of no bytes from a later place",
-        "parts from the end",
-        "parts from one place past the end",
-        "parts from place 65535",
-        "parts from the CR of a frame",
-        "parts from the LF behind a frame",
-        "parts from the ESC that abandons a frame",
-        "parts with the record out of range",
-        "parts with a frame open in the record",
-        "a part that ends at 4096",
-        "more than 256 parts",
-        "line D with 0 bytes",
-        "line D with 1 bytes",
-        "line D with 4099 bytes",
-    ] {
-        names.push(name.to_string());
-    }
-    names
+    FRAMES.split('|').nth(state).unwrap_or("no state")
 }
 
 /// The mode of a verdict, as the list has it.
@@ -554,197 +441,6 @@ fn mode_name(mode: u8) -> String {
     } else {
         "a mode that is none".to_string()
     }
-}
-
-/// The verdicts of frames.
-fn wanted_verdicts() -> Vec<String> {
-    let mut names = vec![];
-    for mode in [0, 1, 5, 6, LARGE, 255].map(mode_name) {
-        let rows = match mode.as_str() {
-            "mode 0" | "mode 1" => 4,
-            "mode 10" => 0,
-            _ => 5,
-        };
-        for how in ["bad", "passed over", "obeyed"] {
-            names.push(format!("verdict {how} in {mode}"));
-        }
-        for (command, _) in SHAPES {
-            if command != Command::Position || rows > 0 {
-                names.push(format!("verdict of {command:?} obeyed in {mode}"));
-            }
-            if count_of_numbers(command) > 0 {
-                names.push(format!("verdict of {command:?} passed over in {mode}"));
-            }
-        }
-        for row in 0..7 {
-            let how = |good: bool| if good { "obeyed" } else { "passed over" };
-            let cursor = how(row < rows);
-            names.push(format!("verdict of cursor row {row} {cursor} in {mode}"));
-            let mark = how(row <= rows);
-            names.push(format!("verdict of IZ{row} {mark} in {mode}"));
-        }
-    }
-    // Written in capitals these are no command, or another one.
-    let no_capitals = [
-        Command::Clear,
-        Command::KeypadClear,
-        Command::KeypadSet,
-        Command::Picture,
-    ];
-    for (command, _) in SHAPES {
-        names.push(format!("verdict bad of {command:?} and a byte more"));
-        if !no_capitals.contains(&command) {
-            names.push(format!("verdict bad of {command:?} in small letters"));
-        }
-    }
-    for command in number_commands() {
-        names.push(format!("verdict bad of {command:?}, padded"));
-        names.push(format!("verdict with a number above 255 of {command:?}"));
-    }
-    for command in [Command::Position, Command::Times] {
-        for which in ["the first", "the second", "both"] {
-            names.push(format!("verdict of {command:?} for {which} out of range"));
-        }
-    }
-    for form in DAMAGED {
-        names.push(format!("verdict bad of {form:?}"));
-    }
-    for length in [0, 249, 250, 251, 4095, 4096] {
-        names.push(format!("verdict of {length} bytes"));
-    }
-    for byte in [ESC, CR, LF] {
-        names.push(format!("verdict bad with {byte:02X} in the frame"));
-    }
-    for name in [
-        "verdict passed over for the number 0",
-        "verdict passed over for the number 999",
-        "verdict with the record out of range",
-        "verdict in a mode that the record has not",
-        "line J with 0 bytes",
-        "line J with 4098 bytes",
-    ] {
-        names.push(name.to_string());
-    }
-    names
-}
-
-/// What makes the labels of a choice screen be looked at.
-const LOOKS: [&str; 5] = [
-    "text",
-    "a text mode",
-    "an overlay",
-    "an IDn passed over",
-    "the end",
-];
-
-/// The rules of a choice screen.
-fn wanted_choices() -> Vec<String> {
-    let mut names = vec!["choice yes".to_string()];
-    for rule in 1..=4 {
-        names.push(format!("choice broken by rule {rule}"));
-        names.push(format!("choice broken by rule {rule} alone"));
-        if rule > 1 {
-            names.push(format!("choice broken by rule {rule} at 256 or later"));
-        }
-        if rule > 2 {
-            names.push(format!("choice broken by rule {rule} in the first screen"));
-        }
-    }
-    for first in [
-        "no part",
-        "text",
-        "skipped",
-        "bad",
-        "abandoned",
-        "tail",
-        "ID1",
-        "ID6",
-        "ID10",
-        "ID11",
-        "ID2",
-        "DisplayOff",
-        "DisplayOn",
-        "LeftLabel",
-    ] {
-        names.push(format!("choice that begins with {first}"));
-    }
-    for first in ["ID0", "ID5"] {
-        names.push(format!("choice yes that begins with {first}"));
-        names.push(format!("choice yes of {first} alone"));
-        names.push(format!("choice yes of {first} with text and no labels"));
-    }
-    for mode in MODES {
-        for look in LOOKS {
-            names.push(format!("choice screen {mode} with labels at {look}"));
-            names.push(format!("choice screen {mode} without labels at {look}"));
-        }
-    }
-    for side in ["left", "right"] {
-        for why in [
-            "never set",
-            "set to nothing",
-            "emptied by IK0",
-            "set before the screen alone",
-            "set too late",
-        ] {
-            names.push(format!("choice broken for the {side} label, {why}"));
-        }
-        names.push(format!("choice yes with the {side} label set again"));
-    }
-    for screens in 0..=3 {
-        names.push(format!("choice yes with {screens} later screens"));
-    }
-    for between in [
-        "DisplayOff",
-        "DisplayOn",
-        "LabelsEmpty",
-        "AskContrast",
-        "AskHook",
-        "AskVersion",
-        "a frame passed over",
-        "a skipped byte",
-    ] {
-        names.push(format!("choice yes with {between} behind its screen"));
-    }
-    for (first, later) in [
-        (1, 2),
-        (1, 3),
-        (1, 4),
-        (2, 3),
-        (2, 4),
-        (3, 2),
-        (3, 4),
-        (4, 2),
-    ] {
-        names.push(format!("choice breaks rule {first} before rule {later}"));
-    }
-    for rule in [3, 4] {
-        names.push(format!("choice breaks rules 1 and {rule} at place 0"));
-    }
-    for what in [
-        "an abandoned frame",
-        "an empty frame",
-        "a frame of 251 bytes",
-        "another bad frame",
-    ] {
-        names.push(format!("choice broken by {what}"));
-    }
-    for length in [0, 1, 251] {
-        names.push(format!("choice broken by a tail of {length} bytes"));
-    }
-    for length in [0, 1, 4096] {
-        names.push(format!("choice of {length} bytes"));
-    }
-    for name in [
-        "choice yes of 4096 bytes",
-        "choice broken by rule 2 at 4096",
-        "choice with the record out of range",
-        "choice with a frame open in the record",
-        "line E with 4097 bytes",
-    ] {
-        names.push(name.to_string());
-    }
-    names
 }
 
 /// The first part of a choice, as the list has it.
@@ -760,7 +456,7 @@ fn first_part(pieces: &[Piece]) -> String {
         (_, None) => "bad".to_string(),
         (_, Some(good)) => match first.mode() {
             Some(n) => format!("ID{n}"),
-            None => format!("{:?}", good.command),
+            None => good.command.name.to_string(),
         },
     }
 }
@@ -776,99 +472,6 @@ fn look_name(next: Option<&Piece>) -> &'static str {
         Some(11..=18) => "an overlay",
         Some(_) => "an IDn passed over",
     }
-}
-
-/// The marks, and the clearing of a line.
-fn wanted_marks() -> Vec<String> {
-    let mut names = vec![];
-    for mode in MODES {
-        let most = match mode {
-            0 | 1 => 4,
-            5 | 6 => 5,
-            _ => 0,
-        };
-        for number in 0..=6 {
-            let how = if number <= most {
-                "obeyed"
-            } else {
-                "passed over"
-            };
-            names.push(format!("IZ{number} {how} in mode {mode}"));
-        }
-        let (rows, end) = match mode {
-            0 | 1 => (4, CODES),
-            5 | 6 => (5, CODES),
-            _ => (1, LINE),
-        };
-        for column in 0..=end {
-            names.push(format!("[K at column {column} in mode {mode}"));
-        }
-        for column in 0..end {
-            names.push(format!("[K blanks from column {column} in mode {mode}"));
-        }
-        for row in 0..rows {
-            names.push(format!("[K in row {row} in mode {mode}"));
-        }
-        names.push(format!("[K in mode {mode} with a mark"));
-        names.push(format!("&# in mode {mode} with a mark"));
-        names.push(format!("ID{mode} obeyed with a mark"));
-        names.push(format!("[K of blanks in mode {mode}"));
-        names.push(format!("[K with the display off in mode {mode}"));
-    }
-    for overlay in OVERLAYS {
-        names.push(format!("[K under overlay {overlay}"));
-        names.push(format!("IZ under overlay {overlay}"));
-    }
-    // Every place where a text row is seen, with its mark.
-    for (mode, overlay) in MODES
-        .into_iter()
-        .flat_map(|mode| OVERLAYS.map(|overlay| (mode, overlay)))
-    {
-        let mut record = power_on();
-        (record.mode, record.overlay) = (mode, overlay);
-        for (row, sign) in seen::layout(&record).into_iter().enumerate() {
-            if sign.is_ascii_digit() {
-                let place = format!("row {row} in mode {mode} overlay {overlay}");
-                names.push(format!("marked text by {place}"));
-                names.push(format!("marked text by a column of {place}"));
-            }
-        }
-    }
-    for row in 0..TEXT_ROWS {
-        names.push(format!("mark {row} seen by row"));
-        names.push(format!("mark {row} seen by column"));
-        names.push(format!("text row {row} seen beside another's mark"));
-        names.push(format!("mark {row} set"));
-        names.push(format!("mark {row} taken off"));
-        names.push(format!("IZ{} written", row + 1));
-        names.push(format!("IZ{} to the same mark", row + 1));
-        names.push(format!("IZ{} to a row with another marked", row + 1));
-        names.push(format!("IZ{} with none marked", row + 1));
-        names.push(format!("IZ0 with mark {row}"));
-        for other in 0..row {
-            names.push(format!("marks {other} and {row} refused"));
-        }
-    }
-    for mode in [0, 1, 10] {
-        names.push(format!("mark 4 not seen in mode {mode}"));
-    }
-    for owner in [0, 1, 3, 4, 5, 6, 7, 8] {
-        names.push(format!("owner {owner} with a mark in the record"));
-    }
-    for owner in [3, 4, 5, 6, 7, 8] {
-        names.push(format!("column owner {owner} with a mark in the record"));
-    }
-    for name in [
-        "IZ0 with none marked",
-        "IZ0 written",
-        "IZ6 not written",
-        "mark set by 2 or more",
-        "three marks and more refused",
-        "display off with a mark",
-    ] {
-        names.push(name.to_string());
-    }
-    names
 }
 
 /// The number of the marked row; none where no row or several are marked.
@@ -892,11 +495,9 @@ fn hook_name(on: bool) -> &'static str {
 }
 
 /// The question that a frame's bytes spell, and its answer now.
-fn question(record: &Record, body: &[u8]) -> Option<(Command, Vec<u8>)> {
-    let good = stream::good(body)?;
-    QUESTIONS
-        .contains(&good.command)
-        .then(|| (good.command, effect::answer(record, &good)))
+fn question(record: &Record, body: &[u8]) -> Option<(&'static str, Vec<u8>)> {
+    let good = stream::good(body).filter(|good| good.command.is_question())?;
+    Some((good.command.name, commands::answer(record, &good)))
 }
 
 /// The bytes of an open frame.
@@ -934,51 +535,25 @@ impl Cover {
             Answer::Number(n) | Answer::Thin(n, _) | Answer::Row(n, _) => Some(*n),
             Answer::Column(n, _) | Answer::Bound(n, _) => Some(*n),
             Answer::Sms(n, _) | Answer::Volume(n, _, _) => Some(*n),
-            Answer::Done | Answer::What | Answer::Silence => None,
-            Answer::Parts(_) | Answer::Verdict(_) | Answer::Choice(_) => None,
-        };
-        if let Some(number) = number {
-            self.add(format!("answer {letter} {number}"));
-        }
-        let refused = match answer {
-            Answer::InRange(yes) => !yes,
-            _ => number == Some(1),
-        };
-        if refused {
-            if let [field] = faults(before)[..] {
-                let name = FIELD_NAMES[usize::from(field)];
-                self.add(format!("refused {letter} for {name} alone"));
-                let (mode, row, column) = (before.mode, before.row, before.column);
-                match field {
-                    4 => self.add(format!("row {row} refused in mode {mode}")),
-                    5 => self.add(format!("column {column} refused in mode {mode}")),
-                    37 => self.add(format!("contrast {} refused", before.contrast)),
-                    39 => match rows_marked(before)[..] {
-                        [one, other] => self.add(format!("marks {one} and {other} refused")),
-                        _ => self.add("three marks and more refused"),
-                    },
-                    _ => (),
-                }
-                match (field, before.frame.state) {
-                    (34, state) => self.add(format!("frame length wrong in state {state}")),
-                    (35, state) => self.add(format!("frame bytes wrong in state {state}")),
-                    _ => (),
-                }
-            }
-        }
-        let power = match call {
-            Call::PowerOn => Some(("power-on", power_on())),
-            Call::FormerPowerOn => Some(("former power-on", former_power_on())),
             _ => None,
         };
-        if let Some((power, record)) = power {
+        if let Some(number) = number {
+            see!(self, "answer {letter} {number}");
+        }
+        if *answer == Answer::InRange(false) || (letter != 'R' && number == Some(1)) {
+            self.see_refused(letter, before);
+        }
+        let powers = [("power-on", power_on()), ("former power-on", former_power_on())];
+        let power = powers.iter().position(|_| *call == Call::PowerOn);
+        let power = power.or((*call == Call::FormerPowerOn).then_some(1));
+        if let Some((name, record)) = power.map(|at| &powers[at]) {
             let from = match faults(before)[..] {
-                _ if *before == record => "from itself",
-                _ if [power_on(), former_power_on()].contains(before) => "from the other",
+                _ if before == record => "from itself",
+                _ if powers.iter().any(|(_, other)| before == other) => "from the other",
                 [] => "in range",
                 _ => "out of range",
             };
-            self.add(format!("{power} {from}"));
+            see!(self, "{name} {from}");
         }
         match (call, answer) {
             (_, Answer::What) => {
@@ -986,12 +561,7 @@ impl Cover {
                 self.see_misfit(call);
             }
             (_, Answer::Silence) => self.add("an empty line"),
-            (
-                Call::Stream { room, bytes },
-                Answer::Counts {
-                    number: 0, used, ..
-                },
-            ) => {
+            (Call::Stream { room, bytes }, Answer::Counts { number: 0, used, .. }) => {
                 self.see_stream(before, usize::from(*room), bytes, *used);
             }
             (Call::Bound { bytes }, Answer::Bound(number, bound)) => {
@@ -1006,72 +576,40 @@ impl Cover {
             (Call::Verdict { mode, body }, Answer::Verdict(verdict)) => {
                 self.see_verdict(before, *mode, body, *verdict);
             }
-            (
-                Call::Keys { room, ticks, edges },
-                Answer::Counts {
-                    number,
-                    used,
-                    written,
-                    ..
-                },
-            ) => self.see_log(before, ticks, edges, (*number, *used, *written, *room)),
+            (Call::Keys { room, ticks, edges }, Answer::Counts { number, used, .. }) => {
+                self.see_log(before, ticks, edges, (*number, *used, *room));
+            }
             (Call::Row { row, phase }, Answer::Row(0, owner)) => {
                 self.see_row(before, *row, *phase, owner);
             }
             (Call::Column { row, column, phase }, Answer::Column(number, there)) => {
                 self.see_column(before, (*row, *column, *phase), *number, there);
             }
-            (
-                Call::Set {
-                    field,
-                    place,
-                    value,
-                },
-                Answer::Done,
-            ) => {
-                self.see_switch(*field, *place, *value);
-                if (*field, *place) == (36, 0) {
-                    self.add("first place of the large line set");
-                }
-                if (*field, usize::from(*place)) == (36, LINE - 1) {
-                    self.add("last place of the large line set");
-                }
+            (Call::Set { field, place, value }, Answer::Done) => {
+                self.see_set(*field, usize::from(*place), *value);
             }
             (Call::Sms { phase }, Answer::Sms(0, panel)) => {
-                self.add(format!("sms {panel}"));
+                see!(self, "sms {panel}");
                 self.see_letter("panel", before, *phase);
             }
             (Call::Volume, Answer::Volume(0, panel, level)) => {
-                self.add(format!("volume panel {panel}"));
-                self.add(format!("volume level {level}"));
+                see!(self, "volume panel {panel}");
+                see!(self, "volume level {level}");
             }
             (Call::Second, Answer::Number(0)) | (Call::Thin, Answer::Thin(0, _)) => {
-                match before.backlight.left {
-                    0 => self.add("second at left 0"),
-                    1 => self.add("second at left 1"),
-                    _ => self.add("second lowers left"),
-                }
+                self.add(match before.backlight.left {
+                    0 => "second at left 0",
+                    1 => "second at left 1",
+                    _ => "second lowers left",
+                });
             }
             (Call::Hook { on }, Answer::Number(0)) => self.see_hook(before, *on),
-            (
-                Call::Command {
-                    command: n,
-                    numbers,
-                    ..
-                },
-                Answer::Written { number, .. },
-            ) => {
-                self.add(format!("writer {:?} {number}", command(*n)));
-                let letters = match command(*n) {
-                    Command::Mode => Some("ID"),
-                    Command::Contrast => Some("IA"),
-                    Command::Inverse => Some("IZ"),
-                    _ => None,
-                };
-                match (letters, number) {
-                    (Some(letters), 0) => self.add(format!("{letters}{} written", numbers[0])),
-                    (Some(letters), 2) => self.add(format!("{letters}{} not written", numbers[0])),
-                    _ => (),
+            (Call::Command { command: n, numbers, .. }, Answer::Written { number, .. }) => {
+                see!(self, "writer {:?} {number}", command(*n));
+                if *number != 3 {
+                    let how = if *number == 0 { "written" } else { "not written" };
+                    let numbers = &numbers[..command(*n).ranges().len()];
+                    self.see_numbers("", command(*n), numbers, MOST_ROWS, &[how]);
                 }
             }
             (Call::Label { codes, .. }, Answer::Written { number: 0, .. }) if codes.len() == 7 => {
@@ -1082,39 +620,222 @@ impl Cover {
             }
             _ => (),
         }
-        if let Answer::Written {
-            number,
-            count,
-            buffer,
-        } = answer
-        {
+        if let Answer::Written { number, count, buffer } = answer {
             if *number == 0 && *count == buffer.len() {
                 self.add("room just enough");
             }
-            if *number == 3 {
-                let more = with_room(call, buffer.len() as u16 + 1);
-                let mut scratch = before.clone();
-                if let Some(Answer::Written { number: 0, .. }) =
-                    more.map(|call| crate::script::perform(&mut scratch, &call))
-                {
-                    self.add("room one short");
+            let more = with_room(call, buffer.len() as u16 + 1);
+            let again = more.map(|call| script::perform(&mut before.clone(), &call));
+            if let (3, Some(Answer::Written { number: 0, .. })) = (*number, again) {
+                self.add("room one short");
+            }
+        }
+    }
+
+    /// A call that is refused for one field alone.
+    fn see_refused(&mut self, letter: char, before: &Record) {
+        let [field] = faults(before)[..] else { return };
+        let (row, mode) = (&FIELDS[usize::from(field)], before.mode);
+        let name = row.name;
+        see!(self, "refused {letter} for {name} alone");
+        let value = get(before, field);
+        match row.rests_on {
+            ["text mode"] => see!(self, "{name} {value} refused in mode {mode}"),
+            [.., "frame state"] => see!(self, "{name} wrong in state {}", before.frame.state),
+            _ => see!(self, "{name} {value} refused"),
+        }
+        if name == "inverse mark" {
+            match rows_marked(before)[..] {
+                [one, other] => see!(self, "marks {one} and {other} refused"),
+                _ => self.add("three marks and more refused"),
+            }
+        }
+    }
+
+    /// A field that is set.
+    fn see_set(&mut self, field: u16, place: usize, value: u16) {
+        let row = &FIELDS[usize::from(field)];
+        let name = row.name;
+        if place == 0 {
+            see!(self, "field {name} set at its first place");
+        }
+        if place + 1 == row.places {
+            see!(self, "field {name} set at its last place");
+        }
+        match (values(field).len(), value) {
+            (2, 2..) => see!(self, "field {name} set to 2 or more"),
+            (256, 256..) => see!(self, "field {name} set to 256 or more"),
+            _ => see!(self, "field {name} set to {value}"),
+        }
+        see!(self, "field {name} place {place} set to {value}");
+    }
+
+    /// Each number of a command by which it is judged: the others are in
+    /// range.
+    fn see_numbers(&mut self, what: &str, command: &Command, numbers: &[u16], rows: u16, hows: &[&str]) {
+        let ranges = command.ranges();
+        let good: Vec<bool> = numbers.iter().zip(&ranges).map(|(&n, range)| range.has(n, rows)).collect();
+        for (place, n) in numbers.iter().enumerate() {
+            if (0..good.len()).all(|other| other == place || good[other]) {
+                let form = command.form(place, *n);
+                hows.iter().for_each(|how| see!(self, "{what}{form} {how}"));
+            }
+        }
+    }
+
+    /// A good frame: what became of it, with which numbers, and in what
+    /// circumstances.
+    fn see_good(&mut self, record: &Record, good: &Spelt) {
+        let (mode, overlay) = (record.mode, record.overlay);
+        let obeyed = commands::obeyed(record, good);
+        let (name, how) = (good.command.name, if obeyed { "obeyed" } else { "passed over" });
+        see!(self, "frame {name} {how}");
+        if good.numbers.contains(&0) {
+            see!(self, "frame {name} with the number 0");
+        }
+        let mut hows = vec![how.to_string(), format!("{how} in mode {mode}")];
+        for (with, yes) in [
+            ("the display off", !record.display),
+            ("a key held", record.held.down),
+            ("a mark", marked(record).is_some()),
+            ("a line that isn't blank", record.line != [0x20; LINE]),
+        ] {
+            if yes {
+                hows.push(format!("{how} with {with}"));
+                hows.push(format!("{how} in mode {mode} with {with}"));
+            }
+        }
+        hows.push(format!("{how} under overlay {overlay}"));
+        hows.iter().for_each(|how| see!(self, "{name} {how}"));
+        let hows: Vec<&str> = hows.iter().map(String::as_str).collect();
+        let rows = rows_to_name(mode).into();
+        self.see_numbers("", good.command, &good.numbers, rows, &hows);
+        match (name, &good.numbers[..]) {
+            ("Position", [row, column]) if mode == LARGE => {
+                if (*row, *column) == (0, 0) {
+                    self.add("cursor frame 0;0 in mode 10");
+                }
+                let how = if *row < 5 && *column < 16 { "obeyed" } else { "passed over" };
+                see!(self, "cursor frame in mode 10, else {how}");
+            }
+            ("Inverse", [number]) if obeyed => self.add(match (number, marked(record)) {
+                (0, Some(row)) => format!("IZ0 with mark {row}"),
+                (_, None) => format!("IZ{number} with none marked"),
+                (_, Some(row)) if usize::from(*number) == row + 1 => {
+                    format!("IZ{number} to the same mark")
+                }
+                _ => format!("IZ{number} to a row with another marked"),
+            }),
+            ("ClearLine", _) => {
+                let (row, column) = (record.row, usize::from(record.column));
+                let cleared = match mode {
+                    LARGE => &record.line[column..],
+                    _ => &record.text[CODES * usize::from(row)..][column..CODES],
+                };
+                see!(self, "[K at column {column} in mode {mode}");
+                see!(self, "[K in row {row} in mode {mode}");
+                if cleared.first().is_some_and(|&code| code != 0x20) {
+                    see!(self, "[K blanks from column {column} in mode {mode}");
+                }
+                if !cleared.is_empty() && cleared.iter().all(|&code| code == 0x20) {
+                    see!(self, "[K of blanks in mode {mode}");
                 }
             }
+            ("Picture", [row]) => {
+                see!(self, "picture frame of {} columns", good.codes.len());
+                if *row == 6 && good.codes.iter().any(|&dots| dots > 31) {
+                    self.add("picture frame of row 6 cut to five bits");
+                }
+            }
+            ("LeftLabel" | "RightLabel", _) => {
+                see!(self, "label frame of {} codes", good.codes.len());
+                if good.codes.starts_with(b"00") {
+                    self.add("label of zeros");
+                }
+            }
+            _ => (),
+        }
+    }
+
+    fn see_verdict(&mut self, before: &Record, mode: u8, body: &[u8], verdict: Verdict) {
+        self.see_bystander("verdict", before);
+        if mode != before.mode {
+            self.add("verdict in a mode that the record has not");
+        }
+        see!(self, "verdict of {} bytes", body.len());
+        let rows = script::rows_of_verdict(mode).into();
+        let mode = mode_name(mode);
+        let how = match verdict {
+            Verdict::Bad => "bad",
+            Verdict::PassedOver(_) => "passed over",
+            Verdict::Obeyed => "obeyed",
+        };
+        see!(self, "verdict {how} in {mode}");
+        let Some(good) = stream::good(body) else {
+            return self.see_bad_verdict(body);
+        };
+        let (command, numbers) = (good.command, &good.numbers[..]);
+        see!(self, "verdict of {command:?} {how} in {mode}");
+        self.see_numbers("verdict of ", command, numbers, rows, &[&format!("{how} in {mode}")]);
+        if let Verdict::PassedOver(number) = verdict {
+            see!(self, "verdict passed over for the number {number}");
+            if number > 255 {
+                see!(self, "verdict with a number above 255 of {command:?}");
+            }
+        }
+        let ranges = command.ranges();
+        let wrong: Vec<bool> = (0..numbers.len()).map(|at| !ranges[at].has(numbers[at], MOST_ROWS)).collect();
+        let which = match wrong[..] {
+            [true, false] => "the first",
+            [false, true] => "the second",
+            [true, true] => "both",
+            _ => return,
+        };
+        see!(self, "verdict of {command:?} for {which} out of range");
+    }
+
+    /// A line that can't be taken: how many bytes it has, and what is wrong
+    /// with its phase, its field or its place.
+    fn see_misfit(&mut self, call: &Call) {
+        let Call::Other(line) = call else { return };
+        let Some((letter, bytes)) = words(line) else { return };
+        see!(self, "line {letter} with {} bytes", bytes.len());
+        match (letter, &bytes[..]) {
+            ('S', &[field, p, q, _, _]) => match FIELDS.get(usize::from(field)) {
+                None => see!(self, "line S with field {field}"),
+                Some(row) if row.places == usize::from(u16::from_be_bytes([p, q])) => {
+                    see!(self, "line S one place behind {}", row.name);
+                }
+                _ => (),
+            },
+            ('W', &[_, _, number, ..]) => see!(self, "line W with command {number}"),
+            ('M' | 'Q' | 'U', bytes) => {
+                let least = LETTERS.iter().find(|(known, _, _)| *known == letter);
+                let fault = match bytes.get(least.map_or(0, |(_, least, _)| least - 1)..) {
+                    Some([]) => "no phase",
+                    Some([0 | 1, _]) => "a byte behind the phase",
+                    Some([2]) => "phase 2",
+                    Some([_]) => "another phase that is none",
+                    _ => return,
+                };
+                see!(self, "line {letter} with {fault}");
+            }
+            _ => (),
         }
     }
 
     fn see_bound(&mut self, before: &Record, bytes: &[u8], number: u8, bound: usize) {
         let (frame, offered) = (frame_name(before), offered(bytes));
         if number != 0 {
-            self.add(format!("refused N with {frame} and {offered}"));
+            see!(self, "refused N with {frame} and {offered}");
             return;
         }
-        self.add(format!("bound with {frame} and {offered}"));
-        self.add(format!("bound {bound}"));
+        see!(self, "bound with {frame} and {offered}");
+        see!(self, "bound {bound}");
         if !bytes.contains(&ESC) {
             for byte in 0..=255 {
                 if bytes.contains(&byte) {
-                    self.add(format!("bound with {frame}, {byte:02X} and no ESC"));
+                    see!(self, "bound with {frame}, {byte:02X} and no ESC");
                 }
             }
         }
@@ -1128,23 +849,23 @@ impl Cover {
             std::cmp::Ordering::Equal => "reached",
             std::cmp::Ordering::Greater => "passed by questions",
         };
-        self.add(format!("bound {how} with {frame}"));
+        see!(self, "bound {how} with {frame}");
     }
 
     /// What a record is like to which a question is put that takes none.
     fn see_bystander(&mut self, asked: &str, before: &Record) {
         if !faults(before).is_empty() {
-            self.add(format!("{asked} with the record out of range"));
+            see!(self, "{asked} with the record out of range");
         }
         if before.frame.state == 1 {
-            self.add(format!("{asked} with a frame open in the record"));
+            see!(self, "{asked} with a frame open in the record");
         }
     }
 
     fn see_parts(&mut self, before: &Record, place: usize, bytes: &[u8], parts: &[Found]) {
         self.see_bystander("parts", before);
         self.see_place(place, bytes);
-        self.add(format!("parts of {} bytes", bytes.len()));
+        see!(self, "parts of {} bytes", bytes.len());
         if parts.len() > 256 {
             self.add("more than 256 parts");
         }
@@ -1154,11 +875,11 @@ impl Cover {
             _ => format!("part {first} asked for at a later place"),
         });
         if place > 300 {
-            self.add(format!("part {first} behind place 300, asked for there"));
+            see!(self, "part {first} behind place 300, asked for there");
         }
         for pair in parts.windows(2) {
             let [word, next] = [pair[0], pair[1]].map(|part| part.kind.word());
-            self.add(format!("part {word}, then {next}"));
+            see!(self, "part {word}, then {next}");
         }
         for part in parts {
             let word = part.kind.word();
@@ -1166,17 +887,17 @@ impl Cover {
             match part.kind {
                 Kind::None => (),
                 Kind::Text | Kind::Skipped => {
-                    self.add(format!("part {word} {:02X}", bytes[part.end - 1]));
+                    see!(self, "part {word} {:02X}", bytes[part.end - 1]);
                 }
                 _ => {
-                    self.add(format!("part {word} of {} bytes", body.len()));
+                    see!(self, "part {word} of {} bytes", body.len());
                     if stream::good(body).is_some() {
-                        self.add(format!("part {word} with a good frame in it"));
+                        see!(self, "part {word} with a good frame in it");
                     }
                 }
             }
             if part.end >= 256 {
-                self.add(format!("part {word} that ends at 256 or later"));
+                see!(self, "part {word} that ends at 256 or later");
             }
             if part.kind != Kind::None && part.end == 4096 {
                 self.add("a part that ends at 4096");
@@ -1207,7 +928,7 @@ impl Cover {
                 _ => "",
             };
             if place > from && place < behind {
-                self.add(format!("parts from within a frame {word}"));
+                see!(self, "parts from within a frame {word}");
             }
             if word == "closed" && place + 1 == behind {
                 self.add("parts from the CR of a frame");
@@ -1222,80 +943,26 @@ impl Cover {
         }
     }
 
-    fn see_verdict(&mut self, before: &Record, mode: u8, body: &[u8], verdict: Verdict) {
-        self.see_bystander("verdict", before);
-        if mode != before.mode {
-            self.add("verdict in a mode that the record has not");
-        }
-        self.add(format!("verdict of {} bytes", body.len()));
-        let mode = mode_name(mode);
-        let how = match verdict {
-            Verdict::Bad => "bad",
-            Verdict::PassedOver(_) => "passed over",
-            Verdict::Obeyed => "obeyed",
-        };
-        self.add(format!("verdict {how} in {mode}"));
-        let Some(good) = stream::good(body) else {
-            self.see_bad_verdict(body);
-            return;
-        };
-        let command = good.command;
-        self.add(format!("verdict of {command:?} {how} in {mode}"));
-        match (command, &good.numbers[..]) {
-            (Command::Position, [row, 0..=15]) => {
-                self.add(format!("verdict of cursor row {row} {how} in {mode}"));
-            }
-            (Command::Inverse, [row]) => {
-                self.add(format!("verdict of IZ{row} {how} in {mode}"));
-            }
-            _ => (),
-        }
-        if let Verdict::PassedOver(number) = verdict {
-            self.add(format!("verdict passed over for the number {number}"));
-            if number > 255 {
-                self.add(format!("verdict with a number above 255 of {command:?}"));
-            }
-        }
-        let wrong = match (command, &good.numbers[..]) {
-            (Command::Position, &[row, column]) => (row > 4, column > 15),
-            (Command::Times, &[one, two]) => (
-                !(4..=50).contains(&one),
-                two != 0 && !(4..=50).contains(&two),
-            ),
-            _ => return,
-        };
-        let which = match wrong {
-            (true, false) => "the first",
-            (false, true) => "the second",
-            (true, true) => "both",
-            (false, false) => return,
-        };
-        self.add(format!("verdict of {command:?} for {which} out of range"));
-    }
-
     /// A frame outside the grammar, and what it lies close to.
     fn see_bad_verdict(&mut self, body: &[u8]) {
         for byte in [ESC, CR, LF] {
             if body.contains(&byte) {
-                self.add(format!("verdict bad with {byte:02X} in the frame"));
+                see!(self, "verdict bad with {byte:02X} in the frame");
             }
         }
-        if let Some(form) = DAMAGED.iter().find(|form| form.as_bytes() == body) {
-            self.add(format!("verdict bad of {form:?}"));
+        if let Some(form) = DAMAGED.split('|').find(|form| form.as_bytes() == body) {
+            see!(self, "verdict bad of {form:?}");
         }
         if let Some(less) = body.split_last().and_then(|(_, less)| spelt(less)) {
-            self.add(format!("verdict bad of {:?} and a byte more", less.command));
+            see!(self, "verdict bad of {:?} and a byte more", less.command);
         }
         if let Some(capital) = spelt(&body.to_ascii_uppercase()) {
-            self.add(format!(
-                "verdict bad of {:?} in small letters",
-                capital.command
-            ));
+            see!(self, "verdict bad of {:?} in small letters", capital.command);
         }
         let (plain, zeros, longest) = without_zeros(body);
         if let Some(plain) = spelt(&plain) {
             if longest.len() <= 3 && zeros.len() == plain.numbers.len() {
-                self.add(format!("verdict bad of {:?}, padded", plain.command));
+                see!(self, "verdict bad of {:?}, padded", plain.command);
             }
         }
     }
@@ -1303,36 +970,29 @@ impl Cover {
     fn see_choice(&mut self, before: &Record, bytes: &[u8], broken: Option<Broken>) {
         self.see_bystander("choice", before);
         let length = bytes.len();
-        self.add(format!("choice of {length} bytes"));
+        see!(self, "choice of {length} bytes");
         let pieces = choice::pieces(bytes);
         let first = first_part(&pieces);
-        self.add(format!("choice that begins with {first}"));
-        let screens: Vec<usize> = (1..pieces.len())
-            .filter(|&at| pieces[at].sets_text_mode())
-            .collect();
+        see!(self, "choice that begins with {first}");
+        let screens: Vec<usize> = (1..pieces.len()).filter(|&at| pieces[at].sets_text_mode()).collect();
         match broken {
             Some(broken) => {
                 self.see_broken(bytes, &pieces, broken);
-                if screens
-                    .first()
-                    .is_none_or(|&at| pieces[at].place > broken.offset)
-                {
+                if screens.first().is_none_or(|&at| pieces[at].place > broken.offset) {
                     let rule = broken.rule;
-                    self.add(format!("choice broken by rule {rule} in the first screen"));
+                    see!(self, "choice broken by rule {rule} in the first screen");
                 }
             }
             None => {
                 self.add("choice yes");
-                self.add(format!("choice yes of {length} bytes"));
-                self.add(format!("choice yes that begins with {first}"));
-                self.add(format!("choice yes with {} later screens", screens.len()));
-                let text = pieces
-                    .iter()
-                    .any(|piece| matches!(piece.part, Part::Text(_)));
+                see!(self, "choice yes of {length} bytes");
+                see!(self, "choice yes that begins with {first}");
+                see!(self, "choice yes with {} later screens", screens.len());
+                let text = pieces.iter().any(|piece| matches!(piece.part, Part::Text(_)));
                 match (pieces.len(), screens.len()) {
-                    (1 | 2, 0) if !text => self.add(format!("choice yes of {first} alone")),
+                    (1 | 2, 0) if !text => see!(self, "choice yes of {first} alone"),
                     (_, 0) if text && !bytes.windows(2).any(|pair| pair == b"IK") => {
-                        self.add(format!("choice yes of {first} with text and no labels"));
+                        see!(self, "choice yes of {first} with text and no labels");
                     }
                     _ => (),
                 }
@@ -1355,42 +1015,42 @@ impl Cover {
     /// that are there now, and what became of them before and behind.
     fn see_choice_screen(&mut self, pieces: &[Piece], at: usize, behind: usize, yes: bool) {
         let stretch = &pieces[at + 1..behind];
-        let sides = [("left", Command::LeftLabel), ("right", Command::RightLabel)];
+        let sides = [("left", "LeftLabel"), ("right", "RightLabel")];
         let with = match sides.map(|(_, side)| choice::sets(stretch, side)) {
             [true, true] => "with",
             _ => "without",
         };
         let mode = pieces[at].mode().unwrap_or(0);
         let look = look_name(pieces.get(behind));
-        self.add(format!("choice screen {mode} {with} labels at {look}"));
+        see!(self, "choice screen {mode} {with} labels at {look}");
         for (name, side) in sides {
-            let touched: Vec<Command> = stretch
+            let touched: Vec<&str> = stretch
                 .iter()
                 .filter(|piece| piece.leaves(side).is_some())
-                .filter_map(|piece| piece.good.as_ref().map(|good| good.command))
+                .filter_map(|piece| piece.good.as_ref().map(|good| good.command.name))
                 .collect();
-            if yes && touched.iter().filter(|&&command| command == side).count() > 1 {
-                self.add(format!("choice yes with the {name} label set again"));
+            if yes && touched.iter().filter(|&&name| name == side).count() > 1 {
+                see!(self, "choice yes with the {name} label set again");
             }
             if choice::sets(stretch, side) {
                 continue;
             }
             let why = match touched.last() {
-                Some(Command::LabelsEmpty) => "emptied by IK0",
+                Some(&"LabelsEmpty") => "emptied by IK0",
                 Some(_) => "set to nothing",
                 None if choice::sets(&pieces[behind..], side) => "set too late",
                 None if choice::sets(&pieces[..at], side) => "set before the screen alone",
                 None => "never set",
             };
-            self.add(format!("choice broken for the {name} label, {why}"));
+            see!(self, "choice broken for the {name} label, {why}");
         }
         for piece in stretch.iter().filter(|_| yes) {
             let what = match &piece.good {
                 None => "a skipped byte".to_string(),
-                Some(good) if effect::obeyed(&power_on(), good) => format!("{:?}", good.command),
+                Some(good) if commands::obeyed(&power_on(), good) => format!("{:?}", good.command),
                 Some(_) => "a frame passed over".to_string(),
             };
-            self.add(format!("choice yes with {what} behind its screen"));
+            see!(self, "choice yes with {what} behind its screen");
         }
     }
 
@@ -1398,22 +1058,20 @@ impl Cover {
     fn see_broken(&mut self, bytes: &[u8], pieces: &[Piece], broken: Broken) {
         let Broken { rule, offset } = broken;
         let all = choice::all_broken(bytes);
-        self.add(format!("choice broken by rule {rule}"));
-        self.add(format!("choice broken by rule {rule} at {offset}"));
+        see!(self, "choice broken by rule {rule}");
+        see!(self, "choice broken by rule {rule} at {offset}");
         if all.len() == 1 {
-            self.add(format!("choice broken by rule {rule} alone"));
+            see!(self, "choice broken by rule {rule} alone");
         }
         if offset >= 256 {
-            self.add(format!("choice broken by rule {rule} at 256 or later"));
+            see!(self, "choice broken by rule {rule} at 256 or later");
         }
         for other in all {
             let later = other.rule;
             if other.offset > offset {
-                self.add(format!("choice breaks rule {rule} before rule {later}"));
+                see!(self, "choice breaks rule {rule} before rule {later}");
             } else if later > rule {
-                self.add(format!(
-                    "choice breaks rules {rule} and {later} at place {offset}"
-                ));
+                see!(self, "choice breaks rules {rule} and {later} at place {offset}");
             }
         }
         let there = pieces.iter().find(|piece| piece.place == offset);
@@ -1425,7 +1083,7 @@ impl Cover {
                 _ => "choice broken by another bad frame",
             }),
             (4, Some(Part::Tail(body))) => {
-                self.add(format!("choice broken by a tail of {} bytes", body.len()));
+                see!(self, "choice broken by a tail of {} bytes", body.len());
             }
             _ => (),
         }
@@ -1436,20 +1094,15 @@ impl Cover {
         let frame = frame_name(before);
         let all = used == bytes.len();
         match (bound.checked_sub(room), all) {
-            (Some(0), true) => self.add(format!("room of the bound, all used, with {frame}")),
+            (Some(0), true) => see!(self, "room of the bound, all used, with {frame}"),
             (Some(0), false) => self.add("room of the bound, stopped by a question"),
             (Some(1), _) => {
                 let how = if all { "all used" } else { "stopped" };
-                self.add(format!(
-                    "room of one less than the bound, {how}, with {frame}"
-                ));
+                see!(self, "room of one less than the bound, {how}, with {frame}");
             }
             _ => (),
         }
-        self.add(format!(
-            "column {} in range in mode {}",
-            before.column, before.mode
-        ));
+        see!(self, "column {} in range in mode {}", before.column, before.mode);
         match before.frame.state {
             1 => self.add("frame open before the call"),
             2 => self.add("frame overlong before the call"),
@@ -1461,19 +1114,8 @@ impl Cover {
         if let Some(stop) = bytes.get(used) {
             let overlong = matches!(parts.last(), Some((Part::Tail(body), _)) if body.len() > 250);
             let end = if *stop == CR { "CR" } else { "ESC" };
-            self.add(format!(
-                "stop at {end}{}",
-                if overlong {
-                    " of an overlong frame"
-                } else {
-                    ""
-                }
-            ));
-            self.add(if room == 0 {
-                "stop with room 0"
-            } else {
-                "stop after some answers"
-            });
+            see!(self, "stop at {end}{}", if overlong { " of an overlong frame" } else { "" });
+            self.add(if room == 0 { "stop with room 0" } else { "stop after some answers" });
         } else if room == 0 && !bytes.is_empty() {
             self.add("room 0 and all used");
         }
@@ -1483,64 +1125,36 @@ impl Cover {
             match part {
                 Part::Text(code) => {
                     self.see_text(&record);
-                    effect::text(&mut record, *code);
+                    commands::text(&mut record, *code);
                 }
                 Part::Skipped(_) => self.add("byte skipped"),
                 Part::Abandoned(body) if body.len() > 250 => self.add("frame abandoned overlong"),
                 Part::Abandoned(_) => self.add("frame abandoned"),
                 Part::Tail(body) if body.len() > 250 => self.add("tail overlong"),
-                Part::Tail(body) => self.add(format!("tail of {} bytes", body.len())),
+                Part::Tail(body) => see!(self, "tail of {} bytes", body.len()),
                 Part::Closed(body) if body.len() > 250 => self.add("frame closed overlong"),
                 Part::Closed(body) => {
-                    self.add(format!("frame closed with {} bytes", body.len()));
+                    see!(self, "frame closed with {} bytes", body.len());
                     if body.is_empty() {
                         self.add("frame closed empty");
                     }
                     let Some(good) = spelt(body) else {
                         self.add("frame outside the grammar");
-                        if let Some(form) = DAMAGED.iter().find(|form| form.as_bytes() == body) {
-                            self.add(format!("bad frame {form:?}"));
+                        if let Some(form) = DAMAGED.split('|').find(|form| form.as_bytes() == body) {
+                            see!(self, "bad frame {form:?}");
                         }
                         self.see_bad(&record, body);
                         continue;
                     };
-                    if good.numbers.contains(&0) {
-                        self.add(format!("frame {:?} with the number 0", good.command));
-                    }
-                    if good.codes.starts_with(b"00") && body.starts_with(b"IK") {
-                        self.add("label of zeros");
-                    }
-                    let how = if effect::obeyed(&record, &good) {
-                        "obeyed"
-                    } else {
-                        "passed over"
-                    };
-                    self.add(format!("frame {:?} {how}", good.command));
-                    self.see_screen(&record, good.command, &good.numbers, how);
-                    self.see_marks(&record, &good, how);
-                    if body.starts_with(b"Gr") {
-                        self.add(format!("picture frame of {} columns", good.codes.len()));
-                        if good.numbers == [6] && good.codes.iter().any(|&dots| dots > 31) {
-                            self.add("picture frame of row 6 cut to five bits");
-                        }
-                    }
-                    if body.starts_with(b"IK") {
-                        self.add(format!("label frame of {} codes", good.codes.len()));
-                    }
-                    effect::take(&mut record, &good);
+                    self.see_good(&record, &good);
+                    commands::take(&mut record, &good);
                 }
             }
         }
     }
 
     /// The answers of a call and the room that each finds; and its stop.
-    fn see_answers(
-        &mut self,
-        before: &Record,
-        room: usize,
-        parts: &[stream::Placed],
-        unused: &[u8],
-    ) {
+    fn see_answers(&mut self, before: &Record, room: usize, parts: &[stream::Placed], unused: &[u8]) {
         let mut record = before.clone();
         record.frame = NO_FRAME;
         let (mut left, mut long) = (room, 0);
@@ -1551,22 +1165,13 @@ impl Cover {
             };
             if let Some((command, answer)) = asked {
                 let length = answer.len();
-                self.add(format!("{command:?} of {length} answered with {left} left"));
+                see!(self, "{command} of {length} answered with {left} left");
                 if left < room {
-                    self.add(format!("{command:?} of {length} answered behind an answer"));
-                }
-                let (mode, overlay) = (record.mode, record.overlay);
-                self.add(format!("{command:?} answered in mode {mode}"));
-                self.add(format!("{command:?} answered under overlay {overlay}"));
-                if !record.display {
-                    self.add(format!("{command:?} answered with the display off"));
-                }
-                if record.held.down {
-                    self.add(format!("{command:?} answered with a key held"));
+                    see!(self, "{command} of {length} answered behind an answer");
                 }
                 match command {
-                    Command::AskContrast => self.add(format!("contrast {} told", record.contrast)),
-                    Command::AskHook => self.add(format!("{} told", hook_name(record.hook))),
+                    "AskContrast" => see!(self, "contrast {} told", record.contrast),
+                    "AskHook" => see!(self, "{} told", hook_name(record.hook)),
                     _ => (),
                 }
                 long += 1;
@@ -1576,7 +1181,7 @@ impl Cover {
             }
             if let Part::Abandoned(body) = part {
                 if let Some((command, _)) = question(&record, body) {
-                    self.add(format!("{command:?} abandoned"));
+                    see!(self, "{command} abandoned");
                 }
             }
             let answer = stream::take(&mut record, part);
@@ -1603,13 +1208,13 @@ impl Cover {
         let length = answer.len();
         match unused.first() {
             Some(&CR) => {
-                self.add(format!("{command:?} of {length} stopped with {left} left"));
+                see!(self, "{command} of {length} stopped with {left} left");
                 self.add(match left == room {
-                    true => format!("{command:?} of {length} stopped at once"),
-                    false => format!("{command:?} of {length} stopped behind an answer"),
+                    true => format!("{command} of {length} stopped at once"),
+                    false => format!("{command} of {length} stopped behind an answer"),
                 });
             }
-            _ => self.add(format!("{command:?} left open")),
+            _ => see!(self, "{command} left open"),
         }
     }
 
@@ -1622,20 +1227,20 @@ impl Cover {
         };
         let length = answer.len();
         if *first != CR {
-            self.add(format!("{command:?} open before, spoilt"));
+            see!(self, "{command} open before, spoilt");
             return;
         }
         self.add(match room < length {
-            true => format!("{command:?} of {length} open before, stopped"),
-            false => format!("{command:?} of {length} open before, answered"),
+            true => format!("{command} of {length} open before, stopped"),
+            false => format!("{command} of {length} open before, answered"),
         });
     }
 
     fn see_hook(&mut self, before: &Record, on: u8) {
-        self.add(format!("hook call {on}"));
+        see!(self, "hook call {on}");
         let to = hook_name(on != 0);
         let from = hook_name(before.hook);
-        self.add(format!("hook call to {to} from {from}"));
+        see!(self, "hook call to {to} from {from}");
         match before.frame.state {
             1 => self.add("hook call with a frame open"),
             2 => self.add("hook call with a frame overlong"),
@@ -1645,86 +1250,7 @@ impl Cover {
             self.add("hook call with a key held");
         }
         if let Some((command, _)) = open_body(before).and_then(|body| question(before, body)) {
-            self.add(format!("hook call to {to} while {command:?} waits"));
-        }
-    }
-
-    /// Contrast, hook switch and marks as fields.
-    fn see_switch(&mut self, field: u16, place: u16, value: u16) {
-        match (field, value) {
-            (37, 0..=255) => self.add(format!("contrast set to {value}")),
-            (37, _) => self.add("contrast set to 256 or more"),
-            (38, _) => {
-                self.add(format!("hook field set to {}", hook_name(value != 0)));
-                if value > 1 {
-                    self.add("hook field set to 2 or more");
-                }
-            }
-            (39, 0) => self.add(format!("mark {place} taken off")),
-            (39, _) => {
-                self.add(format!("mark {place} set"));
-                if value > 1 {
-                    self.add("mark set by 2 or more");
-                }
-            }
-            _ => (),
-        }
-    }
-
-    /// A good frame of the contrast, of the marks, or that clears.
-    fn see_marks(&mut self, record: &Record, good: &Spelt, how: &str) {
-        let (mode, overlay) = (record.mode, record.overlay);
-        let column = usize::from(record.column);
-        let mark = marked(record);
-        match (good.command, &good.numbers[..]) {
-            (Command::Contrast, [number]) => {
-                self.add(format!("IA{number} {how}"));
-                self.add(format!("frame \"IA{number}\" {how}"));
-            }
-            (Command::Inverse, [number]) => {
-                self.add(format!("IZ{number} {how} in mode {mode}"));
-                self.add(format!("frame \"IZ{number}\" {how}"));
-                if how != "obeyed" {
-                    return;
-                }
-                self.add(format!("IZ under overlay {overlay}"));
-                self.add(match (number, mark) {
-                    (0, Some(row)) => format!("IZ0 with mark {row}"),
-                    (_, None) => format!("IZ{number} with none marked"),
-                    (_, Some(row)) if usize::from(*number) == row + 1 => {
-                        format!("IZ{number} to the same mark")
-                    }
-                    _ => format!("IZ{number} to a row with another marked"),
-                });
-            }
-            (Command::ClearLine, _) => {
-                let cleared = match mode {
-                    LARGE => &record.line[column..],
-                    _ => &record.text[CODES * usize::from(record.row)..][column..CODES],
-                };
-                self.add(format!("[K at column {column} in mode {mode}"));
-                self.add(format!("[K in row {} in mode {mode}", record.row));
-                if cleared.first().is_some_and(|&code| code != 0x20) {
-                    self.add(format!("[K blanks from column {column} in mode {mode}"));
-                }
-                if !cleared.is_empty() && cleared.iter().all(|&code| code == 0x20) {
-                    self.add(format!("[K of blanks in mode {mode}"));
-                }
-                self.add(format!("[K under overlay {overlay}"));
-                if !record.display {
-                    self.add(format!("[K with the display off in mode {mode}"));
-                }
-                if mark.is_some() {
-                    self.add(format!("[K in mode {mode} with a mark"));
-                }
-            }
-            (Command::Clear, _) if mark.is_some() => {
-                self.add(format!("&# in mode {mode} with a mark"));
-            }
-            (Command::Mode, [number]) if mark.is_some() => {
-                self.add(format!("ID{number} {how} with a mark"));
-            }
-            _ => (),
+            see!(self, "hook call to {to} while {command} waits");
         }
     }
 
@@ -1746,36 +1272,7 @@ impl Cover {
         }
         if large && left > 0 {
             let overlay = record.overlay;
-            self.add(format!("text to the large line under overlay {overlay}"));
-        }
-    }
-
-    /// A good frame that has to do with modes and the large line.
-    fn see_screen(&mut self, record: &Record, command: Command, numbers: &[u16], how: &str) {
-        let mode = record.mode;
-        let blank = record.line == [0x20; LINE];
-        match (command, numbers) {
-            (Command::Mode, [number]) => {
-                self.add(format!("ID{number} {how}"));
-                self.add(format!("ID{number} {how} in mode {mode}"));
-                if !blank {
-                    self.add(format!("ID{number} {how} with a line that isn't blank"));
-                }
-            }
-            (Command::Clear, _) if !blank => {
-                self.add(format!("&# in mode {mode} with a line that isn't blank"));
-            }
-            (Command::Position, [row, column]) if mode == LARGE => {
-                if (*row, *column) == (0, 0) {
-                    self.add("cursor frame 0;0 in mode 10");
-                }
-                self.add(if *row < 5 && *column < 16 {
-                    "cursor frame in mode 10, else obeyed"
-                } else {
-                    "cursor frame in mode 10, else passed over"
-                });
-            }
-            _ => (),
+            see!(self, "text to the large line under overlay {overlay}");
         }
     }
 
@@ -1799,38 +1296,26 @@ impl Cover {
                 b'0' => "a zero and three digits",
                 _ => "four digits",
             };
-            self.add(format!("{what} in {:?}", plain.command));
+            see!(self, "{what} in {:?}", plain.command);
         }
         if longest.len() > 3 {
             return;
         }
         let command = plain.command;
         for (place, zeros) in zeros.iter().enumerate() {
-            self.add(format!(
-                "{zeros} zeros before number {place} of {command:?}"
-            ));
+            see!(self, "{zeros} zeros before number {place} of {command:?}");
             if *zeros > 0 && plain.numbers[place] == 0 {
-                self.add(format!("padded zero in {command:?}"));
+                see!(self, "padded zero in {command:?}");
             }
         }
         if zeros.len() > 1 && !zeros.contains(&0) {
-            self.add(format!("all numbers of {command:?} padded"));
+            see!(self, "all numbers of {command:?} padded");
         }
-        let how = if effect::obeyed(record, &plain) {
-            "obeyed"
-        } else {
-            "passed over"
-        };
-        self.add(format!("padded {command:?}, else {how}"));
+        let how = if commands::obeyed(record, &plain) { "obeyed" } else { "passed over" };
+        see!(self, "padded {command:?}, else {how}");
     }
 
-    fn see_log(
-        &mut self,
-        before: &Record,
-        ticks: &[u16],
-        edges: &[u8],
-        (number, used, _, room): (u8, usize, usize, u16),
-    ) {
+    fn see_log(&mut self, before: &Record, ticks: &[u16], edges: &[u8], (number, used, room): (u8, usize, u16)) {
         let bad = edges.iter().position(|&byte| keys::edge(byte).is_none());
         if number == 5 && bad.is_some() {
             self.add("unequal lengths and a bad edge");
@@ -1877,30 +1362,30 @@ impl Cover {
                 _ => None,
             };
             let what = match (edge, held.long) {
-                (keys::Edge::Poll, false) => Some("short poll"),
-                (keys::Edge::Poll, true) if record.time2 > 0 => Some("long poll"),
-                (keys::Edge::Release(key), false) if key == held.key => Some("short release"),
+                (Edge::Poll, false) => Some("short poll"),
+                (Edge::Poll, true) if record.time2 > 0 => Some("long poll"),
+                (Edge::Release(key), false) if key == held.key => Some("short release"),
                 _ => None,
             };
             if let (Some(near), Some(what)) = (near, what) {
-                self.add(format!("{what} {near} the threshold"));
+                see!(self, "{what} {near} the threshold");
             }
             match edge {
-                keys::Edge::Poll if !held.down => self.add("poll with none held"),
-                keys::Edge::Poll if held.long && record.time2 == 0 => {
+                Edge::Poll if !held.down => self.add("poll with none held"),
+                Edge::Poll if held.long && record.time2 == 0 => {
                     self.add("poll of a long key with Time2 0");
                 }
-                keys::Edge::Poll if held.long && KEYS[usize::from(held.key)].3.is_none() => {
+                Edge::Poll if held.long && KEYS[usize::from(held.key)].3.is_none() => {
                     self.add("poll of a long key without repeat code");
                 }
-                keys::Edge::Press(_) if held.down => self.add("press while a key is held"),
-                keys::Edge::Release(key) if !held.down || key != held.key => {
+                Edge::Press(_) if held.down => self.add("press while a key is held"),
+                Edge::Release(key) if !held.down || key != held.key => {
                     self.add("release of a key not held");
                 }
                 _ => (),
             }
             let (rule, code) = keys::take(&mut record, now, edge);
-            if edge == keys::Edge::Poll && held.long {
+            if edge == Edge::Poll && held.long {
                 let after = now.wrapping_sub(held.tick);
                 let times = format!("{};{}", record.time1, record.time2);
                 let what = if code.is_some() { "a code" } else { "nothing" };
@@ -1908,7 +1393,7 @@ impl Cover {
                 self.add(name);
             }
             if let Some(rule) = rule {
-                self.add(format!("rule {rule}"));
+                see!(self, "rule {rule}");
             }
             if record.backlight != light {
                 self.add("press restarts the light");
@@ -1916,76 +1401,33 @@ impl Cover {
             if let Some(code) = code {
                 let (name, short, long, _) = KEYS[usize::from(held.key)];
                 let how = match (edge, code) {
-                    (keys::Edge::Poll, code) if code == long => "long at poll",
-                    (keys::Edge::Poll, _) => "repeat",
+                    (Edge::Poll, code) if code == long => "long at poll",
+                    (Edge::Poll, _) => "repeat",
                     (_, code) if code == short => "short at release",
                     _ => "long at release",
                 };
-                self.add(format!("key {name} {how}"));
+                see!(self, "key {name} {how}");
             }
         }
-    }
-
-    /// A line that can't be taken: what is wrong with its phase, its field or
-    /// its place.
-    fn see_misfit(&mut self, call: &Call) {
-        let Call::Other(line) = call else { return };
-        let Some((letter, bytes)) = words(line) else {
-            return;
-        };
-        if let (b'S', &[field, p, q, _, _]) = (letter, &bytes[..]) {
-            let (field, place) = (u16::from(field), u16::from_be_bytes([p, q]));
-            if field == FIELDS {
-                self.add(format!("line S with field {field}"));
-            } else if usize::from(place) == places(field) {
-                let name = FIELD_NAMES[usize::from(field)];
-                self.add(format!("line S one place behind {name}"));
-            }
-        }
-        match (letter, &bytes[..]) {
-            (b'H', bytes) => self.add(format!("line H with {} bytes", bytes.len())),
-            (b'N', bytes) => self.add(format!("line N with {} bytes", bytes.len())),
-            (b'D', bytes) => self.add(format!("line D with {} bytes", bytes.len())),
-            (b'J', bytes) => self.add(format!("line J with {} bytes", bytes.len())),
-            (b'E', bytes) => self.add(format!("line E with {} bytes", bytes.len())),
-            (b'W', &[_, _, number, _, _, _, _]) => {
-                self.add(format!("line W with command {number}"));
-            }
-            _ => (),
-        }
-        let before_phase = match letter {
-            b'M' => 0,
-            b'Q' => 1,
-            b'U' => 2,
-            _ => return,
-        };
-        let fault = match bytes.get(before_phase..) {
-            Some([]) => "no phase",
-            Some([0 | 1, _]) => "a byte behind the phase",
-            Some([2]) => "phase 2",
-            Some([_]) => "another phase that is none",
-            _ => return,
-        };
-        self.add(format!("line {} with {fault}", char::from(letter)));
     }
 
     fn see_letter(&mut self, asked: &str, record: &Record, phase: Phase) {
         let (u, s) = (record.icons[ICON_U], record.icons[ICON_S]);
-        self.add(format!("{asked} with U {u} S {s} in the phase {phase:?}"));
+        see!(self, "{asked} with U {u} S {s} in the phase {phase:?}");
     }
 
     fn see_row(&mut self, before: &Record, row: u8, phase: Phase, owner: &Owner) {
-        self.add(format!("row {row} in the phase {phase:?}"));
+        see!(self, "row {row} in the phase {phase:?}");
         match owner {
             Owner::IconBar(_) => self.see_letter("icon bar", before, phase),
             Owner::Small { .. } | Owner::Big { .. } => {
                 let count = seen::codes_in_line(before);
-                self.add(format!("line of {count} codes by row {row}"));
+                see!(self, "line of {count} codes by row {row}");
                 let by = counted_by(before);
-                self.add(format!("codes of the line counted by {by}"));
+                see!(self, "codes of the line counted by {by}");
             }
             Owner::PictureWithRocker { w, .. } => {
-                self.add(format!("rocker {w} beside a picture"));
+                see!(self, "rocker {w} beside a picture");
                 if before.picture[5 * COLUMNS..][42..54] != [0; 12] {
                     self.add("picture row with the rocker, not blank below it");
                 }
@@ -2001,14 +1443,12 @@ impl Cover {
         }
         let mark = marked(before);
         match *owner {
-            Owner::Text {
-                row, mark: true, ..
-            } => {
-                self.add(format!("marked text by {place}"));
-                self.add(format!("mark {row} seen by row"));
+            Owner::Text { row, mark: true, .. } => {
+                see!(self, "marked text by {place}");
+                see!(self, "mark {row} seen by row");
             }
             Owner::Text { row, .. } if mark.is_some() => {
-                self.add(format!("text row {row} seen beside another's mark"));
+                see!(self, "text row {row} seen beside another's mark");
             }
             _ => (),
         }
@@ -2016,7 +1456,7 @@ impl Cover {
             self.add("display off with a mark");
         }
         if row == 4 && mark == Some(4) {
-            self.add(format!("mark 4 not seen in mode {mode}"));
+            see!(self, "mark 4 not seen in mode {mode}");
         }
         let owner = match owner {
             Owner::Nothing => 0,
@@ -2025,26 +1465,17 @@ impl Cover {
             Owner::Picture { .. } => 3,
             Owner::SoftKeys { .. } => 4,
             Owner::Small { .. } => 5,
-            Owner::Big {
-                half: seen::Half::Upper,
-                ..
-            } => 6,
+            Owner::Big { half: Half::Upper, .. } => 6,
             Owner::Big { .. } => 7,
             Owner::PictureWithRocker { .. } => 8,
         };
-        self.add(format!("owner {owner}"));
+        see!(self, "owner {owner}");
         if mark.is_some() {
-            self.add(format!("owner {owner} with a mark in the record"));
+            see!(self, "owner {owner} with a mark in the record");
         }
     }
 
-    fn see_column(
-        &mut self,
-        before: &Record,
-        (row, column, phase): (u8, u8, Phase),
-        number: u8,
-        there: &Column,
-    ) {
+    fn see_column(&mut self, before: &Record, (row, column, phase): (u8, u8, Phase), number: u8, there: &Column) {
         let wrong = (row > 6, column > 95);
         match (number, wrong) {
             (4, (true, false)) => self.add("U 4 for the row alone"),
@@ -2055,7 +1486,7 @@ impl Cover {
             _ => (),
         }
         if number != 1 {
-            self.add(format!("U of row {row} and column {column}"));
+            see!(self, "U of row {row} and column {column}");
         }
         if number != 0 {
             return;
@@ -2065,30 +1496,23 @@ impl Cover {
             return;
         }
         let (mode, overlay) = (before.mode, before.overlay);
-        self.add(format!(
-            "column of row {row} in mode {mode} overlay {overlay}"
-        ));
+        see!(self, "column of row {row} in mode {mode} overlay {overlay}");
         if row == 5 {
-            self.add(format!("column {column} of row 5 under overlay {overlay}"));
+            see!(self, "column {column} of row 5 under overlay {overlay}");
         }
         let owner = match there {
             Column::Nothing => 0,
             Column::IconBar(_) => 1,
             _ => cell(there).map_or(0, |[owner, _, _, _]| owner),
         };
-        self.add(format!("column owner {owner}"));
+        see!(self, "column owner {owner}");
         if marked(before).is_some() {
-            self.add(format!("column owner {owner} with a mark in the record"));
+            see!(self, "column owner {owner} with a mark in the record");
         }
-        if let Column::Text {
-            row: text,
-            mark: true,
-            ..
-        } = *there
-        {
+        if let Column::Text { row: text, mark: true, .. } = *there {
             let place = format!("row {row} in mode {mode} overlay {overlay}");
-            self.add(format!("marked text by a column of {place}"));
-            self.add(format!("mark {text} seen by column"));
+            see!(self, "marked text by a column of {place}");
+            see!(self, "mark {text} seen by column");
         }
         let empty = |code: u8| if code == 0 { ", empty" } else { "" };
         let (what, width, from) = match *there {
@@ -2097,7 +1521,7 @@ impl Cover {
                 return;
             }
             Column::Rocker { w } => {
-                self.add(format!("rocker {w} by its column"));
+                see!(self, "rocker {w} by its column");
                 return;
             }
             Column::Text { .. } => ("text", 6, 0),
@@ -2110,7 +1534,7 @@ impl Cover {
         };
         if let Column::Small { .. } | Column::Big { .. } = there {
             let count = seen::codes_in_line(before);
-            self.add(format!("line of {count} codes by a column of row {row}"));
+            see!(self, "line of {count} codes by a column of row {row}");
         }
         let end = match (column - from) % width {
             0 => "first",
@@ -2122,7 +1546,7 @@ impl Cover {
             Column::Left { code, .. } | Column::Right { code, .. } => empty(code),
             _ => "",
         };
-        self.add(format!("{end} column of {what} cell {which}{note}"));
+        see!(self, "{end} column of {what} cell {which}{note}");
     }
 }
 
@@ -2151,9 +1575,9 @@ fn without_zeros(body: &[u8]) -> (Vec<u8>, Vec<usize>, &[u8]) {
 fn with_room(call: &Call, room: u16) -> Option<Call> {
     let mut call = call.clone();
     match &mut call {
-        Call::Command { room: old, .. }
-        | Call::Label { room: old, .. }
-        | Call::Picture { room: old, .. } => *old = room,
+        Call::Command { room: old, .. } | Call::Label { room: old, .. } | Call::Picture { room: old, .. } => {
+            *old = room
+        }
         _ => return None,
     }
     Some(call)
@@ -2168,4 +1592,13 @@ pub fn over(seeds: std::ops::Range<u64>, calls: usize) -> Cover {
         }
     }
     cover
+}
+
+/// Whether the key rule for this entry sits right at its threshold.
+fn distance(record: &Record, now: u16, edge: Edge) -> Option<i64> {
+    if !record.held.down || matches!(edge, Edge::Press(_)) {
+        return None;
+    }
+    let time = if record.held.long { record.time2 } else { record.time1 };
+    Some(i64::from(keys::elapsed(record, now)) - i64::from(keys::ticks(time)))
 }

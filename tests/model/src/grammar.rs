@@ -1,151 +1,197 @@
-//! The good frames, as a table of shapes.
+//! How good frames are spelt, and which of their numbers are in range.
 //!
 //! A shape is a row of pieces. A piece read at some place of the frame gives
 //! all ways to go on from there (a value and the rest); the frame has the
 //! shape if some way through all pieces leaves no rest. That no frame can be
 //! read in two ways is no part of the reader: `tests property` checks it.
 
+use crate::commands::COMMANDS;
 use crate::record::*;
+use Piece::{Data, Digit, Is, Number, Text};
 
-#[derive(Clone, Copy, PartialEq, Eq, PartialOrd, Ord, Debug)]
-pub enum Command {
-    DisplayOff,
-    DisplayOn,
-    Mode,
-    CursorShown,
-    CursorNotShown,
-    Clear,
-    Position,
-    LabelsEmpty,
-    IconS,
-    IconU,
-    IconF,
-    IconR,
-    IconP,
-    IconW,
-    Private,
-    HandsfreeJ,
-    HandsfreeI,
-    Mute,
-    Times,
-    Buzzer,
-    LightNumber,
-    LightOn,
-    LightAutoStart,
-    LightAuto,
-    LightDefault,
-    KeypadSet,
-    KeypadClear,
-    Contrast,
-    AskContrast,
-    AskHook,
-    AskVersion,
-    ClearLine,
-    Inverse,
-    LeftLabel,
-    RightLabel,
-    Picture,
+/// The range of a number.
+pub enum In {
+    /// From the first to the second of each pair, both included.
+    Spans(&'static [(u16, u16)]),
+    /// A row of the text mode.
+    Row,
+    /// The rows of the text mode, numbered from 1; 0 names none.
+    RowFromOne,
 }
 
 pub enum Piece {
     /// These very bytes.
-    Is(&'static [u8]),
+    Is(&'static str),
     /// 0, or 1 to 9 and up to two decimal digits more.
-    Number,
+    Number(In),
     /// One decimal digit.
-    Digit,
+    Digit(In),
     /// 0 to 7 codes, 0x20 to 0xFF.
-    Label,
+    Text,
     /// Picture data of 1 to 96 columns.
     Data,
 }
 
-use Command::*;
-use Piece::{Data, Digit, Is, Label as Text, Number};
+pub enum Effect {
+    /// What the command does with its numbers, and its codes or columns.
+    Do(fn(&mut Record, &[u8], &[u8])),
+    /// A question changes nothing: it is answered ESC and this.
+    Tell(fn(&Record) -> String),
+}
 
-/// All commands. The first 33 stand in the order in which a script numbers
-/// them. II is the note's spelling of the handsfree volume (3.5.25), IJ that
-/// of document 01; they are two commands of one effect. The picture frame is
-/// spelt as in 3.6.5 of the note.
-pub const SHAPES: [(Command, &[Piece]); 36] = [
-    (DisplayOff, &[Is(b"IDD")]),
-    (DisplayOn, &[Is(b"IDE")]),
-    (Mode, &[Is(b"ID"), Number]),
-    (CursorShown, &[Is(b"&C")]),
-    (CursorNotShown, &[Is(b"&D")]),
-    (Clear, &[Is(b"&#")]),
-    (Position, &[Is(b"["), Number, Is(b";"), Number, Is(b"H")]),
-    (LabelsEmpty, &[Is(b"IK0")]),
-    (IconS, &[Is(b"IS"), Number]),
-    (IconU, &[Is(b"IU"), Number]),
-    (IconF, &[Is(b"IF"), Number]),
-    (IconR, &[Is(b"IR"), Number]),
-    (IconP, &[Is(b"IP"), Number]),
-    (IconW, &[Is(b"IW"), Number]),
-    (Private, &[Is(b"IL"), Number]),
-    (HandsfreeJ, &[Is(b"IJ"), Number]),
-    (HandsfreeI, &[Is(b"II"), Number]),
-    (Mute, &[Is(b"IM"), Number]),
-    (Times, &[Is(b"IT"), Number, Is(b";"), Number]),
-    (Buzzer, &[Is(b"IB"), Number]),
-    (LightNumber, &[Is(b"IE"), Number]),
-    (LightOn, &[Is(b"IEE")]),
-    (LightAutoStart, &[Is(b"IEA")]),
-    (LightAuto, &[Is(b"IES")]),
-    (LightDefault, &[Is(b"IER")]),
-    (KeypadSet, &[Is(b"IEe")]),
-    (KeypadClear, &[Is(b"IEr")]),
-    (Contrast, &[Is(b"IA"), Number]),
-    (AskContrast, &[Is(b"IA")]),
-    (AskHook, &[Is(b"IH")]),
-    (AskVersion, &[Is(b"&V")]),
-    (ClearLine, &[Is(b"[K")]),
-    (Inverse, &[Is(b"IZ"), Number]),
-    (LeftLabel, &[Is(b"IK1"), Text]),
-    (RightLabel, &[Is(b"IK2"), Text]),
-    (Picture, &[Is(b"Gr"), Digit, Is(b","), Data, Is(b"z")]),
-];
+pub struct Command {
+    pub name: &'static str,
+    pub shape: &'static [Piece],
+    pub effect: Effect,
+}
+
+impl PartialEq for Command {
+    fn eq(&self, other: &Command) -> bool {
+        self.name == other.name
+    }
+}
+
+impl std::fmt::Debug for Command {
+    fn fmt(&self, to: &mut std::fmt::Formatter) -> std::fmt::Result {
+        to.write_str(self.name)
+    }
+}
+
+/// Rows that the most generous text mode lets a frame name.
+pub const MOST_ROWS: u16 = TEXT_ROWS as u16;
+
+impl In {
+    fn spans(&self, rows: u16) -> Vec<(u16, u16)> {
+        match self {
+            In::Spans(spans) => spans.to_vec(),
+            In::Row if rows == 0 => vec![],
+            In::Row => vec![(0, rows - 1)],
+            In::RowFromOne => vec![(0, rows)],
+        }
+    }
+
+    /// Whether a number is in range where a frame can name so many rows.
+    pub fn has(&self, n: u16, rows: u16) -> bool {
+        self.spans(rows).iter().any(|&(low, high)| low <= n && n <= high)
+    }
+
+    pub fn by_mode(&self) -> bool {
+        !matches!(self, In::Spans(_))
+    }
+
+    /// Numbers in range that should be tried: all of a short span, the ends of
+    /// a long one.
+    pub fn inside(&self, rows: u16) -> Vec<u16> {
+        let some = |&(low, high): &(u16, u16)| match high - low {
+            0..=19 => (low..=high).collect(),
+            _ => vec![low, low + 1, high - 1, high],
+        };
+        self.spans(rows).iter().flat_map(some).collect()
+    }
+
+    /// Numbers out of range that should be tried: those next to a span, and
+    /// some farther off.
+    pub fn outside(&self, rows: u16) -> Vec<u16> {
+        let spans = self.spans(rows);
+        let near = spans.iter().flat_map(|&(low, high)| [low.saturating_sub(1), high + 1, high + 2]);
+        let mut all: Vec<u16> = near.chain([10, 99, 100, 255, 256, 999]).collect();
+        all.retain(|&n| !self.has(n, rows));
+        all.sort_unstable();
+        all.dedup();
+        all
+    }
+}
+
+impl Command {
+    /// The ranges of its numbers, in order.
+    pub fn ranges(&self) -> Vec<&'static In> {
+        let range = |piece: &'static Piece| match piece {
+            Number(range) | Digit(range) => Some(range),
+            _ => None,
+        };
+        self.shape.iter().filter_map(range).collect()
+    }
+
+    /// Whether it carries a number, not the one digit of a picture row.
+    pub fn has_number(&self) -> bool {
+        self.shape.iter().any(|piece| matches!(piece, Number(_)))
+    }
+
+    /// Whether it has codes or columns behind its numbers.
+    pub fn has_rest(&self) -> bool {
+        self.shape.iter().any(|piece| matches!(piece, Text | Data))
+    }
+
+    pub fn is_question(&self) -> bool {
+        matches!(self.effect, Effect::Tell(_))
+    }
+
+    /// The first number, in the order of the frame, that is out of range where
+    /// a frame can name so many rows. None: all are in range.
+    pub fn first_out_of_range(&self, numbers: &[u16], rows: u16) -> Option<u16> {
+        let ranges = self.ranges();
+        let wrong = numbers.iter().zip(ranges).find(|(&n, range)| !range.has(n, rows));
+        wrong.map(|(&n, _)| n)
+    }
+
+    /// The bytes between ESC and CR, with the numbers spelt so and these codes
+    /// or data.
+    pub fn spell<T: ToString>(&self, numbers: &[T], rest: &[u8]) -> Vec<u8> {
+        let mut numbers = numbers.iter().map(T::to_string);
+        let piece = |piece: &Piece| match piece {
+            Is(word) => word.as_bytes().to_vec(),
+            Number(_) | Digit(_) => numbers.next().unwrap_or_default().into_bytes(),
+            Text | Data => rest.to_vec(),
+        };
+        self.shape.iter().flat_map(piece).collect()
+    }
+
+    /// The form with this number at a place and nothing said of the others.
+    pub fn form(&self, place: usize, n: u16) -> String {
+        let number = |at: usize| if at == place { n.to_string() } else { "_".to_string() };
+        let numbers: Vec<String> = (0..self.ranges().len()).map(number).collect();
+        String::from_utf8(self.spell(&numbers, b"_")).unwrap_or_default()
+    }
+}
+
+/// The command with this name.
+pub fn named(name: &str) -> &'static Command {
+    let command = COMMANDS.iter().find(|command| command.name == name);
+    command.unwrap_or_else(|| panic!("no command is called {name}"))
+}
 
 /// A command with its values: the numbers in order, and the codes of a label
 /// or the columns of a picture row.
-#[derive(Clone, PartialEq, Eq, PartialOrd, Ord, Debug)]
+#[derive(Clone, PartialEq, Debug)]
 pub struct Spelt {
-    pub command: Command,
+    pub command: &'static Command,
     pub numbers: Vec<u16>,
     pub codes: Vec<u8>,
 }
 
-/// One way to read on: what was read so far, and the rest.
-struct Way<'a> {
-    numbers: Vec<u16>,
-    codes: Vec<u8>,
-    rest: &'a [u8],
+impl Spelt {
+    pub fn is(&self, name: &str) -> bool {
+        self.command.name == name
+    }
 }
+
+/// One way to read on: what was read so far, and the rest.
+type Way<'a> = (Vec<u16>, Vec<u8>, &'a [u8]);
 
 /// All readings of a frame's bytes. None: outside the grammar.
 pub fn readings(body: &[u8]) -> Vec<Spelt> {
-    SHAPES
-        .iter()
-        .flat_map(|(command, pieces)| {
-            let start = Way {
-                numbers: vec![],
-                codes: vec![],
-                rest: body,
-            };
-            pieces
-                .iter()
-                .fold(vec![start], |ways, piece| {
-                    ways.into_iter().flat_map(|way| go_on(way, piece)).collect()
-                })
-                .into_iter()
-                .filter(|way| way.rest.is_empty())
-                .map(|way| Spelt {
-                    command: *command,
-                    numbers: way.numbers,
-                    codes: way.codes,
-                })
-        })
-        .collect()
+    let ways = |command: &'static Command| {
+        let start: Vec<Way> = vec![(vec![], vec![], body)];
+        let ways = command
+            .shape
+            .iter()
+            .fold(start, |ways, piece| ways.into_iter().flat_map(|way| go_on(way, piece)).collect());
+        ways.into_iter()
+            .filter(|(_, _, rest)| rest.is_empty())
+            .map(move |(numbers, codes, _)| Spelt { command, numbers, codes })
+            .collect::<Vec<_>>()
+    };
+    COMMANDS.iter().flat_map(ways).collect()
 }
 
 /// What a frame spells. None: outside the grammar.
@@ -153,70 +199,44 @@ pub fn spelt(body: &[u8]) -> Option<Spelt> {
     readings(body).into_iter().next()
 }
 
-fn go_on<'a>(way: Way<'a>, piece: &Piece) -> Vec<Way<'a>> {
-    let Way {
-        numbers,
-        codes,
-        rest,
-    } = way;
+fn go_on<'a>((numbers, codes, rest): Way<'a>, piece: &Piece) -> Vec<Way<'a>> {
+    let cut = |length: usize| Some((rest.get(..length)?, &rest[length..]));
     match piece {
-        Is(word) => rest
-            .strip_prefix(*word)
-            .map(|rest| Way {
-                numbers,
-                codes,
-                rest,
-            })
-            .into_iter()
-            .collect(),
-        Number | Digit => {
+        Is(word) => {
+            let rest = rest.strip_prefix(word.as_bytes());
+            rest.map(|rest| (numbers, codes, rest)).into_iter().collect()
+        }
+        Number(_) | Digit(_) => {
             let most = match (piece, rest.first()) {
                 // No digit follows a leading zero.
-                (Digit, _) | (_, Some(b'0')) => 1,
+                (Digit(_), _) | (_, Some(b'0')) => 1,
                 _ => 3,
             };
             (1..=most)
-                .filter_map(|length| Some((decimal(rest.get(..length)?)?, &rest[length..])))
-                .map(|(n, rest)| Way {
-                    numbers: [&numbers[..], &[n]].concat(),
-                    codes: codes.clone(),
-                    rest,
-                })
+                .filter_map(cut)
+                .filter_map(|(digits, rest)| Some((decimal(digits)?, rest)))
+                .map(|(n, rest)| ([&numbers[..], &[n]].concat(), codes.clone(), rest))
                 .collect()
         }
         Text => (0..=LABEL)
-            .filter_map(|length| Some((rest.get(..length)?, &rest[length..])))
+            .filter_map(cut)
             .filter(|(label, _)| label.iter().all(|&code| code >= 0x20))
-            .map(|(label, rest)| Way {
-                numbers: numbers.clone(),
-                codes: label.to_vec(),
-                rest,
-            })
+            .map(|(label, rest)| (numbers.clone(), label.to_vec(), rest))
             .collect(),
-        Data => data_ways(rest)
-            .into_iter()
-            .map(|(columns, rest)| Way {
-                numbers: numbers.clone(),
-                codes: columns,
-                rest,
-            })
-            .collect(),
+        Data => {
+            let ways = data_ways(rest).into_iter();
+            ways.map(|(columns, rest)| (numbers.clone(), columns, rest)).collect()
+        }
     }
 }
 
 /// The number that these decimal digits write; none if one is no digit.
 fn decimal(digits: &[u8]) -> Option<u16> {
-    digits.iter().try_fold(0, |n, digit| {
-        digit
-            .is_ascii_digit()
-            .then(|| n * 10 + u16::from(digit - b'0'))
-    })
+    digits.iter().try_fold(0, |n, digit| digit.is_ascii_digit().then(|| n * 10 + u16::from(digit - b'0')))
 }
 
-const HEX: &[u8; 16] = b"0123456789ABCDEF";
-
 fn hex_digit(byte: u8) -> Option<u8> {
-    HEX.iter().position(|&h| h == byte).map(|n| n as u8)
+    b"0123456789ABCDEF".iter().position(|&h| h == byte).map(|n| n as u8)
 }
 
 /// The item at the front: how often, which column, and its length.
@@ -233,8 +253,7 @@ fn item(rest: &[u8]) -> Option<(usize, u8, usize)> {
 
 /// All ways to take one or more items, of 1 to 96 columns, from the front.
 fn data_ways(mut rest: &[u8]) -> Vec<(Vec<u8>, &[u8])> {
-    let mut ways = vec![];
-    let mut columns = vec![];
+    let (mut ways, mut columns) = (vec![], vec![]);
     while let Some((times, column, length)) = item(rest) {
         columns.extend(vec![column; times]);
         rest = &rest[length..];
@@ -244,59 +263,4 @@ fn data_ways(mut rest: &[u8]) -> Vec<(Vec<u8>, &[u8])> {
         ways.push((columns.clone(), rest));
     }
     ways
-}
-
-/// The commands that are answered and change nothing.
-pub const QUESTIONS: [Command; 3] = [AskContrast, AskHook, AskVersion];
-
-/// Whether the number at this place of a command is in range, where a frame
-/// can name `rows` rows. The inverse frame numbers them from 1; its 0 names
-/// none.
-fn number_in_range(command: Command, place: usize, n: u16, rows: u16) -> bool {
-    match (command, place) {
-        (Mode, _) => [0, 1, 5, 6, 10, 11, 12, 13, 14, 15, 16, 17, 18].contains(&n),
-        (Position, 0) => n < rows,
-        (Position, _) => n < 16,
-        (IconS | IconR | Mute, _) => n <= 1,
-        (IconU, _) => [0, 1, 255].contains(&n),
-        (IconF | Picture, _) => n <= 6,
-        (IconP, _) => n <= 19,
-        (IconW, _) => n <= 3,
-        (Private | HandsfreeJ | HandsfreeI, _) => n <= 10,
-        (Times, 0) => crate::ranges::time1(n),
-        (Times, _) => crate::ranges::time2(n),
-        (Buzzer | LightNumber, _) => n <= 255,
-        (Contrast, _) => crate::ranges::contrast(n),
-        (Inverse, _) => n <= rows,
-        _ => true,
-    }
-}
-
-/// The first number of a command, in the order of its frame, that is out of
-/// range. None: all are in range.
-pub fn first_out_of_range(command: Command, numbers: &[u16], rows: u16) -> Option<u16> {
-    (0..numbers.len())
-        .find(|&place| !number_in_range(command, place, numbers[place], rows))
-        .map(|place| numbers[place])
-}
-
-/// Whether all numbers of a command are in range.
-pub fn numbers_in_range(command: Command, numbers: &[u16], rows: u16) -> bool {
-    first_out_of_range(command, numbers, rows).is_none()
-}
-
-/// How many numbers a command has.
-pub fn count_of_numbers(command: Command) -> usize {
-    shape(command)
-        .iter()
-        .filter(|piece| matches!(piece, Number | Digit))
-        .count()
-}
-
-pub fn shape(command: Command) -> &'static [Piece] {
-    SHAPES
-        .iter()
-        .find(|(c, _)| *c == command)
-        .map(|(_, pieces)| *pieces)
-        .unwrap()
 }

@@ -1,6 +1,6 @@
 //! The key engine, as a list of rules, and the key codes.
 
-use crate::ranges::in_range;
+use crate::fields::in_range;
 use crate::record::*;
 
 /// Keys 0 to 18: name, short, long and repeat code.
@@ -102,12 +102,7 @@ pub const RULES: [Rule; 6] = [
         code: |_| None,
         then: |record, edge, now| {
             if let Edge::Press(key) = edge {
-                record.held = Held {
-                    down: true,
-                    key,
-                    tick: now,
-                    long: false,
-                };
+                record.held = Held { down: true, key, tick: now, long: false };
             }
             if record.backlight.mode == 2 {
                 record.backlight.left = record.backlight.duration;
@@ -126,11 +121,7 @@ pub const RULES: [Rule; 6] = [
     Rule {
         name: "poll gives the repeat code",
         when: |e| {
-            e.poll()
-                && e.long()
-                && e.record.time2 != 0
-                && codes(e.record).2.is_some()
-                && e.reached(e.record.time2)
+            e.poll() && e.long() && e.record.time2 != 0 && codes(e.record).2.is_some() && e.reached(e.record.time2)
         },
         code: |record| codes(record).2,
         then: |record, _, now| record.held.tick = now,
@@ -167,12 +158,7 @@ pub fn take(record: &mut Record, now: u16, edge: Edge) -> (Option<&'static str>,
 }
 
 /// The key log call: the number, the used and the written count.
-pub fn call(
-    record: &mut Record,
-    ticks: &[u16],
-    edges: &[u8],
-    room: &mut [u8],
-) -> (u8, usize, usize) {
+pub fn call(record: &mut Record, ticks: &[u16], edges: &[u8], room: &mut [u8]) -> (u8, usize, usize) {
     if !in_range(record) {
         return (1, 0, 0);
     }

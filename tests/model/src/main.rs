@@ -3,12 +3,13 @@
 //! requests it has T-01 to T-05, T-09 and T-11.
 //!
 //! The model is written plainly, to be read beside the paper: `record`,
-//! `ranges` (a list of rules), `grammar` (a table of shapes), `effect`,
+//! `fields` (a table: where a field stands and its range), `grammar`,
+//! `commands` (a table: how a command is spelt, its ranges, its effect),
 //! `stream` (parts the whole stream first, then takes the parts), `places`
 //! (the part at a place, the verdict of a frame), `choice` (the rules of a
 //! choice screen), `keys` (a list of rules), `seen`, `writers`. `script` reads
 //! and answers scripts: one call a line. `generate` makes random scripts by a
-//! seed.
+//! seed; it and `cover`, which says what they should reach, go by the tables.
 //!
 //! Commands:
 //!
@@ -34,15 +35,15 @@
 //! (`POSRFNDJEKCHBQUMVWTGX`, where X stands for lines that can't be taken).
 
 mod choice;
+mod commands;
 mod compare;
 mod cover;
-mod effect;
+mod fields;
 mod generate;
 mod grammar;
 mod keys;
 mod places;
 mod property;
-mod ranges;
 mod record;
 mod rng;
 mod script;
@@ -85,9 +86,7 @@ fn number<T: std::str::FromStr>(word: &str) -> Result<T, String> {
 }
 
 fn seeds(word: &str) -> Result<Range<u64>, String> {
-    let (from, to) = word
-        .split_once("..")
-        .ok_or_else(|| format!("no range of seeds: {word}"))?;
+    let (from, to) = word.split_once("..").ok_or_else(|| format!("no range of seeds: {word}"))?;
     Ok(number(from)?..number(to)?)
 }
 
@@ -109,13 +108,8 @@ struct Options {
 }
 
 fn options(words: &[String]) -> Result<Options, String> {
-    let mut options = Options {
-        program: vec![],
-        seeds: 0..20,
-        calls: 2000,
-        kinds: generate::KINDS.to_string(),
-        seconds: None,
-    };
+    let mut options =
+        Options { program: vec![], seeds: 0..20, calls: 2000, kinds: generate::KINDS.to_string(), seconds: None };
     let mut rest = words.iter();
     while let Some(word) = rest.next() {
         let mut value = || rest.next().ok_or_else(|| format!("no value for {word}"));
@@ -148,28 +142,16 @@ fn command(words: &[String]) -> Result<bool, String> {
         ["compare", ref rest @ ..] => {
             let options = options(&owned(rest))?;
             let folder = compare::Folder::new().map_err(text)?;
-            Ok(tell(compare::over(
-                options.seeds.clone(),
-                options.seconds,
-                |seed| {
-                    compare::script_differs(
-                        &options.program,
-                        &folder,
-                        seed,
-                        options.calls,
-                        &options.kinds,
-                    )
-                },
-            )))
+            Ok(tell(compare::over(options.seeds.clone(), options.seconds, |seed| {
+                compare::script_differs(&options.program, &folder, seed, options.calls, &options.kinds)
+            })))
         }
         ["screens", ref rest @ ..] => {
             let options = options(&owned(rest))?;
             let folder = compare::Folder::new().map_err(text)?;
-            Ok(tell(compare::over(
-                options.seeds.clone(),
-                options.seconds,
-                |seed| compare::listing_differs(&options.program, &folder, seed),
-            )))
+            Ok(tell(compare::over(options.seeds.clone(), options.seconds, |seed| {
+                compare::listing_differs(&options.program, &folder, seed)
+            })))
         }
         ["property", range] => Ok(properties(seeds(range)?)),
         ["cover", range] => Ok(covered(seeds(range)?, 2000)),
@@ -186,9 +168,7 @@ fn tell((passed, failed): (u64, u64)) -> bool {
 
 fn make(seed: u64, calls: usize, kinds: &str) -> Result<bool, String> {
     let script = generate::script(seed, calls, kinds);
-    std::io::stdout()
-        .write_all(&script)
-        .map_err(|error| error.to_string())?;
+    std::io::stdout().write_all(&script).map_err(|error| error.to_string())?;
     Ok(true)
 }
 
@@ -224,7 +204,7 @@ fn properties(seeds: Range<u64>) -> bool {
     }
     for (name, check) in property::CHECKS {
         for seed in seeds.clone() {
-            tell_one(name, check(seed));
+            tell_one(name, check(seed).map_err(|why| format!("seed {seed}: {why}")));
         }
     }
     tell((passed, failed))

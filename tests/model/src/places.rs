@@ -1,7 +1,6 @@
 //! The part that stands at a place of a stream, the verdict of a frame, and
 //! a listing of each.
 
-use crate::grammar::first_out_of_range;
 use crate::record::*;
 use crate::stream::{good, parting, take, Part};
 
@@ -44,12 +43,7 @@ pub struct Found {
 /// The part at a place, read as if the stream began there with no frame open.
 /// At the end and past it there is none, and all its places are that one.
 pub fn part_at(stream: &[u8], place: usize) -> Found {
-    let no_frame = |kind, end| Found {
-        kind,
-        end,
-        body: end,
-        body_end: end,
-    };
+    let no_frame = |kind, end| Found { kind, end, body: end, body_end: end };
     match stream.get(place) {
         None => no_frame(Kind::None, place),
         Some(&ESC) => frame_at(stream, place),
@@ -71,12 +65,7 @@ fn frame_at(stream: &[u8], place: usize) -> Found {
         Some(_) => (Kind::Abandoned, body_end),
         None => (Kind::Tail, body_end),
     };
-    Found {
-        kind,
-        end,
-        body,
-        body_end,
-    }
+    Found { kind, end, body, body_end }
 }
 
 /// The parts from a place on, one after the other. The last is the one that
@@ -105,7 +94,7 @@ pub fn verdict(body: &[u8], rows: u8) -> Verdict {
     let Some(good) = good(body) else {
         return Verdict::Bad;
     };
-    match first_out_of_range(good.command, &good.numbers, rows.into()) {
+    match good.command.first_out_of_range(&good.numbers, rows.into()) {
         Some(number) => Verdict::PassedOver(number),
         None => Verdict::Obeyed,
     }

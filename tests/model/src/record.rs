@@ -97,23 +97,11 @@ pub struct Record {
     pub frame: Frame,
 }
 
-pub const NO_LABEL: Label = Label {
-    length: 0,
-    codes: [0; LABEL],
-};
+pub const NO_LABEL: Label = Label { length: 0, codes: [0; LABEL] };
 
-pub const NO_KEY: Held = Held {
-    down: false,
-    key: 0,
-    tick: 0,
-    long: false,
-};
+pub const NO_KEY: Held = Held { down: false, key: 0, tick: 0, long: false };
 
-pub const NO_FRAME: Frame = Frame {
-    state: 0,
-    length: 0,
-    bytes: [0; FRAME],
-};
+pub const NO_FRAME: Frame = Frame { state: 0, length: 0, bytes: [0; FRAME] };
 
 /// At power-on no key repeats, the contrast is the note's middle value, and
 /// the handset lies in its rest.
@@ -131,21 +119,11 @@ pub fn power_on() -> Record {
         right: NO_LABEL,
         picture: [0; 7 * COLUMNS],
         icons: [0; 6],
-        volume: Volume {
-            which: 0,
-            level: 0,
-            mute: false,
-            hidden: false,
-        },
+        volume: Volume { which: 0, level: 0, mute: false, hidden: false },
         time1: 12,
         time2: 0,
         buzzer: 0,
-        backlight: Backlight {
-            mode: 0,
-            duration: 30,
-            left: 0,
-            keypad: false,
-        },
+        backlight: Backlight { mode: 0, duration: 30, left: 0, keypad: false },
         contrast: 10,
         hook: true,
         marks: [false; TEXT_ROWS],
@@ -156,10 +134,7 @@ pub fn power_on() -> Record {
 
 /// The power-on record of the former defaults: Time2 alone is another.
 pub fn former_power_on() -> Record {
-    Record {
-        time2: 12,
-        ..power_on()
-    }
+    Record { time2: 12, ..power_on() }
 }
 
 /// The label that holds these codes (at most seven).
@@ -195,136 +170,5 @@ pub fn capacity(mode: u8) -> usize {
     match mode {
         LARGE => LINE,
         _ => CODES,
-    }
-}
-
-/// The fields by number, as a script names them.
-pub const FIELD_NAMES: [&str; 40] = [
-    "display",
-    "text mode",
-    "overlay",
-    "cursor shown",
-    "row",
-    "column",
-    "text",
-    "left label length",
-    "left label codes",
-    "right label length",
-    "right label codes",
-    "picture",
-    "icon S",
-    "icon U",
-    "icon F",
-    "icon R",
-    "icon P",
-    "icon W",
-    "volume which",
-    "volume level",
-    "mute",
-    "hidden",
-    "Time1",
-    "Time2",
-    "buzzer",
-    "backlight mode",
-    "duration",
-    "left",
-    "keypad flag",
-    "held",
-    "held key",
-    "held tick",
-    "stage",
-    "frame state",
-    "frame length",
-    "frame bytes",
-    "large line",
-    "contrast",
-    "hook",
-    "inverse mark",
-];
-
-/// How many places a field has.
-pub fn places(field: u16) -> usize {
-    match field {
-        6 => TEXT_ROWS * CODES,
-        8 | 10 => LABEL,
-        11 => 7 * COLUMNS,
-        35 => FRAME,
-        36 => LINE,
-        39 => TEXT_ROWS,
-        _ => 1,
-    }
-}
-
-enum Spot<'a> {
-    Flag(&'a mut bool),
-    Byte(&'a mut u8),
-    Word(&'a mut u16),
-}
-
-fn spot(record: &mut Record, field: u16, place: usize) -> Option<Spot<'_>> {
-    use Spot::{Byte, Flag, Word};
-    if place >= places(field) {
-        return None;
-    }
-    Some(match field {
-        0 => Flag(&mut record.display),
-        1 => Byte(&mut record.mode),
-        2 => Byte(&mut record.overlay),
-        3 => Flag(&mut record.shown),
-        4 => Byte(&mut record.row),
-        5 => Byte(&mut record.column),
-        6 => Byte(&mut record.text[place]),
-        7 => Byte(&mut record.left.length),
-        8 => Byte(&mut record.left.codes[place]),
-        9 => Byte(&mut record.right.length),
-        10 => Byte(&mut record.right.codes[place]),
-        11 => Byte(&mut record.picture[place]),
-        12..=17 => Byte(&mut record.icons[usize::from(field) - 12]),
-        18 => Byte(&mut record.volume.which),
-        19 => Byte(&mut record.volume.level),
-        20 => Flag(&mut record.volume.mute),
-        21 => Flag(&mut record.volume.hidden),
-        22 => Byte(&mut record.time1),
-        23 => Byte(&mut record.time2),
-        24 => Byte(&mut record.buzzer),
-        25 => Byte(&mut record.backlight.mode),
-        26 => Byte(&mut record.backlight.duration),
-        27 => Byte(&mut record.backlight.left),
-        28 => Flag(&mut record.backlight.keypad),
-        29 => Flag(&mut record.held.down),
-        30 => Byte(&mut record.held.key),
-        31 => Word(&mut record.held.tick),
-        32 => Flag(&mut record.held.long),
-        33 => Byte(&mut record.frame.state),
-        34 => Byte(&mut record.frame.length),
-        35 => Byte(&mut record.frame.bytes[place]),
-        36 => Byte(&mut record.line[place]),
-        37 => Byte(&mut record.contrast),
-        38 => Flag(&mut record.hook),
-        39 => Flag(&mut record.marks[place]),
-        _ => return None,
-    })
-}
-
-/// Sets one place of one field to any value its type holds. False where
-/// there is no such field or place.
-pub fn set(record: &mut Record, field: u16, place: usize, value: u16) -> bool {
-    match spot(record, field, place) {
-        None => return false,
-        Some(Spot::Flag(flag)) => *flag = value != 0,
-        Some(Spot::Byte(byte)) => *byte = (value % 256) as u8,
-        Some(Spot::Word(word)) => *word = value,
-    }
-    true
-}
-
-/// What stands in one place of one field (0 where there is none).
-pub fn get(record: &Record, field: u16, place: usize) -> u16 {
-    let mut copy = record.clone();
-    match spot(&mut copy, field, place) {
-        None => 0,
-        Some(Spot::Flag(flag)) => u16::from(*flag),
-        Some(Spot::Byte(byte)) => u16::from(*byte),
-        Some(Spot::Word(word)) => *word,
     }
 }

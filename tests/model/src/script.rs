@@ -1,21 +1,44 @@
 //! Scripts: one call a line, and what each call answers.
 
-use crate::grammar::{Command, SHAPES};
-use crate::keys;
+use crate::choice::{self, Broken};
+use crate::commands::{self, COMMANDS};
+use crate::fields::{backlight_in_range, contents, field, in_range, set, FIELDS};
+use crate::grammar::Command;
 use crate::places::{parts_from, verdict, Found, Verdict};
 use crate::record::*;
-use crate::seen::{self, Bar, Column, Half, Owner, Phase, PHASES};
-use crate::{choice, effect, ranges, stream, writers};
+use crate::seen::{self, Bar, Column, Owner, Phase, PHASES};
+use crate::{keys, stream, writers};
 
 /// Limits of a line.
 pub const ROOM: u16 = 300;
 pub const BYTES: usize = 4096;
 pub const ENTRIES: usize = 1024;
 pub const LENT: usize = 300;
-/// Commands that the command writer knows.
-pub const COMMANDS: u16 = 33;
-/// Fields that can be set.
-pub const FIELDS: u16 = FIELD_NAMES.len() as u16;
+
+/// The letters of the calls: how many bytes each has at least, and how many
+/// more at most. The key log has entries of three bytes.
+pub const LETTERS: [(char, usize, usize); 20] = [
+    ('P', 0, 0),
+    ('O', 0, 0),
+    ('S', 5, 0),
+    ('R', 0, 0),
+    ('F', 2, BYTES),
+    ('N', 0, BYTES),
+    ('D', 2, BYTES),
+    ('J', 1, BYTES),
+    ('E', 0, BYTES),
+    ('K', 4, 3 * ENTRIES),
+    ('C', 0, 0),
+    ('H', 1, 0),
+    ('B', 0, 0),
+    ('Q', 2, 0),
+    ('U', 3, 0),
+    ('M', 1, 0),
+    ('V', 0, 0),
+    ('W', 7, 0),
+    ('T', 3, LENT),
+    ('G', 3, LENT),
+];
 
 #[derive(Clone, PartialEq, Eq, Debug)]
 pub enum Call {
@@ -108,7 +131,7 @@ pub enum Answer {
     Parts(Vec<Found>),
     Verdict(Verdict),
     /// What is broken, if something is.
-    Choice(Option<choice::Broken>),
+    Choice(Option<Broken>),
     Number(u8),
     Thin(u8, Backlight),
     Row(u8, Owner),
@@ -130,119 +153,71 @@ pub enum Answer {
 /// The bytes of pairs of hexadecimal digits.
 fn bytes(pairs: &[u8]) -> Option<Vec<u8>> {
     let digit = |byte: u8| char::from(byte).to_digit(16).map(|n| n as u8);
-    pairs
-        .chunks(2)
-        .map(|pair| Some(digit(pair[0])? * 16 + digit(*pair.get(1)?)?))
-        .collect()
+    pairs.chunks(2).map(|pair| Some(digit(pair[0])? * 16 + digit(*pair.get(1)?)?)).collect()
 }
 
 /// The call of a line.
 pub fn parse(line: &[u8]) -> Call {
-    known(line).unwrap_or_else(|| Call::Other(line.to_vec()))
-}
-
-fn known(line: &[u8]) -> Option<Call> {
-    let (letter, bytes) = words(line)?;
-    with_bytes(letter, &bytes)
+    let call = words(line).and_then(|(letter, bytes)| known(letter, &bytes));
+    call.unwrap_or_else(|| Call::Other(line.to_vec()))
 }
 
 /// A letter and bytes.
-pub fn words(line: &[u8]) -> Option<(u8, Vec<u8>)> {
+pub fn words(line: &[u8]) -> Option<(char, Vec<u8>)> {
     match line {
-        [letter] => Some((*letter, vec![])),
-        [letter, b' ', pairs @ ..] => Some((*letter, bytes(pairs)?)),
+        [letter] => Some((char::from(*letter), vec![])),
+        [letter, b' ', pairs @ ..] => Some((char::from(*letter), bytes(pairs)?)),
         _ => None,
     }
 }
 
-/// 0 lit, 1 the pause; no other byte is a phase.
-fn phase(byte: u8) -> Option<Phase> {
-    PHASES.get(usize::from(byte)).copied()
-}
-
-fn with_bytes(letter: u8, bytes: &[u8]) -> Option<Call> {
-    match (letter, bytes) {
-        (b'P', []) => Some(Call::PowerOn),
-        (b'O', []) => Some(Call::FormerPowerOn),
-        (b'R', []) => Some(Call::InRange),
-        (b'C', []) => Some(Call::Second),
-        (b'H', &[on]) => Some(Call::Hook { on }),
-        (b'B', []) => Some(Call::Thin),
-        (b'M', &[last]) => phase(last).map(|phase| Call::Sms { phase }),
-        (b'V', []) => Some(Call::Volume),
-        (b'S', &[field, p, q, v, w]) => {
-            let field = u16::from(field);
-            let place = u16::from_be_bytes([p, q]);
-            let good = field < FIELDS && usize::from(place) < places(field);
-            good.then_some(Call::Set {
-                field,
-                place,
-                value: u16::from_be_bytes([v, w]),
-            })
+fn known(letter: char, bytes: &[u8]) -> Option<Call> {
+    let &(_, least, more) = LETTERS.iter().find(|(known, _, _)| *known == letter)?;
+    let (head, rest) = bytes.split_at_checked(least).filter(|(_, rest)| rest.len() <= more)?;
+    let rest = rest.to_vec();
+    let pair = |place: usize| u16::from_be_bytes([head[place], head[place + 1]]);
+    let room = || Some(pair(0)).filter(|&room| room <= ROOM);
+    // 0 lit, 1 the pause; no other byte is a phase.
+    let phase = || PHASES.get(usize::from(*head.last()?)).copied();
+    Some(match letter {
+        'P' => Call::PowerOn,
+        'O' => Call::FormerPowerOn,
+        'R' => Call::InRange,
+        'C' => Call::Second,
+        'B' => Call::Thin,
+        'V' => Call::Volume,
+        'H' => Call::Hook { on: head[0] },
+        'M' => Call::Sms { phase: phase()? },
+        'Q' => Call::Row { row: head[0], phase: phase()? },
+        'U' => Call::Column { row: head[0], column: head[1], phase: phase()? },
+        'S' => {
+            let (field, place, value) = (head[0].into(), pair(1), pair(3));
+            let there = FIELDS.get(usize::from(field))?.places > usize::from(place);
+            return there.then_some(Call::Set { field, place, value });
         }
-        (b'Q', &[row, last]) => phase(last).map(|phase| Call::Row { row, phase }),
-        (b'U', &[row, column, last]) => {
-            phase(last).map(|phase| Call::Column { row, column, phase })
+        'F' => Call::Stream { room: room()?, bytes: rest },
+        'N' => Call::Bound { bytes: rest },
+        'D' => Call::Parts { place: pair(0), bytes: rest },
+        'J' => Call::Verdict { mode: head[0], body: rest },
+        'E' => Call::Choice { bytes: rest },
+        'K' => {
+            let (ticks, edges) = rest.split_at_checked(2 * usize::from(pair(2)))?;
+            let ticks: Vec<u16> = ticks.chunks(2).map(|t| u16::from_be_bytes([t[0], t[1]])).collect();
+            let few = ticks.len() <= ENTRIES && edges.len() <= ENTRIES;
+            let room = room().filter(|_| few)?;
+            Call::Keys { room, ticks, edges: edges.to_vec() }
         }
-        (b'N', bytes) => (bytes.len() <= BYTES).then(|| Call::Bound {
-            bytes: bytes.to_vec(),
-        }),
-        (b'D', &[high, low, ref bytes @ ..]) => (bytes.len() <= BYTES).then(|| Call::Parts {
-            place: u16::from_be_bytes([high, low]),
-            bytes: bytes.to_vec(),
-        }),
-        (b'J', &[mode, ref body @ ..]) => (body.len() <= BYTES).then(|| Call::Verdict {
-            mode,
-            body: body.to_vec(),
-        }),
-        (b'E', bytes) => (bytes.len() <= BYTES).then(|| Call::Choice {
-            bytes: bytes.to_vec(),
-        }),
-        (_, &[high, low, ref rest @ ..]) => {
-            let room = u16::from_be_bytes([high, low]);
-            (room <= ROOM).then(|| with_room(letter, room, rest))?
+        'W' => {
+            let command = Some(u16::from(head[2])).filter(|&command| command < command_count())?;
+            Call::Command { room: room()?, command, numbers: [pair(3), pair(5)] }
         }
-        _ => None,
-    }
-}
-
-/// A call that is lent a buffer.
-fn with_room(letter: u8, room: u16, bytes: &[u8]) -> Option<Call> {
-    match (letter, bytes) {
-        (b'F', bytes) if bytes.len() <= BYTES => Some(Call::Stream {
-            room,
-            bytes: bytes.to_vec(),
-        }),
-        (b'K', &[high, low, ref rest @ ..]) => {
-            let count = usize::from(u16::from_be_bytes([high, low]));
-            if count > ENTRIES || rest.len() < 2 * count {
-                return None;
-            }
-            let (ticks, edges) = rest.split_at(2 * count);
-            let tick = |pair: &[u8]| u16::from_be_bytes([pair[0], pair[1]]);
-            (edges.len() <= ENTRIES).then(|| Call::Keys {
-                room,
-                ticks: ticks.chunks(2).map(tick).collect(),
-                edges: edges.to_vec(),
-            })
+        'T' => {
+            let side = Some(head[2]).filter(|&side| side < 2)?;
+            Call::Label { room: room()?, side, codes: rest }
         }
-        (b'W', &[command, a, b, c, d]) if u16::from(command) < COMMANDS => Some(Call::Command {
-            room,
-            command: command.into(),
-            numbers: [u16::from_be_bytes([a, b]), u16::from_be_bytes([c, d])],
-        }),
-        (b'T', &[side @ 0..=1, ref codes @ ..]) if codes.len() <= LENT => Some(Call::Label {
-            room,
-            side,
-            codes: codes.to_vec(),
-        }),
-        (b'G', &[row, ref columns @ ..]) if columns.len() <= LENT => Some(Call::Picture {
-            room,
-            row,
-            columns: columns.to_vec(),
-        }),
-        _ => None,
-    }
+        'G' => Call::Picture { room: room()?, row: head[2], columns: rest },
+        _ => return None,
+    })
 }
 
 // Writing a line.
@@ -254,74 +229,86 @@ pub fn hex(bytes: &[u8]) -> String {
 }
 
 /// A word, and bytes if there are some.
-fn with_pairs(word: &str, bytes: &[u8]) -> String {
-    if bytes.is_empty() {
-        word.to_string()
-    } else {
-        format!("{word} {}", hex(bytes))
+pub fn with_pairs(word: &str, bytes: &[u8]) -> String {
+    match bytes {
+        [] => word.to_string(),
+        _ => format!("{word} {}", hex(bytes)),
     }
+}
+
+/// Numbers of two bytes each, high byte first.
+fn pairs(numbers: &[usize]) -> Vec<u8> {
+    numbers.iter().flat_map(|&n| (n as u16).to_be_bytes()).collect()
 }
 
 /// The line of a call, without its end.
 pub fn line(call: &Call) -> Vec<u8> {
+    let with = |room: &u16, head: &[u8], rest: &[u8]| [&room.to_be_bytes()[..], head, rest].concat();
     let bytes: Vec<u8> = match call {
         Call::Other(line) => return line.clone(),
-        Call::Set {
-            field,
-            place,
-            value,
-        } => [
-            &[*field as u8][..],
-            &place.to_be_bytes(),
-            &value.to_be_bytes(),
-        ]
-        .concat(),
-        Call::Stream { room, bytes } => [&room.to_be_bytes()[..], bytes].concat(),
+        Call::Set { field, place, value } => [&[*field as u8][..], &place.to_be_bytes(), &value.to_be_bytes()].concat(),
+        Call::Stream { room, bytes } => with(room, &[], bytes),
+        Call::Parts { place, bytes } => with(place, &[], bytes),
         Call::Bound { bytes } | Call::Choice { bytes } => bytes.clone(),
-        Call::Parts { place, bytes } => [&place.to_be_bytes()[..], bytes].concat(),
         Call::Verdict { mode, body } => [&[*mode][..], body].concat(),
         Call::Keys { room, ticks, edges } => {
-            let count = ticks.len() as u16;
-            let ticks: Vec<u8> = ticks.iter().flat_map(|tick| tick.to_be_bytes()).collect();
-            [&room.to_be_bytes()[..], &count.to_be_bytes(), &ticks, edges].concat()
+            let all: Vec<usize> = [ticks.len()].into_iter().chain(ticks.iter().map(|&t| t.into())).collect();
+            with(room, &pairs(&all), edges)
         }
         Call::Row { row, phase } => vec![*row, *phase as u8],
         Call::Column { row, column, phase } => vec![*row, *column, *phase as u8],
         Call::Sms { phase } => vec![*phase as u8],
         Call::Hook { on } => vec![*on],
-        Call::Command {
-            room,
-            command,
-            numbers: [a, b],
-        } => [
-            &room.to_be_bytes()[..],
-            &[*command as u8],
-            &a.to_be_bytes(),
-            &b.to_be_bytes(),
-        ]
-        .concat(),
-        Call::Label { room, side, codes } => [&room.to_be_bytes()[..], &[*side], codes].concat(),
-        Call::Picture { room, row, columns } => {
-            [&room.to_be_bytes()[..], &[*row], columns].concat()
-        }
-        Call::PowerOn | Call::FormerPowerOn => vec![],
-        Call::InRange | Call::Second | Call::Thin | Call::Volume => vec![],
+        Call::Command { room, command, numbers } => with(room, &[*command as u8], &pairs(&numbers.map(usize::from))),
+        Call::Label { room, side, codes } => with(room, &[*side], codes),
+        Call::Picture { room, row, columns } => with(room, &[*row], columns),
+        _ => vec![],
     };
     with_pairs(&letter(call).to_string(), &bytes).into_bytes()
+}
+
+/// The letter of a call.
+pub fn letter(call: &Call) -> char {
+    match call {
+        Call::PowerOn => 'P',
+        Call::FormerPowerOn => 'O',
+        Call::Set { .. } => 'S',
+        Call::InRange => 'R',
+        Call::Stream { .. } => 'F',
+        Call::Bound { .. } => 'N',
+        Call::Parts { .. } => 'D',
+        Call::Verdict { .. } => 'J',
+        Call::Choice { .. } => 'E',
+        Call::Keys { .. } => 'K',
+        Call::Second => 'C',
+        Call::Hook { .. } => 'H',
+        Call::Thin => 'B',
+        Call::Row { .. } => 'Q',
+        Call::Column { .. } => 'U',
+        Call::Sms { .. } => 'M',
+        Call::Volume => 'V',
+        Call::Command { .. } => 'W',
+        Call::Label { .. } => 'T',
+        Call::Picture { .. } => 'G',
+        Call::Other(_) => 'X',
+    }
 }
 
 // Calling.
 
 /// The buffer lent to a call.
 pub fn lent(room: u16) -> Vec<u8> {
-    (0..usize::from(room))
-        .map(|place| ((place * 7 + 3) % 256) as u8)
-        .collect()
+    (0..usize::from(room)).map(|place| ((place * 7 + 3) % 256) as u8).collect()
+}
+
+/// Commands that the command writer knows.
+pub fn command_count() -> u16 {
+    COMMANDS.iter().take_while(|command| !command.has_rest()).count() as u16
 }
 
 /// The command with this number in a script.
-pub fn command(number: u16) -> Command {
-    SHAPES[usize::from(number)].0
+pub fn command(number: u16) -> &'static Command {
+    &COMMANDS[usize::from(number)]
 }
 
 /// Rows that a frame can name in the mode of a verdict. A mode that is none
@@ -336,65 +323,46 @@ pub fn rows_of_verdict(mode: u8) -> u8 {
 
 /// The thin entry: judges the backlight's own ranges.
 pub fn thin(light: &mut Backlight) -> u8 {
-    if !ranges::backlight_in_range(light) {
+    if !backlight_in_range(light) {
         return 1;
     }
-    effect::second(light);
+    commands::second(light);
+    0
+}
+
+/// A call that changes a record in range, and leaves another as it is.
+fn on_record(record: &mut Record, change: impl Fn(&mut Record)) -> u8 {
+    if !in_range(record) {
+        return 1;
+    }
+    change(record);
     0
 }
 
 /// The second call on the record.
 pub fn second(record: &mut Record) -> u8 {
-    if !ranges::in_range(record) {
-        return 1;
-    }
-    effect::second(&mut record.backlight);
-    0
+    on_record(record, |record| commands::second(&mut record.backlight))
 }
 
 /// The hook call.
 pub fn hook(record: &mut Record, on: bool) -> u8 {
-    if !ranges::in_range(record) {
-        return 1;
-    }
-    record.hook = on;
-    0
+    on_record(record, |record| record.hook = on)
 }
 
 /// Makes one call on the record.
 pub fn perform(record: &mut Record, call: &Call) -> Answer {
-    let counts = |(number, used, written), buffer| Answer::Counts {
-        number,
-        used,
-        written,
-        buffer,
-    };
-    let written = |(number, count), buffer| Answer::Written {
-        number,
-        count,
-        buffer,
-    };
+    let counts = |(number, used, written), buffer| Answer::Counts { number, used, written, buffer };
+    let written = |(number, count), buffer| Answer::Written { number, count, buffer };
     match call {
-        Call::PowerOn => {
-            *record = power_on();
+        Call::PowerOn | Call::FormerPowerOn => {
+            *record = if *call == Call::PowerOn { power_on() } else { former_power_on() };
             Answer::Done
         }
-        Call::FormerPowerOn => {
-            *record = former_power_on();
-            Answer::Done
-        }
-        Call::Set {
-            field,
-            place,
-            value,
-        } => {
-            if set(record, *field, usize::from(*place), *value) {
-                Answer::Done
-            } else {
-                Answer::What
-            }
-        }
-        Call::InRange => Answer::InRange(ranges::in_range(record)),
+        Call::Set { field, place, value } => match set(record, *field, usize::from(*place), *value) {
+            true => Answer::Done,
+            false => Answer::What,
+        },
+        Call::InRange => Answer::InRange(in_range(record)),
         Call::Stream { room, bytes } => {
             let mut buffer = lent(*room);
             counts(stream::call(record, bytes, &mut buffer), buffer)
@@ -432,11 +400,7 @@ pub fn perform(record: &mut Record, call: &Call) -> Answer {
             let (number, panel, level) = seen::volume(record);
             Answer::Volume(number, panel, level)
         }
-        Call::Command {
-            room,
-            command: n,
-            numbers,
-        } => {
+        Call::Command { room, command: n, numbers } => {
             let mut buffer = lent(*room);
             written(writers::command(command(*n), *numbers, &mut buffer), buffer)
         }
@@ -461,114 +425,68 @@ fn put(out: &mut Vec<u8>, word: &str, bytes: &[u8]) {
     out.push(LF);
 }
 
-/// The record in its thirteen lines.
+/// The lines of a record: each has a word and fields, one after the other.
+const PRINTED: [(&str, &str); 13] = [
+    ("screen", "display,text mode,overlay,cursor shown,row,column"),
+    ("labels", "left label length,right label length"),
+    ("left", "left label codes"),
+    ("right", "right label codes"),
+    ("icons", "icon S,icon U,icon F,icon R,icon P,icon W,volume which,volume level,mute,hidden,buzzer"),
+    ("backlight", "backlight mode,duration,left,keypad flag"),
+    ("switches", "contrast,hook,inverse mark"),
+    ("keys", "held,held key,held tick,stage,Time1,Time2"),
+    ("frame", "frame state,frame length"),
+    ("bytes", "frame bytes"),
+    ("text", "text"),
+    ("line", "large line"),
+    ("picture", "picture"),
+];
+
+/// The lines of a record that have these words.
+fn print_lines(out: &mut Vec<u8>, record: &Record, words: &[&str]) {
+    let mut record = record.clone();
+    for (word, names) in PRINTED.iter().filter(|(word, _)| words.contains(word)) {
+        let mut bytes = vec![];
+        for name in names.split(',') {
+            for value in contents(&mut record, field(name)) {
+                let from = usize::from(name != "held tick");
+                bytes.extend(&value.to_be_bytes()[from..]);
+            }
+        }
+        put(out, word, &bytes);
+    }
+}
+
 pub fn print_record(out: &mut Vec<u8>, record: &Record) {
-    let bit = u8::from;
-    let screen = [
-        bit(record.display),
-        record.mode,
-        record.overlay,
-        bit(record.shown),
-        record.row,
-        record.column,
-    ];
-    put(out, "screen", &screen);
-    put_labels(out, &record.left, &record.right);
-    let volume = &record.volume;
-    let sounds = [
-        volume.which,
-        volume.level,
-        bit(volume.mute),
-        bit(volume.hidden),
-        record.buzzer,
-    ];
-    put(out, "icons", &[&record.icons[..], &sounds].concat());
-    put_light(out, &record.backlight);
-    let switches = [record.contrast, bit(record.hook)];
-    put(
-        out,
-        "switches",
-        &[&switches[..], &record.marks.map(bit)].concat(),
-    );
-    let held = &record.held;
-    let [high, low] = held.tick.to_be_bytes();
-    let keys = [
-        bit(held.down),
-        held.key,
-        high,
-        low,
-        bit(held.long),
-        record.time1,
-        record.time2,
-    ];
-    put(out, "keys", &keys);
-    put(out, "frame", &[record.frame.state, record.frame.length]);
-    put(out, "bytes", &record.frame.bytes);
-    put(out, "text", &record.text);
-    put(out, "line", &record.line);
-    put(out, "picture", &record.picture);
-}
-
-fn put_labels(out: &mut Vec<u8>, left: &Label, right: &Label) {
-    put(out, "labels", &[left.length, right.length]);
-    put(out, "left", &left.codes);
-    put(out, "right", &right.codes);
-}
-
-fn put_light(out: &mut Vec<u8>, light: &Backlight) {
-    let keypad = u8::from(light.keypad);
-    let numbers = [light.mode, light.duration, light.left, keypad];
-    put(out, "backlight", &numbers);
+    print_lines(out, record, &PRINTED.map(|(word, _)| word));
 }
 
 fn put_bar(out: &mut Vec<u8>, bar: &Bar) {
     let (volume, level) = bar.volume;
-    put(
-        out,
-        "icon bar",
-        &[bar.f, bar.p, bar.r, bar.sms, volume, level],
-    );
-}
-
-/// 0 the upper half, 1 the lower one.
-fn half_number(half: Half) -> u8 {
-    match half {
-        Half::Upper => 0,
-        Half::Lower => 1,
-    }
+    put(out, "icon bar", &[bar.f, bar.p, bar.r, bar.sms, volume, level]);
 }
 
 /// An owner, its row or half, its mark, and its cells. Text rows alone have
-/// marks.
+/// marks; half 0 is the upper one, 1 the lower.
 fn put_owner(out: &mut Vec<u8>, owner: &Owner) {
-    match owner {
-        Owner::Nothing => (),
-        Owner::IconBar(bar) => put_bar(out, bar),
-        Owner::Text { row, codes, mark } => {
-            put(out, "row", &[2, *row, u8::from(*mark)]);
-            put(out, "cells", codes);
-        }
-        Owner::Picture { row, columns } => {
-            put(out, "row", &[3, *row, 0]);
-            put(out, "cells", columns);
-        }
-        Owner::Small { codes } => {
-            put(out, "row", &[4, 0, 0]);
-            put(out, "cells", codes);
-        }
-        Owner::Big { half, codes } => {
-            put(out, "row", &[5, half_number(*half), 0]);
-            put(out, "cells", codes);
-        }
-        Owner::PictureWithRocker { row, columns, w } => {
-            put(out, "row", &[6, *row, 0]);
-            put(out, "cells", columns);
-            put(out, "rocker", &[*w]);
-        }
+    let (row, cells): ([u8; 3], &[u8]) = match owner {
+        Owner::Nothing => return,
+        Owner::IconBar(bar) => return put_bar(out, bar),
         Owner::SoftKeys { left, right, w } => {
             put(out, "soft keys", &[*w]);
-            put_labels(out, left, right);
+            let labels = Record { left: *left, right: *right, ..power_on() };
+            return print_lines(out, &labels, &["labels", "left", "right"]);
         }
+        Owner::Text { row, codes, mark } => ([2, *row, u8::from(*mark)], codes),
+        Owner::Picture { row, columns } => ([3, *row, 0], columns),
+        Owner::Small { codes } => ([4, 0, 0], codes),
+        Owner::Big { half, codes } => ([5, *half as u8, 0], codes),
+        Owner::PictureWithRocker { row, columns, .. } => ([6, *row, 0], columns),
+    };
+    put(out, "row", &row);
+    put(out, "cells", cells);
+    if let Owner::PictureWithRocker { w, .. } = owner {
+        put(out, "rocker", &[*w]);
     }
 }
 
@@ -579,140 +497,56 @@ pub fn cell(column: &Column) -> Option<[u8; 4]> {
         Column::Text { row, code, mark } => [2, row, code, u8::from(mark)],
         Column::Picture { row, dots } => [3, row, dots, 0],
         Column::Small { code } => [4, 0, code, 0],
-        Column::Big { half, code } => [5, half_number(half), code, 0],
+        Column::Big { half, code } => [5, half as u8, code, 0],
         Column::Left { cell, code } => [6, cell, code, 0],
         Column::Rocker { w } => [7, 0, w, 0],
         Column::Right { cell, code } => [8, cell, code, 0],
     })
 }
 
-fn put_column(out: &mut Vec<u8>, column: &Column) {
-    if let Column::IconBar(bar) = column {
-        put_bar(out, bar);
-    }
-    if let Some(cell) = cell(column) {
-        put(out, "cell", &cell);
-    }
-}
-
-/// A part: its kind, where the next begins, and where its bytes lie.
-fn put_part(out: &mut Vec<u8>, part: &Found) {
-    let places = [part.end, part.body, part.body_end].map(|place| (place as u16).to_be_bytes());
-    put(
-        out,
-        "part",
-        &[&[part.kind as u8][..], &places.concat()].concat(),
-    );
-}
-
-/// A verdict as its number, and the number out of range.
-fn verdict_numbers(verdict: Verdict) -> (u8, u16) {
-    match verdict {
-        Verdict::Bad => (0, 0),
-        Verdict::PassedOver(number) => (1, number),
-        Verdict::Obeyed => (2, 0),
-    }
-}
-
-/// What a call answers that was lent a buffer.
-fn put_lent(
-    out: &mut Vec<u8>,
-    letter: &str,
-    number: u8,
-    used: usize,
-    written: usize,
-    buffer: &[u8],
-) {
-    let counts = [used, written].map(|count| (count as u16).to_be_bytes());
-    put(out, letter, &[&[number][..], &counts.concat()].concat());
-    put(out, "buffer", buffer);
-}
-
-/// The letter of a call.
-pub fn letter(call: &Call) -> char {
-    match call {
-        Call::PowerOn => 'P',
-        Call::FormerPowerOn => 'O',
-        Call::Set { .. } => 'S',
-        Call::InRange => 'R',
-        Call::Stream { .. } => 'F',
-        Call::Bound { .. } => 'N',
-        Call::Parts { .. } => 'D',
-        Call::Verdict { .. } => 'J',
-        Call::Choice { .. } => 'E',
-        Call::Keys { .. } => 'K',
-        Call::Second => 'C',
-        Call::Hook { .. } => 'H',
-        Call::Thin => 'B',
-        Call::Row { .. } => 'Q',
-        Call::Column { .. } => 'U',
-        Call::Sms { .. } => 'M',
-        Call::Volume => 'V',
-        Call::Command { .. } => 'W',
-        Call::Label { .. } => 'T',
-        Call::Picture { .. } => 'G',
-        Call::Other(_) => 'X',
-    }
-}
-
 /// Prints an answer, and the record (as it now stands) where it follows.
 pub fn print(out: &mut Vec<u8>, call: &Call, answer: &Answer, record: &Record) {
     let letter = letter(call).to_string();
+    let told = |number: u8, numbers: &[usize]| [&[number][..], &pairs(numbers)].concat();
+    let first = match answer {
+        Answer::Silence => return,
+        Answer::What => return put(out, "what", &[]),
+        Answer::Done => vec![0],
+        Answer::InRange(yes) => vec![u8::from(*yes)],
+        Answer::Counts { number, used, written, .. } => told(*number, &[*used, *written]),
+        Answer::Written { number, count, .. } => told(*number, &[0, *count]),
+        Answer::Bound(number, bound) => told(*number, &[*bound]),
+        Answer::Parts(_) => vec![],
+        Answer::Verdict(Verdict::Bad) => told(0, &[0]),
+        Answer::Verdict(Verdict::PassedOver(number)) => told(1, &[usize::from(*number)]),
+        Answer::Verdict(Verdict::Obeyed) => told(2, &[0]),
+        // Rule 0 is yes.
+        Answer::Choice(broken) => broken.map_or(told(0, &[0]), |b| told(b.rule, &[b.offset])),
+        Answer::Number(number) | Answer::Thin(number, _) => vec![*number],
+        Answer::Row(number, _) | Answer::Column(number, _) => vec![*number],
+        Answer::Sms(number, panel) => vec![*number, *panel],
+        Answer::Volume(number, panel, level) => vec![*number, *panel, *level],
+    };
+    put(out, &letter, &first);
     match answer {
-        Answer::Done => put(out, &letter, &[0]),
-        Answer::InRange(yes) => put(out, &letter, &[u8::from(*yes)]),
-        Answer::Counts {
-            number,
-            used,
-            written,
-            buffer,
-        } => put_lent(out, &letter, *number, *used, *written, buffer),
-        Answer::Bound(number, bound) => {
-            let [high, low] = (*bound as u16).to_be_bytes();
-            put(out, &letter, &[*number, high, low]);
+        Answer::Counts { buffer, .. } | Answer::Written { buffer, .. } => put(out, "buffer", buffer),
+        Answer::Thin(_, light) => {
+            let light = Record { backlight: *light, ..power_on() };
+            print_lines(out, &light, &["backlight"]);
         }
-        Answer::Parts(parts) => {
-            put(out, &letter, &[]);
-            parts.iter().for_each(|part| put_part(out, part));
+        Answer::Row(_, owner) => put_owner(out, owner),
+        Answer::Column(_, Column::IconBar(bar)) => put_bar(out, bar),
+        Answer::Column(_, column) => {
+            cell(column).into_iter().for_each(|cell| put(out, "cell", &cell));
         }
-        Answer::Verdict(verdict) => {
-            let (verdict, number) = verdict_numbers(*verdict);
-            let [high, low] = number.to_be_bytes();
-            put(out, &letter, &[verdict, high, low]);
-        }
-        Answer::Choice(broken) => {
-            // Rule 0 is yes.
-            let (rule, offset) = broken.map_or((0, 0), |b| (b.rule, b.offset));
-            let [high, low] = (offset as u16).to_be_bytes();
-            put(out, &letter, &[rule, high, low]);
-        }
-        Answer::Number(number) => put(out, &letter, &[*number]),
-        Answer::Thin(number, light) => {
-            put(out, &letter, &[*number]);
-            put_light(out, light);
-        }
-        Answer::Row(number, owner) => {
-            put(out, &letter, &[*number]);
-            put_owner(out, owner);
-        }
-        Answer::Column(number, column) => {
-            put(out, &letter, &[*number]);
-            put_column(out, column);
-        }
-        Answer::Sms(number, panel) => put(out, &letter, &[*number, *panel]),
-        Answer::Volume(number, panel, level) => put(out, &letter, &[*number, *panel, *level]),
-        Answer::Written {
-            number,
-            count,
-            buffer,
-        } => put_lent(out, &letter, *number, 0, *count, buffer),
-        Answer::What => put(out, "what", &[]),
-        Answer::Silence => (),
+        // Its kind, where the next part begins, and where its bytes lie.
+        Answer::Parts(parts) => parts.iter().for_each(|part| {
+            let places = [part.end, part.body, part.body_end];
+            put(out, "part", &told(part.kind as u8, &places));
+        }),
+        _ => (),
     }
-    if matches!(
-        answer,
-        Answer::Done | Answer::Counts { .. } | Answer::Number(_)
-    ) {
+    if matches!(answer, Answer::Done | Answer::Counts { .. } | Answer::Number(_)) {
         print_record(out, record);
     }
 }

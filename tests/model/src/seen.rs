@@ -1,8 +1,8 @@
 //! What is seen: the questions of a row and of a column, the two panels, the
 //! list screen.
 
-use crate::effect::LONGEST;
-use crate::ranges::in_range;
+use crate::commands::LONGEST;
+use crate::fields::in_range;
 use crate::record::*;
 
 /// The phase of the flashing letter.
@@ -194,25 +194,12 @@ pub fn row(record: &Record, row: u8, phase: Phase) -> (u8, Owner) {
         b'I' => Owner::IconBar(icon_bar(record, phase)),
         b'0'..=b'4' => {
             let row = sign - b'0';
-            Owner::Text {
-                row,
-                codes: text_row(record, row),
-                mark: record.marks[usize::from(row)],
-            }
+            Owner::Text { row, codes: text_row(record, row), mark: record.marks[usize::from(row)] }
         }
         b's' => Owner::Small { codes: small },
-        b'u' => Owner::Big {
-            half: Half::Upper,
-            codes: big,
-        },
-        b'l' => Owner::Big {
-            half: Half::Lower,
-            codes: big,
-        },
-        b'P' => Owner::Picture {
-            row,
-            columns: picture_row(record, row),
-        },
+        b'u' => Owner::Big { half: Half::Upper, codes: big },
+        b'l' => Owner::Big { half: Half::Lower, codes: big },
+        b'P' => Owner::Picture { row, columns: picture_row(record, row) },
         b'R' => {
             let mut columns = picture_row(record, row);
             for column in ROCKER {
@@ -220,11 +207,7 @@ pub fn row(record: &Record, row: u8, phase: Phase) -> (u8, Owner) {
             }
             Owner::PictureWithRocker { row, columns, w }
         }
-        b'S' => Owner::SoftKeys {
-            left: record.left,
-            right: record.right,
-            w,
-        },
+        b'S' => Owner::SoftKeys { left: record.left, right: record.right, w },
         _ => Owner::Nothing,
     };
     (0, owner)
@@ -246,37 +229,19 @@ pub fn column(record: &Record, row: u8, column: u8, phase: Phase) -> (u8, Column
         b'I' => Column::IconBar(icon_bar(record, phase)),
         sign @ b'0'..=b'4' => {
             let row = sign - b'0';
-            Column::Text {
-                row,
-                code: text(row),
-                mark: record.marks[usize::from(row)],
-            }
+            Column::Text { row, code: text(row), mark: record.marks[usize::from(row)] }
         }
-        b's' => Column::Small {
-            code: small[usize::from(column / CELL)],
-        },
-        b'u' => Column::Big {
-            half: Half::Upper,
-            code: big[usize::from(column / BIG_CELL)],
-        },
-        b'l' => Column::Big {
-            half: Half::Lower,
-            code: big[usize::from(column / BIG_CELL)],
-        },
-        b'R' | b'S' if rocker => Column::Rocker {
-            w: record.icons[ICON_W],
-        },
+        b's' => Column::Small { code: small[usize::from(column / CELL)] },
+        b'u' => Column::Big { half: Half::Upper, code: big[usize::from(column / BIG_CELL)] },
+        b'l' => Column::Big { half: Half::Lower, code: big[usize::from(column / BIG_CELL)] },
+        b'R' | b'S' if rocker => Column::Rocker { w: record.icons[ICON_W] },
         b'P' | b'R' => Column::Picture { row, dots: picture },
-        b'S' if column < ROCKER.start => Column::Left {
-            cell: column / CELL,
-            code: label_code(&record.left, column / CELL),
-        },
+        b'S' if column < ROCKER.start => {
+            Column::Left { cell: column / CELL, code: label_code(&record.left, column / CELL) }
+        }
         b'S' => {
             let cell = (column - ROCKER.end) / CELL;
-            Column::Right {
-                cell,
-                code: label_code(&record.right, cell),
-            }
+            Column::Right { cell, code: label_code(&record.right, cell) }
         }
         _ => Column::Nothing,
     };
@@ -339,32 +304,13 @@ pub fn listing(stream: &[u8]) -> String {
     let mut room = vec![0; LONGEST * stream.len()];
     crate::stream::call(&mut record, stream, &mut room);
     let plain = |codes: &[u8]| -> String {
-        codes
-            .iter()
-            .map(|&code| {
-                if (0x20..0x7F).contains(&code) {
-                    char::from(code)
-                } else {
-                    '.'
-                }
-            })
-            .collect()
+        codes.iter().map(|&code| if (0x20..0x7F).contains(&code) { char::from(code) } else { '.' }).collect()
     };
     let label = |label: &Label| plain(&label.codes[..usize::from(label.length)]);
     let mut lines = vec![
         format!("REPLIES {replies}"),
-        format!(
-            "MODE {} OVER {} DISPLAY {}",
-            record.mode,
-            record.overlay,
-            u8::from(record.display)
-        ),
-        format!(
-            "CURSOR {} {} {}",
-            u8::from(record.shown),
-            record.row,
-            record.column
-        ),
+        format!("MODE {} OVER {} DISPLAY {}", record.mode, record.overlay, u8::from(record.display)),
+        format!("CURSOR {} {} {}", u8::from(record.shown), record.row, record.column),
     ];
     for (row, codes) in record.text.chunks(CODES).enumerate() {
         lines.push(format!("TEXT {row} [{}]", plain(codes)));

@@ -1,9 +1,9 @@
 //! The stream call. The whole stream is parted first; then the parts are
 //! taken in order.
 
-use crate::effect;
+use crate::commands;
+use crate::fields::in_range;
 use crate::grammar::{spelt, Spelt};
-use crate::ranges::in_range;
 use crate::record::*;
 
 /// A part of a stream. The bytes are those between ESC and the end.
@@ -29,11 +29,7 @@ pub fn parting(stream: &[u8]) -> Vec<Placed> {
         let first = stream[at];
         if first != ESC {
             at += 1;
-            let part = if first >= 0x20 {
-                Part::Text(first)
-            } else {
-                Part::Skipped(first)
-            };
+            let part = if first >= 0x20 { Part::Text(first) } else { Part::Skipped(first) };
             parts.push((part, at));
             continue;
         }
@@ -86,15 +82,15 @@ fn tail(body: &[u8]) -> Frame {
 /// Takes one part; gives its answer.
 pub fn take(record: &mut Record, part: &Part) -> Vec<u8> {
     match part {
-        Part::Text(code) => effect::text(record, *code),
+        Part::Text(code) => commands::text(record, *code),
         Part::Skipped(_) => (),
         Part::Abandoned(_) => return vec![QUESTION],
         Part::Closed(body) => {
             let Some(good) = good(body) else {
                 return vec![QUESTION];
             };
-            let answer = effect::answer(record, &good);
-            effect::take(record, &good);
+            let answer = commands::answer(record, &good);
+            commands::take(record, &good);
             return answer;
         }
         Part::Tail(body) => record.frame = tail(body),

@@ -15,71 +15,21 @@ Inv-loop answers₀ written bytes room i₀ answers i = (i ≤ length bytes) × 
 abbrev μ-loop : tie.MeasureT-loop
 μ-loop answers₀ written bytes room i₀ answers i = length bytes - i
 
-returns : tie.Need-returns Inv-loop μ-loop
-returns c =
-    let start = c .before .args in
-    no-room (start .answers .now) (start .written) (start .bytes .now) (omega (arith, c .if1 .taken))
-
-returns-2 : tie.Need-returns-2 Inv-loop μ-loop
-returns-2 c =
-    let start = c .before .before .args in
-    no-room (start .answers .now) (start .written) (start .bytes .now) (omega (arith, c .before .if1 .left, c .if2 .taken))
-
-loop-holds : tie.Need-loop-holds Inv-loop μ-loop
-loop-holds c =
-    let start = c .before .before .args in
-    (omega arith, omega (arith, c .before .if1 .left, c .if2 .left), refl, put-starts (start .answers .now) (start .written) (start .bytes .now))
-
-shared-slice-read-answers : tie.Need-shared-slice-read-answers Inv-loop μ-loop
-shared-slice-read-answers c = search needs
-
-add-answers : tie.Need-add-answers Inv-loop μ-loop
-add-answers c = search needs
-
-slice-write-answers : tie.Need-slice-write-answers Inv-loop μ-loop
-slice-write-answers c = search needs
-
-add-i : tie.Need-add-i Inv-loop μ-loop
-add-i c = search needs
-
-loop-less : tie.Need-loop-less Inv-loop μ-loop
-loop-less c = search needs
-
-loop-again : tie.Need-loop-again Inv-loop μ-loop
-loop-again c =
-    let start = c .before .before .before .before .before .args in
+pub put-spec : {M : Type 1} → statement M
+put-spec = tie.close (tie.spec Inv-loop μ-loop
+    (λ c. let start = c .before .args in
+    no-room (start .answers .now) (start .written) (start .bytes .now) (omega (arith, c .if1 .taken)))
+    (λ c. let start = c .before .before .args in
+    no-room (start .answers .now) (start .written) (start .bytes .now) (omega (arith, c .before .if1 .left, c .if2 .taken)))
+    (λ c. let start = c .before .before .args in
+    (omega arith, omega (arith, c .before .if1 .left, c .if2 .left), refl, put-starts (start .answers .now) (start .written) (start .bytes .now)))
+    (λ c. search needs) (λ c. search needs) (λ c. search needs) (λ c. search needs) (λ c. search needs)
+    (λ c. let start = c .before .before .before .before .before .args in
     let loop = c .before .before .loop in
-    (omega arith, loop .inv .1, simp length-set (loop .inv .2), put-on (loop .answers) (start .written) (start .bytes .now) (loop .i) (omega (arith, c .before .loop-test .taken)) ∙ loop .inv .3)
-
-add-result : tie.Need-add-result Inv-loop μ-loop
-add-result c = search needs
-
-same-length : tie.Need-same-length Inv-loop μ-loop
-same-length c = search needs
-
-returns-3 : tie.Need-returns-3 Inv-loop μ-loop
-returns-3 c =
-    let start = c .before .before .before .before .args in
+    (omega arith, loop .inv .1, simp length-set (loop .inv .2), put-on (loop .answers) (start .written) (start .bytes .now) (loop .i) (omega (arith, c .before .loop-test .taken)) ∙ loop .inv .3))
+    (λ c. search needs) (λ c. search needs)
+    (λ c. let start = c .before .before .before .before .args in
     let loop = c .before .loop in
     let end : loop .i ≡ length (start .bytes .now) = omega (arith, c .loop-test .left) in
     with-room (start .answers .now) (start .written) (start .bytes .now) (start .written + loop .i) (loop .answers) (loop .inv .1) (omega arith)
-    (sym (put-ends (loop .answers) (start .written + loop .i) (start .bytes .now) (loop .i) (omega arith)) ∙ loop .inv .3)
-
-pub put-spec : {M : Type 1} → statement M
-put-spec =
-    tie.close
-    (tie.spec
-    Inv-loop
-    μ-loop
-    returns
-    returns-2
-    loop-holds
-    shared-slice-read-answers
-    add-answers
-    slice-write-answers
-    add-i
-    loop-less
-    loop-again
-    add-result
-    same-length
-    returns-3)
+    (sym (put-ends (loop .answers) (start .written + loop .i) (start .bytes .now) (loop .i) (omega arith)) ∙ loop .inv .3)))

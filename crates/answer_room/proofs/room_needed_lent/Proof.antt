@@ -18,37 +18,21 @@ use Rattle.answer_room.proofs.room_needed_lent.Tie as tie
 abbrev counting : ℕ → RoomNeeded
 counting n = record { number = numbered 0; bytes = n }
 
-in-range-lent-requires : tie.Need-in-range-lent-requires
-in-range-lent-requires c κs = search needs
-
-returns : tie.Need-returns
+pub room-needed-lent-spec : {M : Type 1} → statement M
 unfolding roomNeeded
-returns c = rw (← c .before .in-range-lent .ensures, c .if1 .taken)
-
-escapes-in-requires : tie.Need-escapes-in-requires
-escapes-in-requires c κs = search needs
-
-returns-2 : tie.Need-returns-2
-returns-2 c =
-    let start = c .before .before .before .before .before .before .args in
+room-needed-lent-spec = tie.close (tie.spec
+    (λ c κs. search needs)
+    (λ c. rw (← c .before .in-range-lent .ensures, c .if1 .taken))
+    (λ c κs. search needs)
+    (λ c. let start = c .before .before .before .before .before .before .args in
     let r = together (start .small) (start .text .now) (start .picture .now) (start .frame .now) in
     let good = sym (c .before .before .before .before .in-range-lent .ensures) ∙ not-false _ (c .before .before .before .if1 .left) in
     let none : waiting (stateOf r .frame) ≡ 0 = waiting-state r ∙ rw (eq-eqb (start .small .state) 0 (omega (arith, c .if2 .taken))) in
-    ap counting (omega (arith, c .before .before .escapes-in .ensures, none)) ∙ sym (room-counted r (start .bytes .now) good)
-
-add-t12 : tie.Need-add-t12
-add-t12 c =
-    let start = c .before .before .before .before .before .before in
-    record { fits = omega (arith, c .before .before .escapes-in .ensures, escapes-at-most (start .args .bytes .now), start .good .1 .1 .1 .1 .0 .1) }
-
-returns-3 : tie.Need-returns-3
-returns-3 c =
-    let start = c .before .before .before .before .before .before .args in
+    ap counting (omega (arith, c .before .before .escapes-in .ensures, none)) ∙ sym (room-counted r (start .bytes .now) good))
+    (λ c. let start = c .before .before .before .before .before .before in
+    record { fits = omega (arith, c .before .before .escapes-in .ensures, escapes-at-most (start .args .bytes .now), start .good .1 .1 .1 .1 .0 .1) })
+    (λ c. let start = c .before .before .before .before .before .before .args in
     let r = together (start .small) (start .text .now) (start .picture .now) (start .frame .now) in
     let good = sym (c .before .before .before .before .in-range-lent .ensures) ∙ not-false _ (c .before .before .before .if1 .left) in
     let one : waiting (stateOf r .frame) ≡ 1 = waiting-state r ∙ rw (ne-eqb (start .small .state) 0 (λ e. omega (arith, c .if2 .left))) in
-    ap counting (omega (arith, c .before .before .escapes-in .ensures, one)) ∙ sym (room-counted r (start .bytes .now) good)
-
-pub room-needed-lent-spec : {M : Type 1} → statement M
-room-needed-lent-spec =
-    tie.close (tie.spec in-range-lent-requires returns escapes-in-requires returns-2 add-t12 returns-3)
+    ap counting (omega (arith, c .before .before .escapes-in .ensures, one)) ∙ sym (room-counted r (start .bytes .now) good)))

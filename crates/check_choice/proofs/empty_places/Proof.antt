@@ -8,8 +8,6 @@ use Rattle.check_choice.proofs.empty_places.Tie as tie
 enough : (n : ℕ) → n ≡ length {A = ℕ} (replicate n 0)
 enough n = sym (length-replicate n 0)
 
-returns : tie.Need-returns
-returns c = enough 1048577
-
 pub empty-places-spec : {M : Type 1} → statement M
-empty-places-spec = tie.close (tie.spec returns)
+empty-places-spec = tie.close (tie.spec
+    (λ c. enough 1048577))

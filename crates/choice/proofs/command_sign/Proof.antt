@@ -52,20 +52,9 @@ not-spoken-of VersionAsked h = refl
 not-spoken-of ClearLine h = refl
 not-spoken-of (Inverse n) h = refl
 
-enum-known-c : tie.Need-enum-known-c
-enum-known-c c = search needs
-
-enum-told : tie.Need-enum-told
-enum-told c = search needs
-
-returns : tie.Need-returns
-returns c = rw (c .before .c .given .1)
-
-returns-2 : tie.Need-returns-2
-returns-2 c = rw (c .enum-told .given .1)
-
-returns-3 : tie.Need-returns-3
-returns-3 c = not-spoken-of (c .before .args .c) (c .match .keys3)
-
 pub command-sign-spec : {M : Type 1} → statement M
-command-sign-spec = tie.close (tie.spec enum-known-c enum-told returns returns-2 returns-3)
+command-sign-spec = tie.close (tie.spec
+    (λ c. search needs) (λ c. search needs)
+    (λ c. rw (c .before .c .given .1))
+    (λ c. rw (c .enum-told .given .1))
+    (λ c. not-spoken-of (c .before .args .c) (c .match .keys3)))

@@ -6,33 +6,9 @@ use borrow.Author.Needs.{needs}
 use Rattle.command.proofs.number_frame.Statement.{statement}
 use Rattle.command.proofs.number_frame.Tie as tie
 
-two-numbers-requires : tie.Need-two-numbers-requires
-two-numbers-requires c κs = search needs
-
-key-times-requires : tie.Need-key-times-requires
-key-times-requires c κs = search needs
-
-read-number-requires : tie.Need-read-number-requires
-read-number-requires c κs = search needs
-
-one-number-requires : tie.Need-one-number-requires
-one-number-requires c κs = search needs
-
-returns : tie.Need-returns
-unfolding numberFrame
-returns c = rw (c .before .before .match .keys1) (c .key-times .ensures ∙ ap keyTimes (c .before .two-numbers .ensures))
-
-returns-2 : tie.Need-returns-2
-unfolding numberFrame
-returns-2 c = rw (ne-eqb _ _ (c .before .before .match .rest .1)) (c .one-number .ensures ∙ ap (oneNumber (c .before .before .before .before .args .letter)) (c .before .read-number .ensures))
-
 pub number-frame-spec : {M : Type 1} → statement M
-number-frame-spec =
-    tie.close
-    (tie.spec
-    two-numbers-requires
-    key-times-requires
-    read-number-requires
-    one-number-requires
-    returns
-    returns-2)
+unfolding numberFrame
+number-frame-spec = tie.close (tie.spec
+    (λ c κs. search needs) (λ c κs. search needs) (λ c κs. search needs) (λ c κs. search needs)
+    (λ c. rw (c .before .before .match .keys1) (c .key-times .ensures ∙ ap keyTimes (c .before .two-numbers .ensures)))
+    (λ c. rw (ne-eqb _ _ (c .before .before .match .rest .1)) (c .one-number .ensures ∙ ap (oneNumber (c .before .before .before .before .args .letter)) (c .before .read-number .ensures))))

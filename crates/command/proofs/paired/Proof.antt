@@ -3,28 +3,7 @@ use borrow.Author.Needs.{needs}
 use Rattle.command.proofs.paired.Statement.{statement}
 use Rattle.command.proofs.paired.Tie as tie
 
-enum-told : tie.Need-enum-told
-enum-told c = search needs
-
-enum-known-a : tie.Need-enum-known-a
-enum-known-a c = search needs
-
-enum-told-2 : tie.Need-enum-told-2
-enum-told-2 c = search needs
-
-enum-known-b : tie.Need-enum-known-b
-enum-known-b c = search needs
-
-returns : tie.Need-returns
-returns c = search needs
-
-returns-2 : tie.Need-returns-2
-returns-2 c = search needs
-
-returns-3 : tie.Need-returns-3
-returns-3 c = rw (c .before .before .before .before .a .given .1, c .before .b .given .1)
-
 pub paired-spec : {M : Type 1} → statement M
-paired-spec =
-    tie.close
-    (tie.spec enum-told enum-known-a enum-told-2 enum-known-b returns returns-2 returns-3)
+paired-spec = tie.close (tie.spec
+    (λ c. search needs) (λ c. search needs) (λ c. search needs) (λ c. search needs) (λ c. search needs) (λ c. search needs)
+    (λ c. rw (c .before .before .before .before .a .given .1, c .before .b .given .1)))

@@ -7,16 +7,9 @@ use Rattle.command_ranges.proofs.Ranges.{in-range-of}
 use Rattle.command_ranges.proofs.is_icon_u.Statement.{statement}
 use Rattle.command_ranges.proofs.is_icon_u.Tie as tie
 
-returns : tie.Need-returns
-returns c = rw (c .match .keys1)
-
-returns-2 : tie.Need-returns-2
-returns-2 c = in-range-of iconUInRange 0 2 (c .before .before .args .n) refl (omega arith) (omega arith)
-
-returns-3 : tie.Need-returns-3
-returns-3 c =
-    let n = c .before .before .args .n in
-    simp (ne-eqb n 0 (λ e. omega arith), ne-eqb n 1 (λ e. omega arith), ne-eqb n 255 (λ e. omega arith))
-
 pub is-icon-u-spec : {M : Type 1} → statement M
-is-icon-u-spec = tie.close (tie.spec returns returns-2 returns-3)
+is-icon-u-spec = tie.close (tie.spec
+    (λ c. rw (c .match .keys1))
+    (λ c. in-range-of iconUInRange 0 2 (c .before .before .args .n) refl (omega arith) (omega arith))
+    (λ c. let n = c .before .before .args .n in
+    simp (ne-eqb n 0 (λ e. omega arith), ne-eqb n 1 (λ e. omega arith), ne-eqb n 255 (λ e. omega arith))))

@@ -25,49 +25,15 @@ more text start column i h =
     let one : i + 1 - column ≡ suc (i - column) = omega arith in
     rw (at, one) (sets-more text (start + column) (i - column) blank)
 
-loop-holds : tie.Need-loop-holds Inv-loop μ-loop
-loop-holds c = let none : c .args .column - c .args .column ≡ 0 = omega arith in (omega arith, omega arith, rw none)
-
-wide-requires : tie.Need-wide-requires Inv-loop μ-loop
-wide-requires c κs = search needs
-
-add-blank-at : tie.Need-add-blank-at Inv-loop μ-loop
-add-blank-at c = search needs
-
-blank-at-requires : tie.Need-blank-at-requires Inv-loop μ-loop
-blank-at-requires c κs = search needs
-
-add-i : tie.Need-add-i Inv-loop μ-loop
-add-i c = search needs
-
-loop-less : tie.Need-loop-less Inv-loop μ-loop
-loop-less c = search needs
-
-loop-again : tie.Need-loop-again Inv-loop μ-loop
-loop-again c =
-    let start = c .before .before .before .before .before .args in
+pub clear-line-spec : {M : Type 1} → statement M
+clear-line-spec = tie.close (tie.spec Inv-loop μ-loop
+    (λ c. let none : c .args .column - c .args .column ≡ 0 = omega arith in (omega arith, omega arith, rw none))
+    (λ c κs. search needs) (λ c. search needs) (λ c κs. search needs) (λ c. search needs) (λ c. search needs)
+    (λ c. let start = c .before .before .before .before .before .args in
     let loop = c .before .before .before .before .loop in
     let grown = c .blank-at .ensures ∙ (λ j. set (loop .inv .2 j) (start .start + c .before .wide .ensures j) blank) ∙ more (start .text .now) (start .start) (start .column) (loop .i) (loop .inv .0) in
-    (omega arith, omega arith, grown)
-
-returns : tie.Need-returns Inv-loop μ-loop
-returns c =
-    let start = c .before .before .args in
+    (omega arith, omega arith, grown))
+    (λ c. let start = c .before .before .args in
     let loop = c .before .loop in
     let all : loop .i - start .column ≡ start .end - start .column = omega arith in
-    loop .inv .2 ∙ ap (λ (n : ℕ). sets (start .text .now) (start .start + start .column) (replicate n blank)) all
-
-pub clear-line-spec : {M : Type 1} → statement M
-clear-line-spec =
-    tie.close
-    (tie.spec
-    Inv-loop
-    μ-loop
-    loop-holds
-    wide-requires
-    add-blank-at
-    blank-at-requires
-    add-i
-    loop-less
-    loop-again
-    returns)
+    loop .inv .2 ∙ ap (λ (n : ℕ). sets (start .text .now) (start .start + start .column) (replicate n blank)) all))

@@ -3,11 +3,7 @@ use borrow.Author.Tests.{ne-eqb}
 use Rattle.effect.proofs.kept.Statement.{statement}
 use Rattle.effect.proofs.kept.Tie as tie
 
-returns : tie.Need-returns
-returns c = rw (c .if1 .taken)
-
-returns-2 : tie.Need-returns-2
-returns-2 c = rw (ne-eqb (c .before .args .row) 6 (c .if1 .left))
-
 pub kept-spec : {M : Type 1} → statement M
-kept-spec = tie.close (tie.spec returns returns-2)
+kept-spec = tie.close (tie.spec
+    (λ c. rw (c .if1 .taken))
+    (λ c. rw (ne-eqb (c .before .args .row) 6 (c .if1 .left))))

@@ -4,9 +4,7 @@ use Rattle.lists.specs.Padded.{padded}
 use Rattle.effect.proofs.no_codes.Statement.{statement}
 use Rattle.effect.proofs.no_codes.Tie as tie
 
-returns : tie.Need-returns
-unfolding padded
-returns c = refl
-
 pub no-codes-spec : {M : Type 1} → statement M
-no-codes-spec = tie.close (tie.spec returns)
+unfolding padded
+no-codes-spec = tie.close (tie.spec
+    (λ c. refl))

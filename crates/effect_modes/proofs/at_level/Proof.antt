@@ -4,11 +4,7 @@ use borrow.Author.Tests.{ne-eqb}
 use Rattle.effect_modes.proofs.at_level.Statement.{statement}
 use Rattle.effect_modes.proofs.at_level.Tie as tie
 
-returns : tie.Need-returns
-returns c = rw (c .match .keys1)
-
-returns-2 : tie.Need-returns-2
-returns-2 c = rw (ne-eqb (c .before .args .n) 0 (λ e. omega arith))
-
 pub at-level-spec : {M : Type 1} → statement M
-at-level-spec = tie.close (tie.spec returns returns-2)
+at-level-spec = tie.close (tie.spec
+    (λ c. rw (c .match .keys1))
+    (λ c. rw (ne-eqb (c .before .args .n) 0 (λ e. omega arith))))

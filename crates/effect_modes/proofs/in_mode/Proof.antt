@@ -3,8 +3,6 @@ use mathlib.Core.Path.{refl}
 use Rattle.effect_modes.proofs.in_mode.Statement.{statement}
 use Rattle.effect_modes.proofs.in_mode.Tie as tie
 
-returns : tie.Need-returns
-returns c = refl
-
 pub in-mode-spec : {M : Type 1} → statement M
-in-mode-spec = tie.close (tie.spec returns)
+in-mode-spec = tie.close (tie.spec
+    (λ c. refl))

@@ -7,18 +7,10 @@ use borrow.Author.Needs.{needs}
 use Rattle.effect_modes.proofs.to_mode.Statement.{statement}
 use Rattle.effect_modes.proofs.to_mode.Tie as tie
 
-in-mode-requires : tie.Need-in-mode-requires
-in-mode-requires c κs = search needs
-
-returns : tie.Need-returns
-returns c =
-    let n = c .before .before .args .n in
-    rw (sym (overlays n (omega arith) (omega arith)))
-
-returns-2 : tie.Need-returns-2
-returns-2 c =
-    let n = c .before .before .args .n in
-    rw (no-overlay n (⊎-elim (λ w l h. omega arith) (λ w l h. omega arith) (c .before .if1 .came))) (c .in-mode .ensures)
-
 pub to-mode-spec : {M : Type 1} → statement M
-to-mode-spec = tie.close (tie.spec in-mode-requires returns returns-2)
+to-mode-spec = tie.close (tie.spec
+    (λ c κs. search needs)
+    (λ c. let n = c .before .before .args .n in
+    rw (sym (overlays n (omega arith) (omega arith))))
+    (λ c. let n = c .before .before .args .n in
+    rw (no-overlay n (⊎-elim (λ w l h. omega arith) (λ w l h. omega arith) (c .before .if1 .came))) (c .in-mode .ensures)))

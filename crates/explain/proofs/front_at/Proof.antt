@@ -16,43 +16,13 @@ lying bytes place p e before =
     let b = lies bytes place in
     rw e (a .further, a .within, b .in-order, b .stops)
 
-part-at-requires : tie.Need-part-at-requires
-part-at-requires c κs = search needs
-
-enum-told : tie.Need-enum-told
-enum-told c = search needs
-
-run-at-requires : tie.Need-run-at-requires
-run-at-requires c κs =
-    let l = lying (c .before .before .before .before .args .window .now) (c .before .before .before .before .args .at) (c .before .before .part-at .result) (c .before .before .part-at .ensures) (c .before .before .before .before .pre) in
-    (l .0, l .1)
-
-enum-told-2 : tie.Need-enum-told-2
-enum-told-2 c = search needs
-
-run-at-requires-2 : tie.Need-run-at-requires-2
-run-at-requires-2 c κs =
-    let l = lying (c .before .before .before .before .args .window .now) (c .before .before .before .before .args .at) (c .before .before .part-at .result) (c .before .before .part-at .ensures) (c .before .before .before .before .pre) in
-    (l .0, l .1)
-
-returns : tie.Need-returns
-returns c = search needs
-
-returns-2 : tie.Need-returns-2
-returns-2 c = search needs
-
-returns-3 : tie.Need-returns-3
-returns-3 c = lying (c .before .before .before .args .window .now) (c .before .before .before .args .at) (c .before .part-at .result) (c .before .part-at .ensures) (c .before .before .before .pre)
-
 pub front-at-spec : {M : Type 1} → statement M
-front-at-spec =
-    tie.close
-    (tie.spec
-    part-at-requires
-    enum-told
-    run-at-requires
-    enum-told-2
-    run-at-requires-2
-    returns
-    returns-2
-    returns-3)
+front-at-spec = tie.close (tie.spec
+    (λ c κs. search needs) (λ c. search needs)
+    (λ c κs. let l = lying (c .before .before .before .before .args .window .now) (c .before .before .before .before .args .at) (c .before .before .part-at .result) (c .before .before .part-at .ensures) (c .before .before .before .before .pre) in
+    (l .0, l .1))
+    (λ c. search needs)
+    (λ c κs. let l = lying (c .before .before .before .before .args .window .now) (c .before .before .before .before .args .at) (c .before .before .part-at .result) (c .before .before .part-at .ensures) (c .before .before .before .before .pre) in
+    (l .0, l .1))
+    (λ c. search needs) (λ c. search needs)
+    (λ c. lying (c .before .before .before .args .window .now) (c .before .before .before .args .at) (c .before .part-at .result) (c .before .part-at .ensures) (c .before .before .before .pre)))

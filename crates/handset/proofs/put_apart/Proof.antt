@@ -4,11 +4,7 @@ use borrow.Author.Needs.{needs}
 use Rattle.handset.proofs.put_apart.Statement.{statement}
 use Rattle.handset.proofs.put_apart.Tie as tie
 
-small-of-requires : tie.Need-small-of-requires
-small-of-requires c κs = search needs
-
-returns : tie.Need-returns
-returns c = (rw (c .small-of .ensures), (refl, (refl, refl)))
-
 pub put-apart-spec : {M : Type 1} → statement M
-put-apart-spec = tie.close (tie.spec small-of-requires returns)
+put-apart-spec = tie.close (tie.spec
+    (λ c κs. search needs)
+    (λ c. (rw (c .small-of .ensures), (refl, (refl, refl)))))

@@ -10,18 +10,10 @@ use borrow.Author.Needs.{needs}
 use Rattle.hook.proofs.hook.Statement.{statement}
 use Rattle.hook.proofs.hook.Tie as tie
 
-small-of-requires : tie.Need-small-of-requires
-small-of-requires c κs = search needs
-
-hook-lent-requires : tie.Need-hook-lent-requires
-hook-lent-requires c κs = search needs
-
-returns : tie.Need-returns
-returns c =
-    let r = c .before .before .before .before .before .before .before .before .before .before .before .args .t1 in
+pub hook-spec : {M : Type 1} → statement M
+hook-spec = tie.close (tie.spec
+    (λ c κs. search needs) (λ c κs. search needs)
+    (λ c. let r = c .before .before .before .before .before .before .before .before .before .before .before .args .t1 in
     let told : c .before .before .before .before .before .hook-lent .result ≡ lentOf (hooked r (c .before .before .before .before .before .before .before .before .before .before .before .args .on)) =
     c .before .before .before .before .before .hook-lent .ensures ∙ ap (λ (s : Small). lentOf (hooked (together s (r .text) (r .picture) (r .frame .bytes)) (c .before .before .before .before .before .before .before .before .before .before .before .args .on))) (c .before .before .before .before .before .before .before .before .before .before .small-of .ensures) in
-    ap (λ (q : HookedLent). record { number = q .number; after = withSettings r (q .small .settings) }) told ∙ lent-back r (c .before .before .before .before .before .before .before .before .before .before .before .args .on)
-
-pub hook-spec : {M : Type 1} → statement M
-hook-spec = tie.close (tie.spec small-of-requires hook-lent-requires returns)
+    ap (λ (q : HookedLent). record { number = q .number; after = withSettings r (q .small .settings) }) told ∙ lent-back r (c .before .before .before .before .before .before .before .before .before .before .before .args .on)))

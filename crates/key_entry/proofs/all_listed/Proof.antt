@@ -17,43 +17,13 @@ Inv-loop edges ok₀ i₀ ok i = (i ≤ length edges) × (every listed (slice 0 
 abbrev μ-loop : tie.MeasureT-loop
 μ-loop edges ok₀ i₀ ok i = length edges - i
 
-loop-holds : tie.Need-loop-holds Inv-loop μ-loop
-loop-holds c = (omega arith, refl)
-
-shared-slice-read-is-listed : tie.Need-shared-slice-read-is-listed Inv-loop μ-loop
-shared-slice-read-is-listed c = search needs
-
-is-listed-requires : tie.Need-is-listed-requires Inv-loop μ-loop
-is-listed-requires c κs = search needs
-
-add-i : tie.Need-add-i Inv-loop μ-loop
-add-i c = search needs
-
-loop-less : tie.Need-loop-less Inv-loop μ-loop
-loop-less c = search needs
-
-loop-again : tie.Need-loop-again Inv-loop μ-loop
-loop-again c =
-    let edges = c .before .before .before .before .before .args .edges .now in
-    let loop = c .before .before .before .loop in
-    (omega arith, loop .inv .1 ∙ scan-on listed edges (loop .i) (length edges) (loop .ok) (c .is-listed .result) (omega arith) (omega arith) (c .is-listed .ensures))
-
-returns : tie.Need-returns Inv-loop μ-loop
-returns c =
-    let edges = c .before .before .before .args .edges .now in
-    let loop = c .before .loop in
-    sym (ap (every listed) (sym (take-length edges)) ∙ loop .inv .1 ∙ scan-end listed edges (loop .i) (length edges) (loop .ok) (loop .inv .0) (omega (arith, c .loop-test .left)))
-
 pub all-listed-spec : {M : Type 1} → statement M
-all-listed-spec =
-    tie.close
-    (tie.spec
-    Inv-loop
-    μ-loop
-    loop-holds
-    shared-slice-read-is-listed
-    is-listed-requires
-    add-i
-    loop-less
-    loop-again
-    returns)
+all-listed-spec = tie.close (tie.spec Inv-loop μ-loop
+    (λ c. (omega arith, refl))
+    (λ c. search needs) (λ c κs. search needs) (λ c. search needs) (λ c. search needs)
+    (λ c. let edges = c .before .before .before .before .before .args .edges .now in
+    let loop = c .before .before .before .loop in
+    (omega arith, loop .inv .1 ∙ scan-on listed edges (loop .i) (length edges) (loop .ok) (c .is-listed .result) (omega arith) (omega arith) (c .is-listed .ensures)))
+    (λ c. let edges = c .before .before .before .args .edges .now in
+    let loop = c .before .loop in
+    sym (ap (every listed) (sym (take-length edges)) ∙ loop .inv .1 ∙ scan-end listed edges (loop .i) (length edges) (loop .ok) (loop .inv .0) (omega (arith, c .loop-test .left)))))

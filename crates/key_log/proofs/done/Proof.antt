@@ -3,8 +3,6 @@ use mathlib.Core.Path.{refl}
 use Rattle.key_log.proofs.done.Statement.{statement}
 use Rattle.key_log.proofs.done.Tie as tie
 
-returns : tie.Need-returns
-returns c = refl
-
 pub done-spec : {M : Type 1} → statement M
-done-spec = tie.close (tie.spec returns)
+done-spec = tie.close (tie.spec
+    (λ c. refl))

@@ -4,9 +4,7 @@ use Rattle.lists.specs.Padded.{padded}
 use Rattle.picture.proofs.blank_row.Statement.{statement}
 use Rattle.picture.proofs.blank_row.Tie as tie
 
-returns : tie.Need-returns
-unfolding padded
-returns c = refl
-
 pub blank-row-spec : {M : Type 1} → statement M
-blank-row-spec = tie.close (tie.spec returns)
+unfolding padded
+blank-row-spec = tie.close (tie.spec
+    (λ c. refl))

@@ -16,37 +16,9 @@ Inv-loop row₀ at count column i₀ row i = (i ≤ count) × (length row ≡ 96
 abbrev μ-loop : tie.MeasureT-loop
 μ-loop row₀ at count column i₀ row i = count - i
 
-loop-holds : tie.Need-loop-holds Inv-loop μ-loop
-loop-holds c = (omega arith, search needs, run-starts (now (c .args .row)) (c .args .at) (c .args .count) (c .args .column))
-
-add-row : tie.Need-add-row Inv-loop μ-loop
-add-row c = omega arith
-
-element-write-row : tie.Need-element-write-row Inv-loop μ-loop
-element-write-row c = omega arith
-
-add-i : tie.Need-add-i Inv-loop μ-loop
-add-i c = omega arith
-
-loop-less : tie.Need-loop-less Inv-loop μ-loop
-loop-less c = omega arith
-
-loop-again : tie.Need-loop-again Inv-loop μ-loop
-loop-again c = (omega arith, simp length-set (c .before .loop .inv .1), sym (run-goes-on _ _ _ _ _ (c .loop-test .taken)) ∙ c .before .loop .inv .2)
-
-returns : tie.Need-returns Inv-loop μ-loop
-returns c = sym (run-ends _ _ _ _ _ (c .loop-test .left)) ∙ c .before .loop .inv .2
-
 pub draw-run-spec : {M : Type 1} → statement M
-draw-run-spec =
-    tie.close
-    (tie.spec
-    Inv-loop
-    μ-loop
-    loop-holds
-    add-row
-    element-write-row
-    add-i
-    loop-less
-    loop-again
-    returns)
+draw-run-spec = tie.close (tie.spec Inv-loop μ-loop
+    (λ c. (omega arith, search needs, run-starts (now (c .args .row)) (c .args .at) (c .args .count) (c .args .column)))
+    (λ c. omega arith) (λ c. omega arith) (λ c. omega arith) (λ c. omega arith)
+    (λ c. (omega arith, simp length-set (c .before .loop .inv .1), sym (run-goes-on _ _ _ _ _ (c .loop-test .taken)) ∙ c .before .loop .inv .2))
+    (λ c. sym (run-ends _ _ _ _ _ (c .loop-test .left)) ∙ c .before .loop .inv .2))

@@ -3,11 +3,7 @@ use borrow.Author.Needs.{needs}
 use Rattle.picture.proofs.no_columns.Statement.{statement}
 use Rattle.picture.proofs.no_columns.Tie as tie
 
-blank-row-requires : tie.Need-blank-row-requires
-blank-row-requires c κs = search needs
-
-returns : tie.Need-returns
-returns c = rw (c .blank-row .ensures)
-
 pub no-columns-spec : {M : Type 1} → statement M
-no-columns-spec = tie.close (tie.spec blank-row-requires returns)
+no-columns-spec = tie.close (tie.spec
+    (λ c κs. search needs)
+    (λ c. rw (c .blank-row .ensures)))

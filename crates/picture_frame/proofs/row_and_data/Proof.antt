@@ -10,27 +10,11 @@ use borrow.Author.Needs.{needs}
 use Rattle.picture_frame.proofs.row_and_data.Statement.{statement}
 use Rattle.picture_frame.proofs.row_and_data.Tie as tie
 
-read-data-requires : tie.Need-read-data-requires
-read-data-requires c κs = search needs
-
-row-with-requires : tie.Need-row-with-requires
-row-with-requires c κs = search needs
-
-no-picture-requires : tie.Need-no-picture-requires
-no-picture-requires c κs = search needs
-
-returns : tie.Need-returns
-unfolding rowAndData
-returns c =
-    let d = c .before .before .before .before .before .args .digit in
-    rw (le-leb (code "0") d (omega arith), le-leb d (code "9") (omega arith)) (c .row-with .ensures ∙ ap (rowWith (d - code "0")) (c .before .read-data .ensures))
-
-returns-2 : tie.Need-returns-2
-unfolding rowAndData
-returns-2 c =
-    let d = c .before .before .before .args .digit in
-    ⊎-elim (λ below. rw (lt-leb (code "0") d (omega arith)) (c .no-picture .ensures)) (λ above. rw (le-leb (code "0") d (omega arith), lt-leb d (code "9") (omega arith)) (c .no-picture .ensures)) (c .before .if1 .came)
-
 pub row-and-data-spec : {M : Type 1} → statement M
-row-and-data-spec =
-    tie.close (tie.spec read-data-requires row-with-requires no-picture-requires returns returns-2)
+unfolding rowAndData
+row-and-data-spec = tie.close (tie.spec
+    (λ c κs. search needs) (λ c κs. search needs) (λ c κs. search needs)
+    (λ c. let d = c .before .before .before .before .before .args .digit in
+    rw (le-leb (code "0") d (omega arith), le-leb d (code "9") (omega arith)) (c .row-with .ensures ∙ ap (rowWith (d - code "0")) (c .before .read-data .ensures)))
+    (λ c. let d = c .before .before .before .args .digit in
+    ⊎-elim (λ below. rw (lt-leb (code "0") d (omega arith)) (c .no-picture .ensures)) (λ above. rw (le-leb (code "0") d (omega arith), lt-leb d (code "9") (omega arith)) (c .no-picture .ensures)) (c .before .if1 .came)))

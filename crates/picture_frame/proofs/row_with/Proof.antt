@@ -3,11 +3,7 @@ use borrow.Author.Tests.{ne-eqb}
 use Rattle.picture_frame.proofs.row_with.Statement.{statement}
 use Rattle.picture_frame.proofs.row_with.Tie as tie
 
-returns : tie.Need-returns
-returns c = rw (c .match .keys1)
-
-returns-2 : tie.Need-returns-2
-returns-2 c = rw (ne-eqb _ _ (c .match .rest .1))
-
 pub row-with-spec : {M : Type 1} → statement M
-row-with-spec = tie.close (tie.spec returns returns-2)
+row-with-spec = tie.close (tie.spec
+    (λ c. rw (c .match .keys1))
+    (λ c. rw (ne-eqb _ _ (c .match .rest .1))))

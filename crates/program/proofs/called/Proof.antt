@@ -6,17 +6,8 @@ use borrow.Author.Needs.{needs}
 use Rattle.program.proofs.called.Statement.{statement}
 use Rattle.program.proofs.called.Tie as tie
 
-returns : tie.Need-returns
-returns c = search needs
-
-returns-2 : tie.Need-returns-2
-returns-2 c = search needs
-
-slice-aggregate-result : tie.Need-slice-aggregate-result
-slice-aggregate-result c = sym (length-take-le _ _ (omega arith))
-
-returns-3 : tie.Need-returns-3
-returns-3 c = search needs
-
 pub called-spec : {M : Type 1} → statement M
-called-spec = tie.close (tie.spec returns returns-2 slice-aggregate-result returns-3)
+called-spec = tie.close (tie.spec
+    (λ c. search needs) (λ c. search needs)
+    (λ c. sym (length-take-le _ _ (omega arith)))
+    (λ c. search needs))

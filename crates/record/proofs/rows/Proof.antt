@@ -4,14 +4,8 @@ use borrow.Author.Tests.{le-leb, lt-leb, eq-eqb, ne-eqb}
 use Rattle.record.proofs.rows.Statement.{statement}
 use Rattle.record.proofs.rows.Tie as tie
 
-returns : tie.Need-returns
-returns c = simp (le-leb (c .before .args .mode) 1 (omega (arith, c .if1 .taken)))
-
-returns-2 : tie.Need-returns-2
-returns-2 c = simp (lt-leb (c .before .before .args .mode) 1 (omega (arith, c .before .if1 .left)), eq-eqb (c .before .before .args .mode) 10 (c .if2 .taken))
-
-returns-3 : tie.Need-returns-3
-returns-3 c = simp (lt-leb (c .before .before .args .mode) 1 (omega (arith, c .before .if1 .left)), ne-eqb (c .before .before .args .mode) 10 (c .if2 .left))
-
 pub rows-spec : {M : Type 1} → statement M
-rows-spec = tie.close (tie.spec returns returns-2 returns-3)
+rows-spec = tie.close (tie.spec
+    (λ c. simp (le-leb (c .before .args .mode) 1 (omega (arith, c .if1 .taken))))
+    (λ c. simp (lt-leb (c .before .before .args .mode) 1 (omega (arith, c .before .if1 .left)), eq-eqb (c .before .before .args .mode) 10 (c .if2 .taken)))
+    (λ c. simp (lt-leb (c .before .before .args .mode) 1 (omega (arith, c .before .if1 .left)), ne-eqb (c .before .before .args .mode) 10 (c .if2 .left))))

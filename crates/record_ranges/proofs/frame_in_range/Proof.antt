@@ -10,17 +10,12 @@ use borrow.Author.Needs.{needs}
 use Rattle.record_ranges.proofs.frame_in_range.Statement.{statement}
 use Rattle.record_ranges.proofs.frame_in_range.Tie as tie
 
-scan-requires : tie.Need-scan-requires
-scan-requires c κs = search needs
-
-returns : tie.Need-returns
+pub frame-in-range-spec : {M : Type 1} → statement M
 unfolding frameInRange
-returns c =
-    let start = c .before .before .args in
-    let full : length (start .bytes .now) ≡ 250 = search needs in
+frame-in-range-spec = tie.close (tie.spec
+    (λ c κs. search needs)
+    (λ c. let start = c .before .before .args in
+    let full : length (start .frame .now) ≡ 250 = search needs in
     let counts = leb (start .len) 250 && leb (start .state) 2 && (eqb (start .state) 1 || eqb (start .len) 0) in
     rw (eq-eqb _ _ full)
-    (ap (λ (kept : Bool). counts && kept) (c .scan .ensures ∙ in-two isFrameByte (start .len) 250 (start .bytes .now) full) ∙ sym (and-assoc counts _ _))
-
-pub frame-in-range-spec : {M : Type 1} → statement M
-frame-in-range-spec = tie.close (tie.spec scan-requires returns)
+    (ap (λ (kept : Bool). counts && kept) (c .scan .ensures ∙ in-two isFrameByte (start .len) 250 (start .frame .now) full) ∙ sym (and-assoc counts _ _))))

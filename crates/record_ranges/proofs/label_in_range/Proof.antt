@@ -10,16 +10,11 @@ use borrow.Author.Needs.{needs}
 use Rattle.record_ranges.proofs.label_in_range.Statement.{statement}
 use Rattle.record_ranges.proofs.label_in_range.Tie as tie
 
-scan-requires : tie.Need-scan-requires
-scan-requires c κs = search needs
-
-returns : tie.Need-returns
+pub label-in-range-spec : {M : Type 1} → statement M
 unfolding labelInRange
-returns c =
-    let l = c .before .before .before .before .args .t1 in
+label-in-range-spec = tie.close (tie.spec
+    (λ c κs. search needs)
+    (λ c. let l = c .before .before .before .before .args .t1 in
     let full : length (l .codes) ≡ 7 = search needs in
     rw (eq-eqb _ _ full)
-    (ap (λ (kept : Bool). leb (l .len) 7 && kept) (c .scan .ensures ∙ in-two isCode (l .len) 7 (l .codes) full) ∙ sym (and-assoc (leb (l .len) 7) _ _))
-
-pub label-in-range-spec : {M : Type 1} → statement M
-label-in-range-spec = tie.close (tie.spec scan-requires returns)
+    (ap (λ (kept : Bool). leb (l .len) 7 && kept) (c .scan .ensures ∙ in-two isCode (l .len) 7 (l .codes) full) ∙ sym (and-assoc (leb (l .len) 7) _ _))))

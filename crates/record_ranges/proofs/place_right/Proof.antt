@@ -2,11 +2,7 @@
 use Rattle.record_ranges.proofs.place_right.Statement.{statement}
 use Rattle.record_ranges.proofs.place_right.Tie as tie
 
-fits-requires : tie.Need-fits-requires
-fits-requires c κs = tt
-
-returns : tie.Need-returns
-returns c = rw (c .fits2 .ensures)
-
 pub place-right-spec : {M : Type 1} → statement M
-place-right-spec = tie.close (tie.spec fits-requires returns)
+place-right-spec = tie.close (tie.spec
+    (λ c κs. tt)
+    (λ c. rw (c .fits2 .ensures)))

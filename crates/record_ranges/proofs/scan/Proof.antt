@@ -16,51 +16,16 @@ Inv-loop s len place end ok₀ left₀ i₀ ok left i =
 abbrev μ-loop : tie.MeasureT-loop
 μ-loop s len place end ok₀ left₀ i₀ ok left i = length s - i
 
-sub-end : tie.Need-sub-end Inv-loop μ-loop
-sub-end c = search needs
-
-loop-holds : tie.Need-loop-holds Inv-loop μ-loop
-loop-holds c = (omega arith, omega arith, at-start (testOf (c .before .args .place)) (c .before .args .len) (c .before .args .s .now))
-
-shared-slice-read-place-right : tie.Need-shared-slice-read-place-right Inv-loop μ-loop
-shared-slice-read-place-right c = search needs
-
-place-right-requires : tie.Need-place-right-requires Inv-loop μ-loop
-place-right-requires c κs = tt
-
-sub-left : tie.Need-sub-left Inv-loop μ-loop
-sub-left c = search needs
-
-add-i : tie.Need-add-i Inv-loop μ-loop
-add-i c = search needs
-
-loop-less : tie.Need-loop-less Inv-loop μ-loop
-loop-less c = search needs
-
-loop-again : tie.Need-loop-again Inv-loop μ-loop
-loop-again c =
-    let start = c .before .before .before .before .before .args in
-    let loop = c .before .before .before .loop in
-    (omega arith, omega arith, loop .inv .2 ∙ turn (testOf (start .place)) (start .len) (start .s .now) (loop .i) (loop .left) (loop .ok) (c .place-right .result) (c .before .before .loop-test .taken) (omega arith) (loop .inv .1) (c .place-right .ensures))
-
-returns : tie.Need-returns Inv-loop μ-loop
-returns c =
-    let start = c .before .before .before .args in
-    let loop = c .before .loop in
-    sym (loop .inv .2 ∙ at-end (testOf (start .place)) (start .len) (start .s .now) (loop .i) (loop .ok) (c .loop-test .left))
-
 pub scan-spec : {M : Type 1} → statement M
-scan-spec =
-    tie.close
-    (tie.spec
-    Inv-loop
-    μ-loop
-    sub-end
-    loop-holds
-    shared-slice-read-place-right
-    place-right-requires
-    sub-left
-    add-i
-    loop-less
-    loop-again
-    returns)
+scan-spec = tie.close (tie.spec Inv-loop μ-loop
+    (λ c. search needs)
+    (λ c. (omega arith, omega arith, at-start (testOf (c .before .args .place)) (c .before .args .len) (c .before .args .s .now)))
+    (λ c. search needs)
+    (λ c κs. tt)
+    (λ c. search needs) (λ c. search needs) (λ c. search needs)
+    (λ c. let start = c .before .before .before .before .before .args in
+    let loop = c .before .before .before .loop in
+    (omega arith, omega arith, loop .inv .2 ∙ turn (testOf (start .place)) (start .len) (start .s .now) (loop .i) (loop .left) (loop .ok) (c .place-right .result) (c .before .before .loop-test .taken) (omega arith) (loop .inv .1) (c .place-right .ensures)))
+    (λ c. let start = c .before .before .before .args in
+    let loop = c .before .loop in
+    sym (loop .inv .2 ∙ at-end (testOf (start .place)) (start .len) (start .s .now) (loop .i) (loop .ok) (c .loop-test .left))))

@@ -8,15 +8,10 @@ use borrow.Author.Needs.{needs}
 use Rattle.record_ranges.proofs.text_in_range.Statement.{statement}
 use Rattle.record_ranges.proofs.text_in_range.Tie as tie
 
-scan-requires : tie.Need-scan-requires
-scan-requires c κs = search needs
-
-returns : tie.Need-returns
-unfolding textInRange
-returns c =
-    let text = c .before .before .args .text .now in
-    let full : length text ≡ 104 = search needs in
-    rw (eq-eqb _ _ full) (c .scan .ensures ∙ used-whole isCode 104 text full)
-
 pub text-in-range-spec : {M : Type 1} → statement M
-text-in-range-spec = tie.close (tie.spec scan-requires returns)
+unfolding textInRange
+text-in-range-spec = tie.close (tie.spec
+    (λ c κs. search needs)
+    (λ c. let text = c .before .before .args .text .now in
+    let full : length text ≡ 104 = search needs in
+    rw (eq-eqb _ _ full) (c .scan .ensures ∙ used-whole isCode 104 text full)))

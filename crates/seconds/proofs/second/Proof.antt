@@ -10,18 +10,10 @@ use borrow.Author.Needs.{needs}
 use Rattle.seconds.proofs.second.Statement.{statement}
 use Rattle.seconds.proofs.second.Tie as tie
 
-small-of-requires : tie.Need-small-of-requires
-small-of-requires c κs = search needs
-
-second-lent-requires : tie.Need-second-lent-requires
-second-lent-requires c κs = search needs
-
-returns : tie.Need-returns
-returns c =
-    let r = c .before .before .before .before .before .before .before .before .before .before .before .args .t1 in
+pub second-spec : {M : Type 1} → statement M
+second-spec = tie.close (tie.spec
+    (λ c κs. search needs) (λ c κs. search needs)
+    (λ c. let r = c .before .before .before .before .before .before .before .before .before .before .before .args .t1 in
     let told : c .before .before .before .before .before .second-lent .result ≡ lentOf (passed r) =
     c .before .before .before .before .before .second-lent .ensures ∙ ap (λ (s : Small). lentOf (passed (together s (r .text) (r .picture) (r .frame .bytes)))) (c .before .before .before .before .before .before .before .before .before .before .small-of .ensures) in
-    ap (λ (q : PassedLent). record { number = q .number; after = withSettings r (q .small .settings) }) told ∙ lent-back r
-
-pub second-spec : {M : Type 1} → statement M
-second-spec = tie.close (tie.spec small-of-requires second-lent-requires returns)
+    ap (λ (q : PassedLent). record { number = q .number; after = withSettings r (q .small .settings) }) told ∙ lent-back r))

@@ -11,42 +11,17 @@ use Rattle.seen.specs.LineLaws.{line-length, small-fits, big-cell}
 use Rattle.seen.proofs.big_cell.Statement.{statement}
 use Rattle.seen.proofs.big_cell.Tie as tie
 
-small-count-requires : tie.Need-small-count-requires
-small-count-requires c κs = search needs
-
-cast-small : tie.Need-cast-small
-cast-small c = search needs
-
-add-result : tie.Need-add-result
-add-result c = search needs
-
-add-result-2 : tie.Need-add-result-2
-add-result-2 c = search needs
-
-shared-slice-read-result : tie.Need-shared-slice-read-result
-shared-slice-read-result c =
-    let told = c .before .before .before .args in
+pub big-cell-spec : {M : Type 1} → statement M
+big-cell-spec = tie.close (tie.spec
+    (λ c κs. search needs) (λ c. search needs) (λ c. search needs) (λ c. search needs)
+    (λ c. let told = c .before .before .before .args in
     let text = told .text .now in
     let full : length text ≡ 104 = search needs in
     let few = small-fits (told .column) (lineOf text) (omega arith) (line-length text full) in
-    omega (arith, c .before .small-count .ensures)
-
-returns : tie.Need-returns
-returns c =
-    let told = c .before .before .before .args in
+    omega (arith, c .before .small-count .ensures))
+    (λ c. let told = c .before .before .before .args in
     let line = lineOf (told .text .now) in
     let small = smallIn (told .column) line in
     let there : 80 + small + told .cell ≡ 80 + (small + told .cell) = omega arith in
     rw (c .before .small-count .ensures, there)
-    (sym (getD-drop 80 (told .text .now) (small + told .cell) 0) ∙ sym (big-cell (told .column) line (told .cell) (omega arith)))
-
-pub big-cell-spec : {M : Type 1} → statement M
-big-cell-spec =
-    tie.close
-    (tie.spec
-    small-count-requires
-    cast-small
-    add-result
-    add-result-2
-    shared-slice-read-result
-    returns)
+    (sym (getD-drop 80 (told .text .now) (small + told .cell) 0) ∙ sym (big-cell (told .column) line (told .cell) (omega arith)))))

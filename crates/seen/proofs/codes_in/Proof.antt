@@ -51,60 +51,18 @@ Inv-loop text column i₀ i = (i ≤ 24) × (afterLast (take i (lineOf text)) �
 abbrev μ-loop : tie.MeasureT-loop
 μ-loop text column i₀ i = i
 
-loop-holds : tie.Need-loop-holds Inv-loop μ-loop
-loop-holds c =
-    let text = c .args .text .now in
-    (omega arith, ap afterLast (take-all 24 (lineOf text) (omega (arith, line-length text (c .pre)))))
-
-cast-if1 : tie.Need-cast-if1 Inv-loop μ-loop
-cast-if1 c = search needs
-
-add-if1 : tie.Need-add-if1 Inv-loop μ-loop
-add-if1 c = search needs
-
-sub-if1 : tie.Need-sub-if1 Inv-loop μ-loop
-sub-if1 c = search needs
-
-shared-slice-read-if1 : tie.Need-shared-slice-read-if1 Inv-loop μ-loop
-shared-slice-read-if1 c = search needs
-
-returns : tie.Need-returns Inv-loop μ-loop
-returns c =
-    let start = c .before .before .before .before .args in
-    let loop = c .before .before .before .loop in
-    found (start .text .now) (start .column) (loop .i) (c .before .before .before .before .pre) (loop .inv .0) (omega arith) (loop .inv .1) (c .if1 .taken)
-
-sub-i : tie.Need-sub-i Inv-loop μ-loop
-sub-i c = search needs
-
-loop-less : tie.Need-loop-less Inv-loop μ-loop
-loop-less c = search needs
-
-loop-again : tie.Need-loop-again Inv-loop μ-loop
-loop-again c =
-    let text = c .before .before .before .before .args .text .now in
-    let loop = c .before .before .before .loop in
-    (omega arith, cut text (loop .i) (c .before .before .before .before .pre) (loop .inv .0) (omega arith) (loop .inv .1) (c .if1 .left))
-
-returns-2 : tie.Need-returns-2 Inv-loop μ-loop
-returns-2 c =
-    let start = c .before .before .args in
-    let loop = c .before .loop in
-    none (start .text .now) (start .column) (loop .i) (omega arith) (loop .inv .1)
-
 pub codes-in-spec : {M : Type 1} → statement M
-codes-in-spec =
-    tie.close
-    (tie.spec
-    Inv-loop
-    μ-loop
-    loop-holds
-    cast-if1
-    add-if1
-    sub-if1
-    shared-slice-read-if1
-    returns
-    sub-i
-    loop-less
-    loop-again
-    returns-2)
+codes-in-spec = tie.close (tie.spec Inv-loop μ-loop
+    (λ c. let text = c .args .text .now in
+    (omega arith, ap afterLast (take-all 24 (lineOf text) (omega (arith, line-length text (c .pre))))))
+    (λ c. search needs) (λ c. search needs) (λ c. search needs) (λ c. search needs)
+    (λ c. let start = c .before .before .before .before .args in
+    let loop = c .before .before .before .loop in
+    found (start .text .now) (start .column) (loop .i) (c .before .before .before .before .pre) (loop .inv .0) (omega arith) (loop .inv .1) (c .if1 .taken))
+    (λ c. search needs) (λ c. search needs)
+    (λ c. let text = c .before .before .before .before .args .text .now in
+    let loop = c .before .before .before .loop in
+    (omega arith, cut text (loop .i) (c .before .before .before .before .pre) (loop .inv .0) (omega arith) (loop .inv .1) (c .if1 .left)))
+    (λ c. let start = c .before .before .args in
+    let loop = c .before .loop in
+    none (start .text .now) (start .column) (loop .i) (omega arith) (loop .inv .1)))

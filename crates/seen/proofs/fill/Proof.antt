@@ -32,51 +32,15 @@ Inv-loop to₀ cells at i₀ to i = (i ≤ length to₀) × (length to ≡ lengt
 abbrev μ-loop : tie.MeasureT-loop
 μ-loop to₀ cells at i₀ to i = length to - i
 
-loop-holds : tie.Need-loop-holds Inv-loop μ-loop
-loop-holds c = (search needs, refl, refl)
-
-add-to : tie.Need-add-to Inv-loop μ-loop
-add-to c = search needs
-
-shared-slice-read-to : tie.Need-shared-slice-read-to Inv-loop μ-loop
-shared-slice-read-to c = search needs
-
-slice-write-to : tie.Need-slice-write-to Inv-loop μ-loop
-slice-write-to c = search needs
-
-add-i : tie.Need-add-i Inv-loop μ-loop
-add-i c = search needs
-
-loop-less : tie.Need-loop-less Inv-loop μ-loop
-loop-less c = simp length-set (omega arith)
-
-loop-again : tie.Need-loop-again Inv-loop μ-loop
-loop-again c =
-    let start = c .before .before .before .args in
-    let loop = c .before .before .loop in
-    (omega arith, simp length-set (loop .inv .1), more (loop .to) (start .cells .now) (start .at) (loop .i) (omega arith) (omega arith) (loop .inv .2))
-
-same-length : tie.Need-same-length Inv-loop μ-loop
-same-length c = c .before .loop .inv .1
-
-returns : tie.Need-returns Inv-loop μ-loop
-returns c =
-    let start = c .before .before .args in
-    let loop = c .before .loop in
-    full (loop .to) (start .cells .now) (start .at) (loop .i) (length (start .to .now)) (omega arith) (loop .inv .1) (omega arith) (loop .inv .0) (loop .inv .2)
-
 pub fill-spec : {M : Type 1} → statement M
-fill-spec =
-    tie.close
-    (tie.spec
-    Inv-loop
-    μ-loop
-    loop-holds
-    add-to
-    shared-slice-read-to
-    slice-write-to
-    add-i
-    loop-less
-    loop-again
-    same-length
-    returns)
+fill-spec = tie.close (tie.spec Inv-loop μ-loop
+    (λ c. (search needs, refl, refl))
+    (λ c. search needs) (λ c. search needs) (λ c. search needs) (λ c. search needs)
+    (λ c. simp length-set (omega arith))
+    (λ c. let start = c .before .before .before .args in
+    let loop = c .before .before .loop in
+    (omega arith, simp length-set (loop .inv .1), more (loop .to) (start .cells .now) (start .at) (loop .i) (omega arith) (omega arith) (loop .inv .2)))
+    (λ c. c .before .loop .inv .1)
+    (λ c. let start = c .before .before .args in
+    let loop = c .before .loop in
+    full (loop .to) (start .cells .now) (start .at) (loop .i) (length (start .to .now)) (omega arith) (loop .inv .1) (omega arith) (loop .inv .0) (loop .inv .2)))

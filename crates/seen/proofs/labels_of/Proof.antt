@@ -3,8 +3,6 @@ use mathlib.Core.Path.{refl}
 use Rattle.seen.proofs.labels_of.Statement.{statement}
 use Rattle.seen.proofs.labels_of.Tie as tie
 
-returns : tie.Need-returns
-returns c = refl
-
 pub labels-of-spec : {M : Type 1} → statement M
-labels-of-spec = tie.close (tie.spec returns)
+labels-of-spec = tie.close (tie.spec
+    (λ c. refl))

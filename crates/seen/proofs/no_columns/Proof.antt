@@ -4,9 +4,7 @@ use Rattle.seen.specs.Rows.{noColumns}
 use Rattle.seen.proofs.no_columns.Statement.{statement}
 use Rattle.seen.proofs.no_columns.Tie as tie
 
-returns : tie.Need-returns
-unfolding noColumns
-returns c = refl
-
 pub no-columns-spec : {M : Type 1} → statement M
-no-columns-spec = tie.close (tie.spec returns)
+unfolding noColumns
+no-columns-spec = tie.close (tie.spec
+    (λ c. refl))

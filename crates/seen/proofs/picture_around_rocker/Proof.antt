@@ -41,53 +41,16 @@ Inv-loop picture n columns₀ i₀ columns i = (42 ≤ i) × (i ≤ 54) × (colu
 abbrev μ-loop : tie.MeasureT-loop
 μ-loop picture n columns₀ i₀ columns i = 54 - i
 
-picture-row-requires : tie.Need-picture-row-requires Inv-loop μ-loop
-picture-row-requires c κs = search needs
-
-cast-i : tie.Need-cast-i Inv-loop μ-loop
-cast-i c = search needs
-
-loop-holds : tie.Need-loop-holds Inv-loop μ-loop
-loop-holds c = (omega arith, omega arith, none-yet (c .picture-row .result))
-
-cast-loop : tie.Need-cast-loop Inv-loop μ-loop
-cast-loop c = search needs
-
-array-write-columns : tie.Need-array-write-columns Inv-loop μ-loop
-array-write-columns c = search needs
-
-add-i : tie.Need-add-i Inv-loop μ-loop
-add-i c = search needs
-
-loop-less : tie.Need-loop-less Inv-loop μ-loop
-loop-less c = search needs
-
-loop-again : tie.Need-loop-again Inv-loop μ-loop
-loop-again c =
-    let columns = c .before .before .picture-row .result in
+pub picture-around-rocker-spec : {M : Type 1} → statement M
+picture-around-rocker-spec = tie.close (tie.spec Inv-loop μ-loop
+    (λ c κs. search needs) (λ c. search needs)
+    (λ c. (omega arith, omega arith, none-yet (c .picture-row .result)))
+    (λ c. search needs) (λ c. search needs) (λ c. search needs) (λ c. search needs)
+    (λ c. let columns = c .before .before .picture-row .result in
     let loop = c .before .loop in
     let full : length columns ≡ 96 = search needs in
-    (omega arith, omega arith, ap (λ (cells : List ℕ). set cells (loop .i) 0) (loop .inv .2) ∙ more columns (loop .i) (loop .inv .0) (omega arith))
-
-returns : tie.Need-returns Inv-loop μ-loop
-returns c =
-    let columns = c .before .before .picture-row .result in
+    (omega arith, omega arith, ap (λ (cells : List ℕ). set cells (loop .i) 0) (loop .inv .2) ∙ more columns (loop .i) (loop .inv .0) (omega arith)))
+    (λ c. let columns = c .before .before .picture-row .result in
     let loop = c .before .loop in
     let last : loop .i ≡ 54 = omega arith in
-    loop .inv .2 ∙ ap (cleared columns) last ∙ ap aroundRocker (c .before .before .picture-row .ensures)
-
-pub picture-around-rocker-spec : {M : Type 1} → statement M
-picture-around-rocker-spec =
-    tie.close
-    (tie.spec
-    Inv-loop
-    μ-loop
-    picture-row-requires
-    cast-i
-    loop-holds
-    cast-loop
-    array-write-columns
-    add-i
-    loop-less
-    loop-again
-    returns)
+    loop .inv .2 ∙ ap (cleared columns) last ∙ ap aroundRocker (c .before .before .picture-row .ensures)))

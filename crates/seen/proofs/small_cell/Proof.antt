@@ -9,30 +9,15 @@ use Rattle.seen.specs.LineLaws.{line-length, small-cell, blank-cell}
 use Rattle.seen.proofs.small_cell.Statement.{statement}
 use Rattle.seen.proofs.small_cell.Tie as tie
 
-small-count-requires : tie.Need-small-count-requires
-small-count-requires c κs = search needs
-
-add-result : tie.Need-add-result
-add-result c = search needs
-
-shared-slice-read-result : tie.Need-shared-slice-read-result
-shared-slice-read-result c = search needs
-
-returns : tie.Need-returns
-returns c =
-    let told = c .before .before .before .before .args in
+pub small-cell-spec : {M : Type 1} → statement M
+small-cell-spec = tie.close (tie.spec
+    (λ c κs. search needs) (λ c. search needs) (λ c. search needs)
+    (λ c. let told = c .before .before .before .before .args in
     let text = told .text .now in
     let full : length text ≡ 104 = search needs in
     sym (getD-drop 80 text (told .cell) 0)
-    ∙ sym (small-cell (told .column) (lineOf text) (told .cell) (omega arith) (line-length text full) (omega (arith, c .before .before .small-count .ensures)))
-
-returns-2 : tie.Need-returns-2
-returns-2 c =
-    let told = c .before .before .before .args in
+    ∙ sym (small-cell (told .column) (lineOf text) (told .cell) (omega arith) (line-length text full) (omega (arith, c .before .before .small-count .ensures))))
+    (λ c. let told = c .before .before .before .args in
     let text = told .text .now in
     let full : length text ≡ 104 = search needs in
-    sym (blank-cell (told .column) (lineOf text) (told .cell) (omega arith) (line-length text full) (omega (arith, c .before .small-count .ensures)) (omega arith))
-
-pub small-cell-spec : {M : Type 1} → statement M
-small-cell-spec =
-    tie.close (tie.spec small-count-requires add-result shared-slice-read-result returns returns-2)
+    sym (blank-cell (told .column) (lineOf text) (told .cell) (omega arith) (line-length text full) (omega (arith, c .before .small-count .ensures)) (omega arith))))

@@ -27,49 +27,24 @@ done text filled column small h l e f =
     let first : filled ≡ take small (lineOf text) = f ∙ rw (counted small few) (from-place 80 small text (omega arith)) in
     rw (first, left-out small 16 blank few, e)
 
-small-count-requires : tie.Need-small-count-requires
-small-count-requires c κs = search needs
-
-cast-small : tie.Need-cast-small
-cast-small c = search needs
-
-array-borrow-prefix-codes : tie.Need-array-borrow-prefix-codes
-array-borrow-prefix-codes c =
-    let told = c .before .before .args in
+pub small-line-spec : {M : Type 1} → statement M
+small-line-spec = tie.close (tie.spec
+    (λ c κs. search needs) (λ c. search needs)
+    (λ c. let told = c .before .before .args in
     let text = told .text .now in
     let full : length text ≡ 104 = search needs in
-    omega (arith, c .small-count .ensures, small-fits (told .column) (lineOf text) (omega arith) (line-length text full))
-
-slice-aggregate-fill : tie.Need-slice-aggregate-fill
-slice-aggregate-fill c =
-    let told = c .before .before .before .args in
+    omega (arith, c .small-count .ensures, small-fits (told .column) (lineOf text) (omega arith) (line-length text full)))
+    (λ c. let told = c .before .before .before .args in
     let text = told .text .now in
     let full : length text ≡ 104 = search needs in
-    sym (counted (c .before .small-count .result) (omega (arith, c .before .small-count .ensures, small-fits (told .column) (lineOf text) (omega arith) (line-length text full))))
-
-fill-requires : tie.Need-fill-requires
-fill-requires c κs =
-    let told = c .before .before .before .args in
+    sym (counted (c .before .small-count .result) (omega (arith, c .before .small-count .ensures, small-fits (told .column) (lineOf text) (omega arith) (line-length text full)))))
+    (λ c κs. let told = c .before .before .before .args in
     let text = told .text .now in
     let full : length text ≡ 104 = search needs in
     let few : c .before .small-count .result ≤ 16 = omega (arith, c .before .small-count .ensures, small-fits (told .column) (lineOf text) (omega arith) (line-length text full)) in
-    omega (arith, counted (c .before .small-count .result) few)
-
-returns : tie.Need-returns
-returns c =
-    let told = c .before .before .before .before .before .args in
+    omega (arith, counted (c .before .small-count .result) few))
+    (λ c. let told = c .before .before .before .before .before .args in
     let text = told .text .now in
     let full : length text ≡ 104 = search needs in
     let count = c .before .before .before .small-count in
-    done text (c .before .fill .last .0) (told .column) (count .result) (omega arith) full (count .ensures) (c .before .fill .ensures)
-
-pub small-line-spec : {M : Type 1} → statement M
-small-line-spec =
-    tie.close
-    (tie.spec
-    small-count-requires
-    cast-small
-    array-borrow-prefix-codes
-    slice-aggregate-fill
-    fill-requires
-    returns)
+    done text (c .before .fill .last .0) (told .column) (count .result) (omega arith) full (count .ensures) (c .before .fill .ensures)))

@@ -5,41 +5,21 @@ use borrow.Author.Needs.{needs}
 use Rattle.seen_panels.proofs.volume_panel.Statement.{statement}
 use Rattle.seen_panels.proofs.volume_panel.Tie as tie
 
-returns : tie.Need-returns
-returns c = search needs
-
-returns-2 : tie.Need-returns-2
-returns-2 c = search needs
-
-returns-3 : tie.Need-returns-3
-returns-3 c = rw (c .before .before .before .if1 .left, c .before .before .if2 .left, eq-eqb (c .before .before .before .before .args .v .which) 1 (omega (arith, c .if3 .taken)))
-
-returns-4 : tie.Need-returns-4
-returns-4 c =
-    let which = c .before .before .before .before .before .before .args .v .which in
+pub volume-panel-spec : {M : Type 1} → statement M
+volume-panel-spec = tie.close (tie.spec
+    (λ c. search needs) (λ c. search needs)
+    (λ c. rw (c .before .before .before .if1 .left, c .before .before .if2 .left, eq-eqb (c .before .before .before .before .args .v .which) 1 (omega (arith, c .if3 .taken))))
+    (λ c. let which = c .before .before .before .before .before .before .args .v .which in
     rw (
       c .before .before .before .before .before .if1 .left,
       c .before .before .before .before .if2 .left,
       ne-eqb which 1 (λ e. omega (arith, c .before .before .if3 .left)),
       eq-eqb which 2 (omega (arith, c .if4 .taken)),
-    )
-
-returns-5 : tie.Need-returns-5
-returns-5 c =
-    let which = c .before .before .before .before .before .before .args .v .which in
+    ))
+    (λ c. let which = c .before .before .before .before .before .before .args .v .which in
     rw (
       c .before .before .before .before .before .if1 .left,
       c .before .before .before .before .if2 .left,
       ne-eqb which 1 (λ e. omega (arith, c .before .before .if3 .left)),
       ne-eqb which 2 (λ e. omega (arith, c .if4 .left)),
-    )
-
-pub volume-panel-spec : {M : Type 1} → statement M
-volume-panel-spec =
-    tie.close
-    (tie.spec
-    returns
-    returns-2
-    returns-3
-    returns-4
-    returns-5)
+    )))

@@ -4,14 +4,8 @@ use borrow.Author.Needs.{needs}
 use Rattle.stream.proofs.close.Statement.{statement}
 use Rattle.stream.proofs.close.Tie as tie
 
-obey-requires : tie.Need-obey-requires
-obey-requires c κs = search needs
-
-returns : tie.Need-returns
-returns c = closes-whole _ _ _ _ _ _ _ _ (c .before .before .before .if1 .taken) (c .obey .ensures)
-
-returns-2 : tie.Need-returns-2
-returns-2 c = closes-long _ _ _ _ _ (c .if1 .left)
-
 pub close-spec : {M : Type 1} → statement M
-close-spec = tie.close (tie.spec obey-requires returns returns-2)
+close-spec = tie.close (tie.spec
+    (λ c κs. search needs)
+    (λ c. closes-whole _ _ _ _ _ _ _ _ (c .before .before .before .if1 .taken) (c .obey .ensures))
+    (λ c. closes-long _ _ _ _ _ (c .if1 .left)))

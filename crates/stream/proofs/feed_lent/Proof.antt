@@ -12,48 +12,21 @@ use borrow.Author.Needs.{needs}
 use Rattle.stream.proofs.feed_lent.Statement.{statement}
 use Rattle.stream.proofs.feed_lent.Tie as tie
 
-in-range-lent-requires : tie.Need-in-range-lent-requires
-in-range-lent-requires c κs = search needs
-
-wide-requires : tie.Need-wide-requires
-wide-requires c κs = search needs
-
-read-requires : tie.Need-read-requires
-read-requires c κs = let a = c .before .before .before .before .before .before .before .before .before .before .before .before .before .before .args in
-    rw (c .before .wide .ensures) (ready (together (a .small) (now (a .text)) (now (a .picture)) (now (a .frame))) (sym (c .before .before .before .before .before .before .in-range-lent .ensures) ∙ c .before .before .before .before .before .if1 .taken))
-
-empty-from-requires : tie.Need-empty-from-requires
-empty-from-requires c κs = search needs
-
-cast-t26 : tie.Need-cast-t26
-cast-t26 c = let k = c .before .before .before .before .before .before .read .ensures .fits .short in record { fits = omega arith }
-
-same-length : tie.Need-same-length
-same-length c = search needs
-
-returns : tie.Need-returns
-returns c = let a = c .before .before .before .before .before .before .before .before .before .before .before .before .before .before .before .before .before .before .before .before .before .args in
+pub feed-lent-spec : {M : Type 1} → statement M
+unfolding fedOf answersAfter
+feed-lent-spec = tie.close (tie.spec
+    (λ c κs. search needs) (λ c κs. search needs)
+    (λ c κs. let a = c .before .before .before .before .before .before .before .before .before .before .before .before .before .before .args in
+    rw (c .before .wide .ensures) (ready (together (a .small) (now (a .text)) (now (a .picture)) (now (a .frame))) (sym (c .before .before .before .before .before .before .in-range-lent .ensures) ∙ c .before .before .before .before .before .if1 .taken)))
+    (λ c κs. search needs)
+    (λ c. let k = c .before .before .before .before .before .before .read .ensures .fits .short in record { fits = omega arith })
+    (λ c. search needs)
+    (λ c. let a = c .before .before .before .before .before .before .before .before .before .before .before .before .before .before .before .before .before .before .before .before .before .args in
     let good = sym (c .before .before .before .before .before .before .before .before .before .before .before .before .before .in-range-lent .ensures) ∙ c .before .before .before .before .before .before .before .before .before .before .before .before .if1 .taken in
     let k = c .before .before .before .before .before .before .read .ensures in
     let e = c .before .before .before .before .before .before .before .before .wide .ensures in
     let w = feeds (a .small) (now (a .text)) (now (a .picture)) (now (a .frame)) (now (a .bytes)) (now (a .answers)) _ e good k in
-    (ap lentOf w, (ap (λ (f : Fed). f .record .text) w, (ap (λ (f : Fed). f .record .picture) w, (c .before .before .empty-from .ensures ∙ ap (λ (f : Fed). f .record .frame .bytes) w, answers-fed (a .small) (now (a .text)) (now (a .picture)) (now (a .frame)) (now (a .bytes)) (now (a .answers)) _ e good k))))
-
-returns-2 : tie.Need-returns-2
-unfolding fedOf answersAfter
-returns-2 c = let a = c .before .before .before .before .before .before .before .before .before .args in
+    (ap lentOf w, (ap (λ (f : Fed). f .record .text) w, (ap (λ (f : Fed). f .record .picture) w, (c .before .before .empty-from .ensures ∙ ap (λ (f : Fed). f .record .frame .bytes) w, answers-fed (a .small) (now (a .text)) (now (a .picture)) (now (a .frame)) (now (a .bytes)) (now (a .answers)) _ e good k)))))
+    (λ c. let a = c .before .before .before .before .before .before .before .before .before .args in
     let bad : inRange (together (a .small) (now (a .text)) (now (a .picture)) (now (a .frame))) ≡ false = sym (c .before .in-range-lent .ensures) ∙ c .if1 .left in
-    rw bad (refl, (refl, (refl, (refl, refl))))
-
-pub feed-lent-spec : {M : Type 1} → statement M
-feed-lent-spec =
-    tie.close
-    (tie.spec
-    in-range-lent-requires
-    wide-requires
-    read-requires
-    empty-from-requires
-    cast-t26
-    same-length
-    returns
-    returns-2)
+    rw bad (refl, (refl, (refl, (refl, refl))))))

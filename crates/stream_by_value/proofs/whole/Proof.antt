@@ -3,8 +3,6 @@ use mathlib.Core.Path.{refl}
 use Rattle.stream_by_value.proofs.whole.Statement.{statement}
 use Rattle.stream_by_value.proofs.whole.Tie as tie
 
-returns : tie.Need-returns
-returns c = refl
-
 pub whole-spec : {M : Type 1} → statement M
-whole-spec = tie.close (tie.spec returns)
+whole-spec = tie.close (tie.spec
+    (λ c. refl))

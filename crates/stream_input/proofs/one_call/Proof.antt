@@ -9,42 +9,18 @@ use borrow.Author.Needs.{needs}
 use Rattle.stream_input.proofs.one_call.Statement.{statement}
 use Rattle.stream_input.proofs.one_call.Tie as tie
 
-slice-aggregate-feed : tie.Need-slice-aggregate-feed
-slice-aggregate-feed c = search needs
-
-feed-requires : tie.Need-feed-requires
-feed-requires c κs = search needs
-
-array-share-prefix-answers : tie.Need-array-share-prefix-answers
-array-share-prefix-answers c =
-    let start = c .before .before .before .before .args in
+pub one-call-spec : {M : Type 1} → statement M
+one-call-spec = tie.close (tie.spec
+    (λ c. search needs) (λ c κs. search needs)
+    (λ c. let start = c .before .before .before .before .args in
     let feed = c .before .feed in
     let within : feed .result .written ≤ 64 = subst (λ (f : Fed). f .written ≤ 64) (sym (feed .ensures .0)) (writes-within (start .r) (start .bytes .now) 64) in
-    omega arith
-
-slice-aggregate-count : tie.Need-slice-aggregate-count
-slice-aggregate-count c =
-    let start = c .before .before .before .before .before .args in
+    omega arith)
+    (λ c. let start = c .before .before .before .before .before .args in
     let feed = c .before .before .feed in
     let within : feed .result .written ≤ 64 = subst (λ (f : Fed). f .written ≤ 64) (sym (feed .ensures .0)) (writes-within (start .r) (start .bytes .now) 64) in
-    sym (length-take-le _ _ (omega arith))
-
-count-requires : tie.Need-count-requires
-count-requires c κs = search needs
-
-returns : tie.Need-returns
-returns c =
-    let start = c .before .before .before .before .before .before .args in
+    sym (length-take-le _ _ (omega arith)))
+    (λ c κs. search needs)
+    (λ c. let start = c .before .before .before .before .before .before .args in
     let feed = c .before .before .before .feed in
-    counted-there (start .r) (start .bytes .now) _ (feed .ensures .0) (feed .ensures .1) (c .count .ensures)
-
-pub one-call-spec : {M : Type 1} → statement M
-one-call-spec =
-    tie.close
-    (tie.spec
-    slice-aggregate-feed
-    feed-requires
-    array-share-prefix-answers
-    slice-aggregate-count
-    count-requires
-    returns)
+    counted-there (start .r) (start .bytes .now) _ (feed .ensures .0) (feed .ensures .1) (c .count .ensures)))

@@ -14,28 +14,10 @@ Inv-loop bytes₀ len i₀ bytes i = (length bytes ≡ length bytes₀) × (empt
 abbrev μ-loop : tie.MeasureT-loop
 μ-loop bytes₀ len i₀ bytes i = length bytes₀ - i
 
-loop-holds : tie.Need-loop-holds Inv-loop μ-loop
-loop-holds c = (refl, refl)
-
-slice-write-bytes : tie.Need-slice-write-bytes Inv-loop μ-loop
-slice-write-bytes c = search needs
-
-add-i : tie.Need-add-i Inv-loop μ-loop
-add-i c = search needs
-
-loop-less : tie.Need-loop-less Inv-loop μ-loop
-loop-less c = search needs
-
-loop-again : tie.Need-loop-again Inv-loop μ-loop
-loop-again c = let v = c .before .loop in (length-set (v .bytes) _ _ ∙ v .inv .0, v .inv .1 ∙ empty-more (v .bytes) (v .i) (omega arith))
-
-same-length : tie.Need-same-length Inv-loop μ-loop
-same-length c = search needs
-
-returns : tie.Need-returns Inv-loop μ-loop
-returns c = let v = c .before .loop in sym (v .inv .1 ∙ empty-end (v .bytes) (v .i) (omega arith))
-
 pub empty-from-spec : {M : Type 1} → statement M
-empty-from-spec =
-    tie.close
-    (tie.spec Inv-loop μ-loop loop-holds slice-write-bytes add-i loop-less loop-again same-length returns)
+empty-from-spec = tie.close (tie.spec Inv-loop μ-loop
+    (λ c. (refl, refl))
+    (λ c. search needs) (λ c. search needs) (λ c. search needs)
+    (λ c. let v = c .before .loop in (length-set (v .bytes) _ _ ∙ v .inv .0, v .inv .1 ∙ empty-more (v .bytes) (v .i) (omega arith)))
+    (λ c. search needs)
+    (λ c. let v = c .before .loop in sym (v .inv .1 ∙ empty-end (v .bytes) (v .i) (omega arith))))

@@ -16,59 +16,21 @@ Inv-loop codes start bytes₀ i₀ bytes i = (i ≤ length codes) × (length byt
 abbrev μ-loop : tie.MeasureT-loop
 μ-loop codes start bytes₀ i₀ bytes i = length codes - i
 
-loop-holds : tie.Need-loop-holds Inv-loop μ-loop
-loop-holds c =
-    let line = c .before .args .line in
+pub add-spec : {M : Type 1} → statement M
+add-spec = tie.close (tie.spec Inv-loop μ-loop
+    (λ c. let line = c .before .args .line in
     let none : line .len + 0 ≡ line .len = omega arith in
-    (omega arith, search needs, ap (λ (n : ℕ). take n (line .bytes)) none ∙ sym (append-nil (take (line .len) (line .bytes))))
-
-shared-slice-read-bytes : tie.Need-shared-slice-read-bytes Inv-loop μ-loop
-shared-slice-read-bytes c = search needs
-
-add-bytes : tie.Need-add-bytes Inv-loop μ-loop
-add-bytes c = search needs
-
-array-write-bytes : tie.Need-array-write-bytes Inv-loop μ-loop
-array-write-bytes c = omega arith
-
-add-i : tie.Need-add-i Inv-loop μ-loop
-add-i c = search needs
-
-loop-less : tie.Need-loop-less Inv-loop μ-loop
-loop-less c = search needs
-
-loop-again : tie.Need-loop-again Inv-loop μ-loop
-loop-again c =
-    let start = c .before .before .before .before .args in
+    (omega arith, search needs, ap (λ (n : ℕ). take n (line .bytes)) none ∙ sym (append-nil (take (line .len) (line .bytes)))))
+    (λ c. search needs) (λ c. search needs) (λ c. omega arith) (λ c. search needs) (λ c. search needs)
+    (λ c. let start = c .before .before .before .before .args in
     let loop = c .before .before .loop in
-    (omega arith, simp length-set (loop .inv .1), store-step (loop .bytes) (start .codes .now) (take (start .line .len) (start .line .bytes)) (start .line .len) (loop .i) (omega arith) (omega arith) (loop .inv .2))
-
-add-t12 : tie.Need-add-t12 Inv-loop μ-loop
-add-t12 c = search needs
-
-returns : tie.Need-returns Inv-loop μ-loop
-returns c =
-    let start = c .before .before .before .args in
+    (omega arith, simp length-set (loop .inv .1), store-step (loop .bytes) (start .codes .now) (take (start .line .len) (start .line .bytes)) (start .line .len) (loop .i) (omega arith) (omega arith) (loop .inv .2)))
+    (λ c. search needs)
+    (λ c. let start = c .before .before .before .args in
     let loop = c .before .loop in
     let end : loop .i ≡ length (start .codes .now) = omega arith in
     record {
       holds = loop .inv .2 ∙ ap (λ (t : List ℕ). take (start .line .len) (start .line .bytes) ++ t) (take-all (loop .i) (start .codes .now) (omega arith));
       longer = omega arith;
       most = omega arith;
-    }
-
-pub add-spec : {M : Type 1} → statement M
-add-spec =
-    tie.close
-    (tie.spec
-    Inv-loop
-    μ-loop
-    loop-holds
-    shared-slice-read-bytes
-    add-bytes
-    array-write-bytes
-    add-i
-    loop-less
-    loop-again
-    add-t12
-    returns)
+    }))

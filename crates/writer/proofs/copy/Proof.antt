@@ -15,49 +15,16 @@ Inv-loop room₀ n bytes i₀ room i = (i ≤ n) × (length room ≡ length room
 abbrev μ-loop : tie.MeasureT-loop
 μ-loop room₀ n bytes i₀ room i = n - i
 
-loop-holds : tie.Need-loop-holds Inv-loop μ-loop
-loop-holds c = (omega arith, refl, refl)
-
-array-read-room : tie.Need-array-read-room Inv-loop μ-loop
-array-read-room c = search needs
-
-slice-write-room : tie.Need-slice-write-room Inv-loop μ-loop
-slice-write-room c = omega arith
-
-add-i : tie.Need-add-i Inv-loop μ-loop
-add-i c = search needs
-
-loop-less : tie.Need-loop-less Inv-loop μ-loop
-loop-less c = omega arith
-
-loop-again : tie.Need-loop-again Inv-loop μ-loop
-loop-again c =
-    let loop = c .before .loop in
+pub copy-spec : {M : Type 1} → statement M
+copy-spec = tie.close (tie.spec Inv-loop μ-loop
+    (λ c. (omega arith, refl, refl))
+    (λ c. search needs) (λ c. omega arith) (λ c. search needs) (λ c. omega arith)
+    (λ c. let loop = c .before .loop in
     let start = c .before .before .before .args in
     let whole : length (start .line .bytes) ≡ 200 = search needs in
-    (omega arith, simp length-set (loop .inv .1), ap (λ (x : List ℕ). set x (loop .i) (getD (start .line .bytes) (loop .i) 0)) (loop .inv .2) ∙ copy-step (start .line .bytes) (start .room .now) (loop .i) (omega arith) (omega arith))
-
-same-length : tie.Need-same-length Inv-loop μ-loop
-same-length c = search needs
-
-returns : tie.Need-returns Inv-loop μ-loop
-returns c =
-    let loop = c .before .loop in
+    (omega arith, simp length-set (loop .inv .1), ap (λ (x : List ℕ). set x (loop .i) (getD (start .line .bytes) (loop .i) 0)) (loop .inv .2) ∙ copy-step (start .line .bytes) (start .room .now) (loop .i) (omega arith) (omega arith)))
+    (λ c. search needs)
+    (λ c. let loop = c .before .loop in
     let start = c .before .before .before .args in
     let end : loop .i ≡ start .line .len = omega arith in
-    loop .inv .2 ∙ ap (λ (k : ℕ). take k (start .line .bytes) ++ drop k (start .room .now)) end
-
-pub copy-spec : {M : Type 1} → statement M
-copy-spec =
-    tie.close
-    (tie.spec
-    Inv-loop
-    μ-loop
-    loop-holds
-    array-read-room
-    slice-write-room
-    add-i
-    loop-less
-    loop-again
-    same-length
-    returns)
+    loop .inv .2 ∙ ap (λ (k : ℕ). take k (start .line .bytes) ++ drop k (start .room .now)) end))

@@ -12,29 +12,16 @@ use borrow.Author.Needs.{needs}
 use Rattle.writer.proofs.deliver.Statement.{statement}
 use Rattle.writer.proofs.deliver.Tie as tie
 
-slice-aggregate-add : tie.Need-slice-aggregate-add
-slice-aggregate-add c = search needs
-
-add-requires : tie.Need-add-requires
-add-requires c κs = search needs
-
-returns : tie.Need-returns
-returns c =
-    let start = c .before .before .before .before .args in
+pub deliver-spec : {M : Type 1} → statement M
+deliver-spec = tie.close (tie.spec
+    (λ c. search needs) (λ c κs. search needs)
+    (λ c. let start = c .before .before .before .before .args in
     let added = c .before .add .ensures in
     let whole : length (start .line .bytes) ≡ 200 = search needs in
     let size : length (held (start .line)) ≡ start .line .len = length-take-le (start .line .len) (start .line .bytes) (omega arith) in
-    no-room (held (start .line) ++ carriageReturn ∷ lineFeed ∷ []) (now (start .room)) (c .before .add .result .len) (omega (arith, added .longer, length-append (held (start .line)) (carriageReturn ∷ lineFeed ∷ []))) (omega (arith, c .if1 .taken))
-
-copy-requires : tie.Need-copy-requires
-copy-requires c κs = search needs
-
-same-length : tie.Need-same-length
-same-length c = search needs
-
-returns-2 : tie.Need-returns-2
-returns-2 c =
-    let start = c .before .before .before .before .before .before .before .before .args in
+    no-room (held (start .line) ++ carriageReturn ∷ lineFeed ∷ []) (now (start .room)) (c .before .add .result .len) (omega (arith, added .longer, length-append (held (start .line)) (carriageReturn ∷ lineFeed ∷ []))) (omega (arith, c .if1 .taken)))
+    (λ c κs. search needs) (λ c. search needs)
+    (λ c. let start = c .before .before .before .before .before .before .before .before .args in
     let added = c .before .before .before .before .before .add .ensures in
     let whole : length (start .line .bytes) ≡ 200 = search needs in
     let size : length (held (start .line)) ≡ start .line .len = length-take-le (start .line .len) (start .line .bytes) (omega arith) in
@@ -42,9 +29,4 @@ returns-2 c =
     wrote (held (start .line) ++ carriageReturn ∷ lineFeed ∷ []) (now (start .room)) (c .before .before .before .before .before .add .result .len) (held (c .before .before .before .before .before .add .result))
     (omega (arith, added .longer, length-append (held (start .line)) (carriageReturn ∷ lineFeed ∷ []))) (added .holds) (omega (arith, c .before .before .before .before .if1 .left))
     in
-    (right .0, c .before .before .copy .ensures ∙ right .1)
-
-pub deliver-spec : {M : Type 1} → statement M
-deliver-spec =
-    tie.close
-    (tie.spec slice-aggregate-add add-requires returns copy-requires same-length returns-2)
+    (right .0, c .before .before .copy .ensures ∙ right .1)))

@@ -8,44 +8,11 @@ use borrow.Author.Needs.{needs}
 use Rattle.writer.proofs.write_command.Statement.{statement}
 use Rattle.writer.proofs.write_command.Tie as tie
 
-in-range-requires : tie.Need-in-range-requires
-in-range-requires c κs = search needs
-
-opened-requires : tie.Need-opened-requires
-opened-requires c κs = search needs
-
-plan-of-requires : tie.Need-plan-of-requires
-plan-of-requires c κs = search needs
-
-add-plan-requires : tie.Need-add-plan-requires
-add-plan-requires c κs = search needs
-
-deliver-requires : tie.Need-deliver-requires
-deliver-requires c κs = search needs
-
-same-length : tie.Need-same-length
-same-length c = search needs
-
-returns : tie.Need-returns
-returns c =
-    let start = c .before .before .before .before .before .before .before .before .before .before .args in
-    let line = framed (bodyOf (start .c)) (c .before .before .before .before .before .before .opened .ensures .0) (c .before .before .before .before .add-plan .ensures) (c .before .before .before .before .before .plan-of .ensures) in
-    delivered (commandInRange mostRows (start .c)) _ (bodyOf (start .c)) (now (start .room)) (sym (c .before .before .before .before .before .before .before .before .in-range .ensures) ∙ c .before .before .before .before .before .before .before .if1 .taken) line (c .before .before .deliver .ensures)
-
-returns-2 : tie.Need-returns-2
-returns-2 c =
-    let start = c .before .before .before .args in
-    refused (frameOf (bodyOf (start .c))) (now (start .room)) (commandInRange mostRows (start .c)) (sym (c .before .in-range .ensures) ∙ c .if1 .left)
-
 pub write-command-spec : {M : Type 1} → statement M
-write-command-spec =
-    tie.close
-    (tie.spec
-    in-range-requires
-    opened-requires
-    plan-of-requires
-    add-plan-requires
-    deliver-requires
-    same-length
-    returns
-    returns-2)
+write-command-spec = tie.close (tie.spec
+    (λ c κs. search needs) (λ c κs. search needs) (λ c κs. search needs) (λ c κs. search needs) (λ c κs. search needs) (λ c. search needs)
+    (λ c. let start = c .before .before .before .before .before .before .before .before .before .before .args in
+    let line = framed (bodyOf (start .c)) (c .before .before .before .before .before .before .opened .ensures .0) (c .before .before .before .before .add-plan .ensures) (c .before .before .before .before .before .plan-of .ensures) in
+    delivered (commandInRange mostRows (start .c)) _ (bodyOf (start .c)) (now (start .room)) (sym (c .before .before .before .before .before .before .before .before .in-range .ensures) ∙ c .before .before .before .before .before .before .before .if1 .taken) line (c .before .before .deliver .ensures))
+    (λ c. let start = c .before .before .before .args in
+    refused (frameOf (bodyOf (start .c))) (now (start .room)) (commandInRange mostRows (start .c)) (sym (c .before .in-range .ensures) ∙ c .if1 .left)))

@@ -10,42 +10,14 @@ use borrow.Author.Needs.{needs}
 use Rattle.writer.proofs.write_label.Statement.{statement}
 use Rattle.writer.proofs.write_label.Tie as tie
 
-label-in-range-requires : tie.Need-label-in-range-requires
-label-in-range-requires c κs = search needs
-
-opened-requires : tie.Need-opened-requires
-opened-requires c κs = search needs
-
-add-label-requires : tie.Need-add-label-requires
-add-label-requires c κs =
-    let few = label-told (now (c .before .before .before .before .before .args .codes)) (sym (c .before .before .label-in-range .ensures) ∙ c .before .if1 .taken) .0 in
-    (omega (arith, c .opened .ensures .1), omega arith)
-
-deliver-requires : tie.Need-deliver-requires
-deliver-requires c κs = search needs
-
-same-length : tie.Need-same-length
-same-length c = search needs
-
-returns : tie.Need-returns
-returns c =
-    let start = c .before .before .before .before .before .before .before .before .before .before .args in
-    let body = labelBody (start .side) (now (start .codes)) in
-    delivered (isLabel (now (start .codes))) _ body (now (start .room)) (sym (c .before .before .before .before .before .before .before .label-in-range .ensures) ∙ c .before .before .before .before .before .before .if1 .taken) (framed body (c .before .before .before .before .before .opened .ensures .0) (c .before .before .before .before .add-label .ensures) refl) (c .before .before .deliver .ensures)
-
-returns-2 : tie.Need-returns-2
-returns-2 c =
-    let start = c .before .before .before .before .args in
-    refused (frameOf (labelBody (start .side) (now (start .codes)))) (now (start .room)) (isLabel (now (start .codes))) (sym (c .before .label-in-range .ensures) ∙ c .if1 .left)
-
 pub write-label-spec : {M : Type 1} → statement M
-write-label-spec =
-    tie.close
-    (tie.spec
-    label-in-range-requires
-    opened-requires
-    add-label-requires
-    deliver-requires
-    same-length
-    returns
-    returns-2)
+write-label-spec = tie.close (tie.spec
+    (λ c κs. search needs) (λ c κs. search needs)
+    (λ c κs. let few = label-told (now (c .before .before .before .before .before .args .codes)) (sym (c .before .before .label-in-range .ensures) ∙ c .before .if1 .taken) .0 in
+    (omega (arith, c .opened .ensures .1), omega arith))
+    (λ c κs. search needs) (λ c. search needs)
+    (λ c. let start = c .before .before .before .before .before .before .before .before .before .before .args in
+    let body = labelBody (start .side) (now (start .codes)) in
+    delivered (isLabel (now (start .codes))) _ body (now (start .room)) (sym (c .before .before .before .before .before .before .before .label-in-range .ensures) ∙ c .before .before .before .before .before .before .if1 .taken) (framed body (c .before .before .before .before .before .opened .ensures .0) (c .before .before .before .before .add-label .ensures) refl) (c .before .before .deliver .ensures))
+    (λ c. let start = c .before .before .before .before .args in
+    refused (frameOf (labelBody (start .side) (now (start .codes)))) (now (start .room)) (isLabel (now (start .codes))) (sym (c .before .label-in-range .ensures) ∙ c .if1 .left)))

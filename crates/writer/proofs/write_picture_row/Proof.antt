@@ -10,42 +10,14 @@ use borrow.Author.Needs.{needs}
 use Rattle.writer.proofs.write_picture_row.Statement.{statement}
 use Rattle.writer.proofs.write_picture_row.Tie as tie
 
-row-in-range-requires : tie.Need-row-in-range-requires
-row-in-range-requires c κs = search needs
-
-opened-requires : tie.Need-opened-requires
-opened-requires c κs = search needs
-
-add-row-requires : tie.Need-add-row-requires
-add-row-requires c κs =
-    let told = row-told (c .before .before .before .before .before .args .row) (now (c .before .before .before .before .before .args .columns)) (sym (c .before .before .row-in-range .ensures) ∙ c .before .if1 .taken) in
-    (omega (arith, c .opened .ensures .1), told .low, told .most)
-
-deliver-requires : tie.Need-deliver-requires
-deliver-requires c κs = search needs
-
-same-length : tie.Need-same-length
-same-length c = search needs
-
-returns : tie.Need-returns
-returns c =
-    let start = c .before .before .before .before .before .before .before .before .before .before .args in
-    let body = rowBody (start .row) (now (start .columns)) in
-    delivered (isRow (start .row) (now (start .columns))) _ body (now (start .room)) (sym (c .before .before .before .before .before .before .before .row-in-range .ensures) ∙ c .before .before .before .before .before .before .if1 .taken) (framed body (c .before .before .before .before .before .opened .ensures .0) (c .before .before .before .before .add-row .ensures) refl) (c .before .before .deliver .ensures)
-
-returns-2 : tie.Need-returns-2
-returns-2 c =
-    let start = c .before .before .before .before .args in
-    refused (frameOf (rowBody (start .row) (now (start .columns)))) (now (start .room)) (isRow (start .row) (now (start .columns))) (sym (c .before .row-in-range .ensures) ∙ c .if1 .left)
-
 pub write-picture-row-spec : {M : Type 1} → statement M
-write-picture-row-spec =
-    tie.close
-    (tie.spec
-    row-in-range-requires
-    opened-requires
-    add-row-requires
-    deliver-requires
-    same-length
-    returns
-    returns-2)
+write-picture-row-spec = tie.close (tie.spec
+    (λ c κs. search needs) (λ c κs. search needs)
+    (λ c κs. let told = row-told (c .before .before .before .before .before .args .row) (now (c .before .before .before .before .before .args .columns)) (sym (c .before .before .row-in-range .ensures) ∙ c .before .if1 .taken) in
+    (omega (arith, c .opened .ensures .1), told .low, told .most))
+    (λ c κs. search needs) (λ c. search needs)
+    (λ c. let start = c .before .before .before .before .before .before .before .before .before .before .args in
+    let body = rowBody (start .row) (now (start .columns)) in
+    delivered (isRow (start .row) (now (start .columns))) _ body (now (start .room)) (sym (c .before .before .before .before .before .before .before .row-in-range .ensures) ∙ c .before .before .before .before .before .before .if1 .taken) (framed body (c .before .before .before .before .before .opened .ensures .0) (c .before .before .before .before .add-row .ensures) refl) (c .before .before .deliver .ensures))
+    (λ c. let start = c .before .before .before .before .args in
+    refused (frameOf (rowBody (start .row) (now (start .columns)))) (now (start .room)) (isRow (start .row) (now (start .columns))) (sym (c .before .row-in-range .ensures) ∙ c .if1 .left)))

@@ -17,43 +17,13 @@ Inv-loop s kind ok₀ i₀ ok i = (i ≤ length s) × (every (testOf kind) (slic
 abbrev μ-loop : tie.MeasureT-loop
 μ-loop s kind ok₀ i₀ ok i = length s - i
 
-loop-holds : tie.Need-loop-holds Inv-loop μ-loop
-loop-holds c = (search needs, refl)
-
-shared-slice-read-passes : tie.Need-shared-slice-read-passes Inv-loop μ-loop
-shared-slice-read-passes c = search needs
-
-passes-requires : tie.Need-passes-requires Inv-loop μ-loop
-passes-requires c κs = search needs
-
-add-i : tie.Need-add-i Inv-loop μ-loop
-add-i c = search needs
-
-loop-less : tie.Need-loop-less Inv-loop μ-loop
-loop-less c = search needs
-
-loop-again : tie.Need-loop-again Inv-loop μ-loop
-loop-again c =
-    let start = c .before .before .before .before .before .args in
-    let loop = c .before .before .before .loop in
-    (omega arith, loop .inv .1 ∙ scan-on (testOf (start .kind)) (start .s .now) (loop .i) (length (start .s .now)) (loop .ok) (c .passes .result) (omega arith) (omega arith) (c .passes .ensures))
-
-returns : tie.Need-returns Inv-loop μ-loop
-returns c =
-    let start = c .before .before .before .args in
-    let loop = c .before .loop in
-    sym (loop .inv .1 ∙ scan-end (testOf (start .kind)) (start .s .now) (loop .i) (length (start .s .now)) (loop .ok) (loop .inv .0) (c .loop-test .left)) ∙ ap (every (testOf (start .kind))) (take-length (start .s .now))
-
 pub all-pass-spec : {M : Type 1} → statement M
-all-pass-spec =
-    tie.close
-    (tie.spec
-    Inv-loop
-    μ-loop
-    loop-holds
-    shared-slice-read-passes
-    passes-requires
-    add-i
-    loop-less
-    loop-again
-    returns)
+all-pass-spec = tie.close (tie.spec Inv-loop μ-loop
+    (λ c. (search needs, refl))
+    (λ c. search needs) (λ c κs. search needs) (λ c. search needs) (λ c. search needs)
+    (λ c. let start = c .before .before .before .before .before .args in
+    let loop = c .before .before .before .loop in
+    (omega arith, loop .inv .1 ∙ scan-on (testOf (start .kind)) (start .s .now) (loop .i) (length (start .s .now)) (loop .ok) (c .passes .result) (omega arith) (omega arith) (c .passes .ensures)))
+    (λ c. let start = c .before .before .before .args in
+    let loop = c .before .loop in
+    sym (loop .inv .1 ∙ scan-end (testOf (start .kind)) (start .s .now) (loop .i) (length (start .s .now)) (loop .ok) (loop .inv .0) (c .loop-test .left)) ∙ ap (every (testOf (start .kind))) (take-length (start .s .now))))

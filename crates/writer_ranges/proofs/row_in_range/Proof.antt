@@ -10,41 +10,20 @@ use borrow.Author.Needs.{needs}
 use Rattle.writer_ranges.proofs.row_in_range.Statement.{statement}
 use Rattle.writer_ranges.proofs.row_in_range.Tie as tie
 
-returns : tie.Need-returns
+pub row-in-range-spec : {M : Type 1} → statement M
 unfolding isRow
-returns c = rw (lt-leb 1 (length (now (c .before .before .args .columns))) (omega (arith, c .if1 .taken)))
-
-returns-2 : tie.Need-returns-2
-unfolding isRow
-returns-2 c =
-    let n = length (now (c .before .before .before .args .columns)) in
-    rw (le-leb 1 n (omega (arith, c .before .if1 .left)), lt-leb n 96 (omega (arith, c .if2 .taken)))
-
-returns-3 : tie.Need-returns-3
-unfolding isRow
-returns-3 c =
-    let n = length (now (c .before .before .before .before .args .columns)) in
-    rw (le-leb 1 n (omega (arith, c .before .before .if1 .left)), le-leb n 96 (omega (arith, c .before .if2 .left)), lt-leb (c .before .before .before .before .args .row) 6 (omega (arith, c .if3 .taken)))
-
-returns-4 : tie.Need-returns-4
-unfolding isRow
-returns-4 c =
-    let n = length (now (c .before .before .before .before .before .args .columns)) in
+row-in-range-spec = tie.close (tie.spec
+    (λ c. rw (lt-leb 1 (length (now (c .before .before .args .columns))) (omega (arith, c .if1 .taken))))
+    (λ c. let n = length (now (c .before .before .before .args .columns)) in
+    rw (le-leb 1 n (omega (arith, c .before .if1 .left)), lt-leb n 96 (omega (arith, c .if2 .taken))))
+    (λ c. let n = length (now (c .before .before .before .before .args .columns)) in
+    rw (le-leb 1 n (omega (arith, c .before .before .if1 .left)), le-leb n 96 (omega (arith, c .before .if2 .left)), lt-leb (c .before .before .before .before .args .row) 6 (omega (arith, c .if3 .taken))))
+    (λ c. let n = length (now (c .before .before .before .before .before .args .columns)) in
     let row = c .before .before .before .before .before .args .row in
     let below : row < 6 = omega (arith, c .if4 .taken) in
-    rw (le-leb 1 n (omega (arith, c .before .before .before .if1 .left)), le-leb n 96 (omega (arith, c .before .before .if2 .left)), le-leb row 6 (omega arith), ne-eqb row 6 (λ e. omega arith))
-
-all-pass-requires : tie.Need-all-pass-requires
-all-pass-requires c κs = search needs
-
-returns-5 : tie.Need-returns-5
-unfolding isRow
-returns-5 c =
-    let n = length (now (c .before .before .before .before .before .before .args .columns)) in
+    rw (le-leb 1 n (omega (arith, c .before .before .before .if1 .left)), le-leb n 96 (omega (arith, c .before .before .if2 .left)), le-leb row 6 (omega arith), ne-eqb row 6 (λ e. omega arith)))
+    (λ c κs. search needs)
+    (λ c. let n = length (now (c .before .before .before .before .before .before .args .columns)) in
     let row = c .before .before .before .before .before .before .args .row in
     let last : row ≡ 6 = omega (arith, c .before .if4 .left, c .before .before .if3 .left) in
-    rw (le-leb 1 n (omega (arith, c .before .before .before .before .if1 .left)), le-leb n 96 (omega (arith, c .before .before .before .if2 .left)), le-leb row 6 (omega arith), eq-eqb row 6 last) (c .all-pass .ensures)
-
-pub row-in-range-spec : {M : Type 1} → statement M
-row-in-range-spec =
-    tie.close (tie.spec returns returns-2 returns-3 returns-4 all-pass-requires returns-5)
+    rw (le-leb 1 n (omega (arith, c .before .before .before .before .if1 .left)), le-leb n 96 (omega (arith, c .before .before .before .if2 .left)), le-leb row 6 (omega arith), eq-eqb row 6 last) (c .all-pass .ensures)))

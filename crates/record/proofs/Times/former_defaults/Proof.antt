@@ -3,8 +3,6 @@ use mathlib.Core.Path.{refl}
 use Rattle.record.proofs.Times.former_defaults.Statement.{statement}
 use Rattle.record.proofs.Times.former_defaults.Tie as tie
 
-returns : tie.Need-returns
-returns c = refl
-
 pub former-defaults-spec : {M : Type 1} → statement M
-former-defaults-spec = tie.close (tie.spec returns)
+former-defaults-spec = tie.close (tie.spec
+    (λ c. refl))

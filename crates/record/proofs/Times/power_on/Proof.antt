@@ -3,8 +3,6 @@ use mathlib.Core.Path.{refl}
 use Rattle.record.proofs.Times.power_on.Statement.{statement}
 use Rattle.record.proofs.Times.power_on.Tie as tie
 
-returns : tie.Need-returns
-returns c = refl
-
 pub power-on-spec : {M : Type 1} → statement M
-power-on-spec = tie.close (tie.spec returns)
+power-on-spec = tie.close (tie.spec
+    (λ c. refl))

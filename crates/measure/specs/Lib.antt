@@ -1,4 +1,0 @@
-pub mod Mark
-pub mod Calls
-pub mod Laws
-pub mod Choices
