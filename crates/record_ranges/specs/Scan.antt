@@ -1,11 +1,11 @@
 -- What the scan of an array asks of its places, and the law of its loop. Assumes nothing.
 use Prim.Native.Nat.{ℕ, zero, suc, _+_, _-_, _<_, _≤_}
 use native.Mathlib.Omega.{arith}
-use native.Mathlib.Nat.{sub-zero}
+use native.Mathlib.Nat.{sub-zero, le-refl}
 use native.Mathlib.Numerals.{add-one}
 use mathlib.Core.Path.{_≡_, refl, ap, sym, _∙_}
 use mathlib.Core.Bool.{Bool, true, false, not, _&&_, _||_, and-assoc, and-true, or-false}
-use mathlib.Core.List.{List, _∷_}
+use mathlib.Core.List.{List, [], _∷_}
 use lib.Dec.{ltb}
 use lib.ListN.{length, getD, take, drop, length-drop, drop-of-length-le}
 use lib.Seq.{slice, take-all, take-nil, drop-nil, drop-cons}
@@ -97,3 +97,24 @@ pub used-end : (test : ℕ → Bool) (from n : ℕ) (s : List ℕ) → length s 
 used-end test from n s h =
     let rest : length (drop from s) ≡ n - from = length-drop from s ∙ ap (λ (k : ℕ). k - from) h in
     rw (take-all (length s - from) (drop from s) (omega (arith, rest, h)), take-all n s (omega (arith, h))) (used-whole test (n - from) (drop from s) rest)
+
+-- An array of which at most n places are used: behind the first n, zeros are all that is asked.
+few-used : (test : ℕ → Bool) (len n : ℕ) (s : List ℕ) → len ≤ n → filled test len s ≡ (filled test len (take n s) && every isUnused (drop n s))
+unfolding filled
+few-used test zero zero s h = refl
+few-used test (suc len) zero s h = absurd (omega arith)
+few-used test zero (suc n) [] h = refl
+few-used test (suc len) (suc n) [] h = refl
+few-used test zero (suc n) (x ∷ xs) h =
+    ap (λ (b : Bool). isUnused x && b) (few-used test zero n xs (omega arith))
+    ∙ sym (and-assoc (isUnused x) (filled test 0 (take n xs)) (every isUnused (drop n xs)))
+few-used test (suc len) (suc n) (x ∷ xs) h =
+    used-place test len x xs
+    ∙ ap (λ (b : Bool). test x && b) (few-used test len n xs (omega arith))
+    ∙ sym (and-assoc (test x) (filled test len (take n xs)) (every isUnused (drop n xs)))
+    ∙ ap (λ (b : Bool). b && every isUnused (drop n xs)) (sym (used-place test len x (take n xs)))
+
+-- The same of the two parts that the code takes.
+pub in-parts : (test : ℕ → Bool) (len n : ℕ) (s : List ℕ) → len ≤ n
+    → filled test len s ≡ (filled test len (take n s) && every isUnused (take (length s - n) (drop n s)))
+in-parts test len n s h = rw (take-all (length s - n) (drop n s) (simp length-drop (le-refl _))) (few-used test len n s h)

@@ -18,4 +18,4 @@ frame-in-range-spec = tie.close (tie.spec
     let full : length (start .frame .now) ≡ 250 = search needs in
     let counts = leb (start .len) 250 && leb (start .state) 2 && (eqb (start .state) 1 || eqb (start .len) 0) in
     rw (eq-eqb _ _ full)
-    (ap (λ (kept : Bool). counts && kept) (c .scan .ensures ∙ in-two isFrameByte (start .len) 250 (start .frame .now) full) ∙ sym (and-assoc counts _ _))))
+    (ap (λ (kept : Bool). counts && kept) (c .bytes-in-range .ensures ∙ in-two isFrameByte (start .len) 250 (start .frame .now) full) ∙ sym (and-assoc counts _ _))))
