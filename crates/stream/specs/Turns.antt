@@ -8,7 +8,7 @@ use mathlib.Core.List.{List, [], _∷_, _++_}
 use lib.Dec.{eqb, ltb, leb}
 use lib.ListN.{length, take, set, getD, replicate, length-set}
 use lib.Seq.{take-suc-set, length-take-le}
-use borrow.Author.Tests.{eqb-true, eqb-false, ne-eqb, ltb-true, leb-true, leb-false}
+use borrow.Author.Tests.{eqb-true, eqb-false, ne-eqb, lt-ltb, le-ltb, ltb-true, leb-true, leb-false}
 use Rattle.lists.specs.Tests.{by-test}
 use Rattle.lists.specs.Codes.{escape, carriageReturn, blank}
 use Rattle.lists.specs.Padded.{padded}
@@ -313,5 +313,59 @@ pub stores-first : {start end column : ℕ} {t bytes : List ℕ} {from : ℕ} (n
     → Stores start end column t bytes from (from + 1) next t′
 stores-first {start} {end} {column} {t} {bytes} {from} next t′ (k, l, h) (x, small, y) = stores-more next t′ (stores-none start end column t bytes from (omega arith) (k .within)) l h small x y
 
+pub stores-one : {start end column : ℕ} {t bytes : List ℕ} {from at next : ℕ} {t′ : List ℕ} {at′ next′ place : ℕ} → Stores start end column t bytes from at next t′ → at < length bytes → blank ≤ getD bytes at 0 → next < end
+    → at′ ≡ at + 1 → next′ ≡ next + 1 → place ≡ start + next → Stores start end column t bytes from at′ next′ (set t′ place (getD bytes at 0))
+stores-one {start} {end} {column} {t} {bytes} {from} {at} {next} {t′} k l h room x y z =
+    rw (x, y, z) (stores-more (next + 1) (set t′ (start + next) (getD bytes at 0)) k l h (omega arith) (rw (lt-ltb next end room)) (rw (lt-ltb next end room)))
+
+pub stores-dropped : {start end column : ℕ} {t bytes : List ℕ} {from at next : ℕ} {t′ : List ℕ} → Stores start end column t bytes from at next t′ → at < length bytes → blank ≤ getD bytes at 0 → end ≤ next → Stores start end column t bytes from (at + 1) next t′
+stores-dropped {end = end} {next = next} {t′ = t′} k l h full = stores-more next t′ k l h (k .small) (rw (le-ltb next end full)) (rw (le-ltb next end full))
+
 pub stores-on : {start end column : ℕ} {t bytes : List ℕ} {from mid at between next : ℕ} {t′ t″ : List ℕ} → Stores start end column t bytes from mid between t′ → Stores start end between t′ bytes mid at next t″ → Stores start end column t bytes from at next t″
 stores-on first rest = record { inside = rest .inside; small = rest .small; goes = λ e r m c going. rest .goes e r m refl (first .goes e r m c going) }
+
+-- a text byte finds a place in its row, or none
+-- a run of text bytes ends where the bytes do, or before a byte that is none
+abbrev pub Ends : List ℕ → ℕ → Type 0
+Ends bytes at = at < length bytes → getD bytes at 0 < blank
+
+-- a run of text bytes that find no place, whatever row it is that is full
+pub record Drops (bytes : List ℕ) (from at : ℕ) : Type 0 where
+  pub onward : from ≤ at
+  pub stores : {start end column : ℕ} {t : List ℕ} → column ≤ end → end ≤ column → Stores start end column t bytes from at column t
+
+pub drops-none : (bytes : List ℕ) (from : ℕ) → from ≤ length bytes → Drops bytes from from
+drops-none bytes from l = record { onward = omega arith; stores = λ {start} {end} {column} {t} small full. stores-none start end column t bytes from l small }
+
+pub drops-more : {bytes : List ℕ} {from at : ℕ} → Drops bytes from at → at < length bytes → blank ≤ getD bytes at 0 → Drops bytes from (at + 1)
+drops-more k l h = record { onward = omega arith; stores = λ small full. stores-dropped (k .stores small full) l h full }
+
+-- what holds at a place and not where the run begins: that place is further on
+pub past-first : (Q : ℕ → Type 0) {from at : ℕ} → from ≤ at → (Q from → ⊥) → Q at → from < at
+past-first Q {from} {at} l n q =
+    by-test (eqb at from)
+    (λ e. absurd (n (subst Q (eqb-true at from e) q)))
+    (λ e. let m = eqb-false at from e in omega arith)
+
+-- A run of bytes of an open frame: wherever the loop stood before it, it stands after it -------------------------------------------------
+
+pub record Collects (len : ℕ) (fr bytes : List ℕ) (from at len′ : ℕ) (fr′ : List ℕ) : Type 0 where
+  pub inside : at ≤ length bytes
+  pub short : len′ ≤ limit
+  pub full : length fr′ ≡ limit
+  pub goes : {before : List ℕ} {s : State Core} {answers : List ℕ} {p : Settings} {t g : List ℕ} {state w : ℕ} → state ≡ 1 → Going bytes before s answers p t g state len fr from w → Going bytes before s answers p t g state len′ fr′ at w
+
+pub collects-none : (len : ℕ) (fr bytes : List ℕ) (from : ℕ) → from ≤ length bytes → len ≤ limit → length fr ≡ limit → Collects len fr bytes from from len fr
+collects-none len fr bytes from l k f = record { inside = l; short = k; full = f; goes = λ e going. going }
+
+pub collects-more : {len : ℕ} {fr bytes : List ℕ} {from at next : ℕ} {fr′ : List ℕ} {at′ next′ : ℕ} → Collects len fr bytes from at next fr′ → at < length bytes → next < limit → (getD bytes at 0 ≡ escape → ⊥) → (getD bytes at 0 ≡ carriageReturn → ⊥)
+    → at′ ≡ at + 1 → next′ ≡ next + 1 → Collects len fr bytes from at′ next′ (set fr′ next (getD bytes at 0))
+collects-more {bytes = bytes} {at = at} {next = next} {fr′ = fr′} k l room n m x y =
+    rw (x, y) (record {
+      inside = omega arith;
+      short = omega arith;
+      full = length-set fr′ next (getD bytes at 0) ∙ k .full;
+      goes = λ {before} {s} {answers} {p} {t} {g} {state} {w} e going.
+          let on = k .goes e going in
+          go-quiet on l (on .range) (fits-more (getD bytes at 0) e (on .fits) room) (turn-collect p t g state next fr′ (getD bytes at 0) (on .fits) e n m room);
+    })

@@ -1,12 +1,13 @@
 // The stream call: bytes in, the record and answers out. It is the parting's run at the handset's meaning.
 // It is done on lent arrays, in place, so that a short call copies nothing large; `stream_by_value` has the same call on a record by value.
 ghost use mathlib.Core.Path.{_≡_};
-ghost use Prim.Native.Nat.{_≤_, _<_, _+_};
+ghost use Prim.Native.Nat.{ℕ, _≤_, _<_, _+_};
 ghost use lib.ListN.{length, getD};
-ghost use Rattle.lists.specs.Codes.{blank};
+ghost use Rattle.lists.specs.Codes.{escape, carriageReturn, blank};
+ghost use Rattle.parting.specs.Rules.{limit};
 ghost use Rattle.record.specs.Parts.{together};
-ghost use Rattle.stream.specs.Turns.{Stores};
-ghost use Rattle.stream.specs.Stream.{InRow, columnAfter, textAfter, lentOf, standing, fedOf, answersAfter, Ready, Closes, Reads};
+ghost use Rattle.stream.specs.Turns.{Stores, Ends, Drops, Collects};
+ghost use Rattle.stream.specs.Stream.{InRow, lentOf, standing, fedOf, answersAfter, Ready, Closes, Reads};
 use answer::Answer;
 use effect::Obeyed;
 use lists::BLANK;
@@ -54,16 +55,48 @@ fn wide(b: u8) -> usize
     b as usize
 }
 
-// A text byte is stored at the cursor: the column after it. At the row's end it is dropped.
-fn store(text: &mut Text, start: usize, column: u8, end: u8, b: u8) -> u8
-    requires { ⌜ InRow start column end ⌝ }
-    ensures { λ r. ⌜ (r ≡ columnAfter end column) × (r ≤ end) × (now (text .exit) ≡ textAfter end (now (text .entry)) start column b) ⌝ }
+// The less of two numbers.
+fn least(a: usize, b: usize) -> usize
+    ensures { λ r. ⌜ (r ≤ a) × (r ≤ b) × ((n : ℕ) → n < a → n < b → n < r) ⌝ }
 {
-    if column < end {
-        text[start + wide(column)] = b;
-        return column + 1;
+    if a < b {
+        return a;
     }
-    column
+    b
+}
+
+// Stores text bytes from the cursor on, as long as they come and the row has room: how many. Most of a stream is text, so how far the loop may go is asked before it, and not for each byte.
+fn store_run(text: &mut Text, start: usize, column: u8, end: u8, bytes: &[u8], from: usize) -> usize
+    requires { ⌜ InRow start column end × (from ≤ length (now bytes)) ⌝ }
+    ensures { λ k. ⌜ (column + k < end → Ends (now (bytes .entry)) (from + k)) × (Stores start end column (now (text .entry)) (now (bytes .entry)) from (from + k) (column + k) (now (text .exit))) ⌝ }
+{
+    let at = start + wide(column);
+    let most = least(wide(end - column), bytes.len() - from);
+    let mut k = 0;
+    while k < most {
+        let b = bytes[from + k];
+        if b < BLANK {
+            return k;
+        }
+        text[at + k] = b;
+        k += 1;
+    }
+    k
+}
+
+// Where the text bytes end that find no place, in a row that is full.
+fn drop_run(bytes: &[u8], from: usize) -> usize
+    requires { ⌜ from ≤ length (now bytes) ⌝ }
+    ensures { λ r. ⌜ (Ends (now (bytes .entry)) r) × (Drops (now (bytes .entry)) from r) ⌝ }
+{
+    let mut i = from;
+    while i < bytes.len() {
+        if bytes[i] < BLANK {
+            return i;
+        }
+        i += 1;
+    }
+    i
 }
 
 // Where a run of text bytes ends, and the column after it.
@@ -72,26 +105,22 @@ struct Run {
     column: u8,
 }
 
-// Stores the text byte at a place and all that follow it at once: most of a stream is text, and this loop is short.
+// Stores the text byte at a place and all that follow it at once; those past the row's end are dropped.
 fn store_all(text: &mut Text, start: usize, column: u8, end: u8, bytes: &[u8], from: usize) -> Run
     requires { ⌜ InRow start column end × (from < length (now bytes)) × (blank ≤ getD (now bytes) from 0) ⌝ }
     ensures { λ r. ⌜ (from < r .at) × (Stores start end column (now (text .entry)) (now (bytes .entry)) from (r .at) (r .column) (now (text .exit))) ⌝ }
 {
-    let mut next = store(text, start, column, end, bytes[from]);
-    let mut i = from + 1;
-    while i < bytes.len() {
-        let b = bytes[i];
-        if b < BLANK {
-            return Run {
-                at: i,
-                column: next,
-            };
-        }
-        next = store(text, start, next, end, b);
-        i += 1;
+    let stored = store_run(text, start, column, end, bytes, from);
+    let next = column + stored as u8;
+    let at = from + stored;
+    if next < end {
+        return Run {
+            at: at,
+            column: next,
+        };
     }
     Run {
-        at: i,
+        at: drop_run(bytes, at),
         column: next,
     }
 }
@@ -113,6 +142,24 @@ fn close(
         settings: settings,
         answer: Answer::QuestionMark,
     }
+}
+
+// Collects bytes of an open frame, as long as they come and it has room: how many. Most bytes that are not text are collected, so this loop is as short as that of text. The first byte is known to be one of them, so the reader gets on.
+fn collect_run(frame: &mut [u8], len: usize, bytes: &[u8], from: usize) -> usize
+    requires { ⌜ (length (now frame) ≡ limit) × (len < limit) × (from < length (now bytes)) × (getD (now bytes) from 0 ≡ escape → ⊥) × (getD (now bytes) from 0 ≡ carriageReturn → ⊥) ⌝ }
+    ensures { λ k. ⌜ (0 < k) × (Collects len (now (frame .entry)) (now (bytes .entry)) from (from + k) (len + k) (now (frame .exit))) ⌝ }
+{
+    let most = least(LONGEST_FRAME - len, bytes.len() - from);
+    let mut k = 0;
+    while k < most {
+        let b = bytes[from + k];
+        if (b == ESCAPE) || (b == CARRIAGE_RETURN) {
+            return k;
+        }
+        frame[len + k] = b;
+        k += 1;
+    }
+    k
 }
 
 // Reads bytes until they end or an answer has no room.
@@ -205,9 +252,9 @@ fn read(
             continue;
         }
         if len < LONGEST_FRAME {
-            frame[len] = b;
-            len += 1;
-            i += 1;
+            let more = collect_run(frame, len, bytes, i);
+            len += more;
+            i += more;
             continue;
         }
         state = OVERLONG;

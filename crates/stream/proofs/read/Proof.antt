@@ -8,7 +8,7 @@ use Rattle.parting.specs.Reading.{step}
 use Rattle.turns.specs.Loop.{go-start, go-end}
 use Rattle.answer.specs.declared.Answer.the-variants.{QuestionMark}
 use Rattle.stream.specs.Stream.{handset, standing, answerFrom}
-use Rattle.stream.specs.Turns.{Going, go-quiet, go-loud, go-halt, same-core, fits-none, fits-more, fits-open, turn-open, turn-skip, loud-esc, turn-quiet, loud-return, range-loud, turn-collect, turn-over, turn-lost, in-place}
+use Rattle.stream.specs.Turns.{Going, go-quiet, go-loud, go-halt, same-core, fits-none, fits-open, turn-open, turn-skip, loud-esc, turn-quiet, loud-return, range-loud, turn-over, turn-lost, in-place}
 use Rattle.answer.specs.Laws.{answer-not-empty, room-stays}
 use borrow.Author.Needs.{needs}
 use Rattle.stream.proofs.read.Statement.{statement}
@@ -71,12 +71,12 @@ read-spec = tie.close (tie.spec Inv-loop μ-loop
     (λ c. search needs) (λ c. search needs)
     (λ c. let v = c .before .before .before .before .before .before .loop in
     go-quiet (v .inv) (omega arith) (v .inv .range) (v .inv .fits) (turn-lost (v .settings) (v .text) (v .picture) (v .state) (v .len) (v .frame) _ (c .if9 .taken) (c .before .before .if4 .left) (c .before .if6 .left)))
-    (λ c. let v = c .before .before .before .before .before .before .before .loop in omega (arith, v .inv .fits .full, c .if10 .taken))
-    (λ c. search needs) (λ c. search needs) (λ c. search needs)
-    (λ c. let v = c .before .before .before .before .before .before .before .loop in
-    let e : v .state ≡ 1 = omega (arith, v .inv .fits .known) in
-    go-quiet (v .inv) (omega arith) (v .inv .range) (fits-more _ e (v .inv .fits) (c .if10 .taken))
-    (turn-collect (v .settings) (v .text) (v .picture) (v .state) (v .len) (v .frame) _ (v .inv .fits) e (c .before .before .before .if4 .left) (c .before .before .if6 .left) (c .if10 .taken)))
+    (λ c κs. (c .before .before .before .before .before .before .before .before .loop .inv .fits .full, c .before .if10 .taken, c .before .before .before .before .before .before .before .loop-test .taken, c .before .before .before .before .if4 .left, c .before .before .before .if6 .left))
+    (λ c. let k = c .before .before .collect-run .ensures .1 .short in record { fits = omega arith })
+    (λ c. let k = c .before .before .collect-run .ensures .1 .inside in let g = c .before .before .before .before .before .before .before .before .before .before .before .before .before .before .before .good .1 .1 .1 .1 .1 .1 .0 .0 in record { fits = omega arith })
+    (λ c. let k = c .before .before .collect-run .ensures in let l = k .0 in let m = k .1 .inside in omega arith)
+    (λ c. let v = c .before .before .before .before .before .before .before .before .before .before .before .loop in
+    c .before .before .collect-run .ensures .1 .goes (omega (arith, c .before .before .before .before .before .if9 .left, v .inv .fits .known)) (v .inv))
     (λ c. search needs) (λ c. search needs)
     (λ c. let v = c .before .before .before .before .before .before .before .loop in
     let e : v .state ≡ 1 = omega (arith, v .inv .fits .known) in
