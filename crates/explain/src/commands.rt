@@ -1,170 +1,252 @@
 // Which fields a command sets, and what its numbers take.
+ghost use Prim.Native.Nat.{_≤_};
 use crate::fields::Field;
 use crate::fields::Fields;
-use crate::fields::say_changes;
 use crate::fields::say_takes;
-use crate::fields::say_values;
-use crate::line::say;
-use crate::line::say_count;
+use crate::words::IN_MODE;
+use crate::words::say_count;
 use command::Command;
 use command::Side;
-use record::Settings;
 
 // The greatest number of a text mode: what is above is an overlay.
 const LAST_MODE: u16 = 10;
 
-fn mode_field(n: u16) -> Field {
+// Frames that are obeyed.
+
+fn set_by_mode(n: u16) -> Fields {
     if LAST_MODE < n {
-        return Field::Overlay;
+        return Fields {
+            first: Field::Overlay,
+            last: Field::Overlay,
+        };
     }
-    Field::Mode
-}
-
-fn light_field(n: u16) -> Field {
-    if n == 0 {
-        return Field::Backlight;
-    }
-    Field::Duration
-}
-
-// The field that a command sets, or the first of them.
-fn field_of(c: Command) -> Field {
-    match c {
-        Command::DisplayOff => Field::Display,
-        Command::DisplayOn => Field::Display,
-        Command::Mode(n) => mode_field(n),
-        Command::CursorShown => Field::Cursor,
-        Command::CursorHidden => Field::Cursor,
-        Command::Clear => Field::Position,
-        Command::Position(_, _) => Field::Position,
-        Command::LabelsEmpty => Field::LeftLabel,
-        Command::IconS(_) => Field::IconS,
-        Command::IconU(_) => Field::IconU,
-        Command::IconF(_) => Field::IconF,
-        Command::IconR(_) => Field::IconR,
-        Command::IconP(_) => Field::IconP,
-        Command::IconW(_) => Field::IconW,
-        Command::Private(_) => Field::Volume,
-        Command::Handsfree(_) => Field::Volume,
-        Command::HandsfreeOfNote(_) => Field::Volume,
-        Command::Mute(_) => Field::Mute,
-        Command::KeyTimes(_, _) => Field::Time1,
-        Command::Buzzer(_) => Field::Buzzer,
-        Command::Light(n) => light_field(n),
-        Command::LightOn => Field::Backlight,
-        Command::LightAutoStart => Field::Backlight,
-        Command::LightAuto => Field::Backlight,
-        Command::DefaultDuration => Field::Duration,
-        Command::KeypadSet => Field::Keypad,
-        Command::KeypadCleared => Field::Keypad,
-        Command::Contrast(_) => Field::Contrast,
-        Command::ContrastAsked => Field::Nothing,
-        Command::HookAsked => Field::Nothing,
-        Command::VersionAsked => Field::Nothing,
-        Command::ClearLine => Field::Nothing,
-        Command::Inverse(_) => Field::Inverse,
-    }
-}
-
-// The same with those that are set beside it.
-fn beside(field: Field) -> Fields {
-    match field {
-        Field::Mode => [Field::Mode, Field::Overlay, Field::Position],
-        Field::LeftLabel => [Field::LeftLabel, Field::RightLabel, Field::Nothing],
-        Field::Volume => [Field::Volume, Field::Hidden, Field::Nothing],
-        Field::Time1 => [Field::Time1, Field::Time2, Field::Nothing],
-        Field::Backlight => [Field::Backlight, Field::SecondsLeft, Field::Nothing],
-        _ => [field, Field::Nothing, Field::Nothing],
+    Fields {
+        first: Field::Mode,
+        last: Field::Position,
     }
 }
 
 // Mute on also shows the volume.
-fn muting(n: u16) -> Fields {
+fn set_by_mute(n: u16) -> Fields {
     if n == 0 {
-        return [Field::Mute, Field::Nothing, Field::Nothing];
+        return Fields {
+            first: Field::Mute,
+            last: Field::Mute,
+        };
     }
-    [Field::Hidden, Field::Mute, Field::Nothing]
+    Fields {
+        first: Field::Hidden,
+        last: Field::Mute,
+    }
+}
+
+fn set_by_light(n: u16) -> Fields {
+    if n == 0 {
+        return Fields {
+            first: Field::Backlight,
+            last: Field::SecondsLeft,
+        };
+    }
+    Fields {
+        first: Field::Duration,
+        last: Field::Duration,
+    }
 }
 
 // The fields that a command sets.
-fn fields_of(c: Command) -> Fields {
+pub fn fields_of(c: Command) -> Fields {
     match c {
-        Command::Mute(n) => muting(n),
-        Command::LightAuto => [Field::Backlight, Field::Nothing, Field::Nothing],
-        _ => beside(field_of(c)),
+        Command::DisplayOff => Fields {
+            first: Field::Display,
+            last: Field::Display,
+        },
+        Command::DisplayOn => Fields {
+            first: Field::Display,
+            last: Field::Display,
+        },
+        Command::Mode(n) => set_by_mode(n),
+        Command::CursorShown => Fields {
+            first: Field::Cursor,
+            last: Field::Cursor,
+        },
+        Command::CursorHidden => Fields {
+            first: Field::Cursor,
+            last: Field::Cursor,
+        },
+        Command::LabelsEmpty => Fields {
+            first: Field::LeftLabel,
+            last: Field::RightLabel,
+        },
+        Command::IconS(_) => Fields {
+            first: Field::IconS,
+            last: Field::IconS,
+        },
+        Command::IconU(_) => Fields {
+            first: Field::IconU,
+            last: Field::IconU,
+        },
+        Command::IconF(_) => Fields {
+            first: Field::IconF,
+            last: Field::IconF,
+        },
+        Command::IconR(_) => Fields {
+            first: Field::IconR,
+            last: Field::IconR,
+        },
+        Command::IconP(_) => Fields {
+            first: Field::IconP,
+            last: Field::IconP,
+        },
+        Command::IconW(_) => Fields {
+            first: Field::IconW,
+            last: Field::IconW,
+        },
+        Command::Private(_) => Fields {
+            first: Field::Volume,
+            last: Field::Hidden,
+        },
+        Command::Handsfree(_) => Fields {
+            first: Field::Volume,
+            last: Field::Hidden,
+        },
+        Command::HandsfreeOfNote(_) => Fields {
+            first: Field::Volume,
+            last: Field::Hidden,
+        },
+        Command::Mute(n) => set_by_mute(n),
+        Command::KeyTimes(_, _) => Fields {
+            first: Field::Time1,
+            last: Field::Time2,
+        },
+        Command::Buzzer(_) => Fields {
+            first: Field::Buzzer,
+            last: Field::Buzzer,
+        },
+        Command::Light(n) => set_by_light(n),
+        Command::LightOn => Fields {
+            first: Field::Backlight,
+            last: Field::SecondsLeft,
+        },
+        Command::LightAutoStart => Fields {
+            first: Field::Backlight,
+            last: Field::SecondsLeft,
+        },
+        Command::LightAuto => Fields {
+            first: Field::Backlight,
+            last: Field::Backlight,
+        },
+        Command::DefaultDuration => Fields {
+            first: Field::Duration,
+            last: Field::Duration,
+        },
+        Command::KeypadSet => Fields {
+            first: Field::Keypad,
+            last: Field::Keypad,
+        },
+        Command::KeypadCleared => Fields {
+            first: Field::Keypad,
+            last: Field::Keypad,
+        },
+        Command::Contrast(_) => Fields {
+            first: Field::Contrast,
+            last: Field::Contrast,
+        },
+        Command::Inverse(_) => Fields {
+            first: Field::Inverse,
+            last: Field::Inverse,
+        },
+        Command::Clear => Fields {
+            first: Field::Position,
+            last: Field::Position,
+        },
+        Command::Position(_, _) => Fields {
+            first: Field::Position,
+            last: Field::Position,
+        },
+        // These set no field, and are told by words of their own.
+        Command::ClearLine => Fields {
+            first: Field::Nothing,
+            last: Field::Nothing,
+        },
+        Command::ContrastAsked => Fields {
+            first: Field::Nothing,
+            last: Field::Nothing,
+        },
+        Command::HookAsked => Fields {
+            first: Field::Nothing,
+            last: Field::Nothing,
+        },
+        Command::VersionAsked => Fields {
+            first: Field::Nothing,
+            last: Field::Nothing,
+        },
     }
 }
 
-// Frames that are obeyed.
-
-// The changes of these fields or, where they have none, their values; and whether they have changed.
-fn say_fields(fields: Fields, was: Settings, is: Settings) -> bool {
-    if say_changes(fields, was, is, false) {
-        return true;
-    }
-    say_values(fields, is);
-    false
-}
-
-// What a command set.
-pub fn say_set(c: Command, was: Settings, is: Settings) -> bool {
-    say_fields(fields_of(c), was, is)
-}
-
-// What a label's frame set.
-pub fn say_label_set(side: Side, was: Settings, is: Settings) -> bool {
+// The field that a label's frame sets.
+pub fn label_of(side: Side) -> Fields {
     match side {
-        Side::Left => say_fields([Field::LeftLabel, Field::Nothing, Field::Nothing], was, is),
-        Side::Right => say_fields([Field::RightLabel, Field::Nothing, Field::Nothing], was, is),
+        Side::Left => Fields {
+            first: Field::LeftLabel,
+            last: Field::LeftLabel,
+        },
+        Side::Right => Fields {
+            first: Field::RightLabel,
+            last: Field::RightLabel,
+        },
     }
 }
 
 // Frames that are passed over.
 
-// Where a mode has no row that a frame can name there is nothing to take.
-fn say_rows(mode: u8) {
-    let rows = command_ranges::rows_named(mode);
-    if rows == 0 {
-        say(b"no row can be named");
-    } else {
-        say_count(b"row takes 0 to ", rows as u64 - 1);
-    }
-    say_count(b" in mode ", mode as u64);
-}
-
-fn say_marks(mode: u8) {
-    let rows = command_ranges::rows_named(mode);
-    if rows == 0 {
-        say(b"inverse mark takes only 0");
-    } else {
-        say_count(b"inverse mark takes 0 to ", rows as u64);
-    }
-    say_count(b" in mode ", mode as u64);
-}
-
-fn say_position(row_is_out: bool, mode: u8) {
+// Which number of a cursor frame is out of range, and which of the key times: where it is the second, the first is in range and so another.
+fn of_position(row_is_out: bool) -> Field {
     if row_is_out {
-        say_rows(mode);
-        return;
+        return Field::Row;
     }
-    say(b"column takes 0 to 15");
+    Field::Column
 }
 
-fn say_times(time1_is_out: bool) {
+fn of_times(time1_is_out: bool) -> Field {
     if time1_is_out {
-        say_takes(Field::Time1);
-        return;
+        return Field::Time1;
     }
-    say_takes(Field::Time2);
+    Field::Time2
 }
 
-// The command's first number that is out of range is `out`. Where it is the second of two, the first is in range and so another.
-pub fn say_range(c: Command, out: u16, mode: u8) {
+// Which number of a command is out of range: its first one that is is `out`.
+pub fn field_out(c: Command, out: u16) -> Field {
     match c {
-        Command::Mode(_) => say_takes(Field::Mode),
-        Command::Position(row, _) => say_position(row == out, mode),
-        Command::KeyTimes(time1, _) => say_times(time1 == out),
-        Command::Inverse(_) => say_marks(mode),
-        _ => say_takes(field_of(c)),
+        Command::Mode(_) => Field::Mode,
+        Command::Position(row, _) => of_position(row == out),
+        Command::KeyTimes(time1, _) => of_times(time1 == out),
+        Command::Mute(_) => Field::Mute,
+        Command::Inverse(_) => Field::Mark,
+        _ => {
+            let fields = fields_of(c);
+            fields.first
+        }
+    }
+}
+
+// Where a mode has no row that a frame can name there is nothing to take. Rows are counted from 0, marks from 1.
+fn say_rows(some: Field, none: Field, from: u8, mode: u8)
+    requires { ⌜ from ≤ 1 ⌝ }
+{
+    let rows = command_ranges::rows_named(mode);
+    if rows == 0 {
+        say_takes(none, 0);
+    } else {
+        say_takes(some, (rows - from) as u64);
+    }
+    say_count(IN_MODE, mode as u64);
+}
+
+// What a number takes, in a text mode.
+pub fn say_range(field: Field, mode: u8) {
+    match field {
+        Field::Row => say_rows(Field::Row, Field::NoRow, 1, mode),
+        Field::Mark => say_rows(Field::Mark, Field::NoMark, 0, mode),
+        _ => say_takes(field, 0),
     }
 }

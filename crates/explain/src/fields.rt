@@ -1,340 +1,374 @@
 // The small fields of the record by name: what a field is called, what its value is called, what has changed. The words are read aloud
 // on the telephone, so a field has the same words in every line.
-use crate::line::say;
+ghost use Prim.Native.Nat.{_+_, _≤_, _<_};
+ghost use lib.ListN.{length};
+use crate::line::Part;
+use crate::line::changes;
+use crate::line::entry;
 use crate::line::say_codes;
 use crate::line::say_comma;
-use crate::line::say_count;
-use crate::line::say_number;
+use crate::line::say_entry;
+use crate::line::wide;
+use crate::words::CLOSING;
+use crate::words::OPENING;
+use crate::words::TO;
+use crate::words::say_words;
 use lists::LINE_FEED;
+use record::LONGEST_LABEL;
+use record::Label;
 use record::Settings;
+use record::Small;
 
-// Those with a range come first: the tables of names and of ranges are in this order. Nothing stands where a command sets no more.
+// A field has a line of the table of words, in this order. Those that a frame sets together stand together, and the labels behind all
+// others. Behind the fields stand numbers of a frame that have a range of their own; what the last ones take depends on the text mode.
+// Nothing stands where a command sets none.
 pub enum Field {
     Mode,
+    Overlay,
+    Position,
+    Volume,
+    Hidden,
+    Mute,
+    Time1,
+    Time2,
+    Backlight,
+    SecondsLeft,
+    Duration,
+    Keypad,
+    Display,
+    Cursor,
     IconS,
     IconU,
     IconF,
     IconR,
     IconP,
     IconW,
-    Volume,
-    Mute,
-    Time1,
-    Time2,
     Buzzer,
-    Duration,
     Contrast,
-    Display,
-    Cursor,
-    Position,
+    Inverse,
     LeftLabel,
     RightLabel,
-    Hidden,
-    Backlight,
-    SecondsLeft,
-    Keypad,
-    Overlay,
-    Inverse,
+    Column,
+    PictureRow,
+    Row,
+    NoRow,
+    Mark,
+    NoMark,
     Nothing,
 }
 
-// The fields that a frame sets.
-pub type Fields = [Field; MOST_FIELDS];
+const FIELDS: usize = 25;
 
-const MOST_FIELDS: usize = 3;
+const LEFT_LABEL: usize = 23;
 
-const LABEL: usize = 7;
+// Which line of the table a field has.
+fn line_of(field: Field) -> usize {
+    match field {
+        Field::Mode => 0,
+        Field::Overlay => 1,
+        Field::Position => 2,
+        Field::Volume => 3,
+        Field::Hidden => 4,
+        Field::Mute => 5,
+        Field::Time1 => 6,
+        Field::Time2 => 7,
+        Field::Backlight => 8,
+        Field::SecondsLeft => 9,
+        Field::Duration => 10,
+        Field::Keypad => 11,
+        Field::Display => 12,
+        Field::Cursor => 13,
+        Field::IconS => 14,
+        Field::IconU => 15,
+        Field::IconF => 16,
+        Field::IconR => 17,
+        Field::IconP => 18,
+        Field::IconW => 19,
+        Field::Buzzer => 20,
+        Field::Contrast => 21,
+        Field::Inverse => 22,
+        Field::LeftLabel => 23,
+        Field::RightLabel => 24,
+        Field::Column => 25,
+        Field::PictureRow => 26,
+        Field::Row => 27,
+        Field::NoRow => 28,
+        Field::Mark => 29,
+        Field::NoMark => 30,
+        Field::Nothing => 31,
+    }
+}
 
-const ROWS: usize = 5;
-
-// What a field holds: one number, or two, or a label's length and codes. What it does not use is 0.
-struct Value {
-    field: Field,
-    first: u8,
-    second: u8,
-    codes: [u8; LABEL],
+// The fields from a first to a last one: those that a frame sets.
+pub struct Fields {
+    pub first: Field,
+    pub last: Field,
 }
 
 // Words.
 
-// The words of a number, from 0: each has a line of the table. A number past the last one has none.
-fn say_entry(table: &[u8], n: u8) {
-    let mut line = 0;
-    let mut start = 0;
-    for i in 0..table.len() {
-        if table[i] != LINE_FEED {
-            continue;
-        }
-        if line == n as usize {
-            say(&table[start..i]);
-            return;
-        }
-        line += 1;
-        start = i + 1;
-    }
-}
+// Which words of a line: the name, what the number takes, and from here on those of the values.
+const NAME: usize = 0;
 
-// Where a field stands in the tables below.
-fn entry_of(field: Field) -> u8 {
-    match field {
-        Field::Mode => 0,
-        Field::IconS => 1,
-        Field::IconU => 2,
-        Field::IconF => 3,
-        Field::IconR => 4,
-        Field::IconP => 5,
-        Field::IconW => 6,
-        Field::Volume => 7,
-        Field::Mute => 8,
-        Field::Time1 => 9,
-        Field::Time2 => 10,
-        Field::Buzzer => 11,
-        Field::Duration => 12,
-        Field::Contrast => 13,
-        Field::Display => 14,
-        Field::Cursor => 15,
-        Field::Position => 16,
-        Field::LeftLabel => 17,
-        Field::RightLabel => 18,
-        Field::Hidden => 19,
-        Field::Backlight => 20,
-        Field::SecondsLeft => 21,
-        Field::Keypad => 22,
-        Field::Overlay => 23,
-        Field::Inverse => 24,
-        Field::Nothing => 25,
-    }
+const TAKES: usize = 1;
+
+const VALUES: usize = 2;
+
+// Some words of a line.
+fn say_cell(table: &[u8], n: usize, which: usize, number: u64) {
+    let line = entry(table, n, LINE_FEED);
+    let start = line.start;
+    let end = line.end;
+    say_entry(&table[start..end], which, number);
 }
 
 // An overlay and a mark are named with their value, since there may be none.
-fn say_name(field: Field) {
-    say_entry(
-        b"mode \n\
-        icon S \n\
-        icon U \n\
-        icon F \n\
-        icon R \n\
-        icon P \n\
-        icon W \n\
-        volume \n\
-        mute \n\
-        Time1 \n\
-        Time2 \n\
-        buzzer \n\
-        duration \n\
-        contrast \n\
-        display \n\
-        cursor \n\
-        position \n\
-        left label \n\
-        right label \n\
-        hidden \n\
-        backlight \n\
-        seconds left \n\
-        keypad flag \n",
-        entry_of(field),
+fn say_of(line: usize, which: usize, number: u64) {
+    say_cell(
+        b"mode |takes 0, 1, 5, 6, 10 or 11 to 18|#|\n\
+        ||no overlay|overlay #|\n\
+        position ||0,#|1,#|2,#|3,#|4,#|\n\
+        volume |takes 0 to 10|none|private #|handsfree #|\n\
+        hidden ||no|yes|\n\
+        mute |takes 0 or 1|off|on|\n\
+        Time1 |takes 4 to 50|#|\n\
+        Time2 |takes 0 or 4 to 50|#|\n\
+        backlight ||off|on|auto|\n\
+        seconds left ||#|\n\
+        duration |takes 1 to 255, and 0 is backlight off|#|\n\
+        keypad flag ||clear|set|\n\
+        display ||off|on|\n\
+        cursor ||not shown|shown|\n\
+        icon S |takes 0 or 1|#|\n\
+        icon U |takes 0, 1 or 255|#|\n\
+        icon F |takes 0 to 6|#|\n\
+        icon R |takes 0 or 1|#|\n\
+        icon P |takes 0 to 19|#|\n\
+        icon W |takes 0 to 3|#|\n\
+        buzzer |takes 0 to 255|#|\n\
+        contrast |takes 1 to 20|#|\n\
+        ||no inverse mark|inverse mark on row #|\n\
+        left label |\n\
+        right label |\n\
+        column |takes 0 to 15|\n\
+        picture row |takes 0 to 6|\n\
+        row |takes 0 to #|\n\
+        no row |can be named|\n\
+        inverse mark |takes 0 to #|\n\
+        inverse mark |takes only 0|\n",
+        line,
+        which,
+        number,
     );
 }
 
 // What the number of a field takes, said where one is passed over.
-pub fn say_takes(field: Field) {
-    say_name(field);
-    say_entry(
-        b"takes 0, 1, 5, 6, 10 or 11 to 18\n\
-        takes 0 or 1\n\
-        takes 0, 1 or 255\n\
-        takes 0 to 6\n\
-        takes 0 or 1\n\
-        takes 0 to 19\n\
-        takes 0 to 3\n\
-        takes 0 to 10\n\
-        takes 0 or 1\n\
-        takes 4 to 50\n\
-        takes 0 or 4 to 50\n\
-        takes 0 to 255\n\
-        takes 1 to 255, and 0 is backlight off\n\
-        takes 1 to 20\n",
-        entry_of(field),
-    );
+pub fn say_takes(field: Field, greatest: u64) {
+    let line = line_of(field);
+    say_of(line, NAME, 0);
+    say_of(line, TAKES, greatest);
 }
 
 // Values.
 
-// Which text row has the mark, counted from 1; 0 for none.
+// The settings as numbers, field after field. A field has two: which of its words is said, and the number that stands in them. A
+// label has its length and codes.
+pub type Sheet = [u8; SHEET];
+
+const SHEET: usize = 62;
+
+pub const MODE_AT: usize = 1;
+
+pub const ROW_AT: usize = 4;
+
+pub const COLUMN_AT: usize = 5;
+
+const LEFT_AT: usize = 46;
+
+const RIGHT_AT: usize = 54;
+
+const LABEL: usize = 8;
+
+const ROWS: usize = 5;
+
+// Which text row has the mark; past the last one if none has.
 fn marked(marks: [bool; ROWS]) -> u8 {
     for row in 0..ROWS {
         if marks[row] {
-            return row as u8 + 1;
+            return row as u8;
         }
     }
-    0
+    ROWS as u8
 }
 
-fn first_of(field: Field, p: Settings) -> u8 {
+// A label's length and codes.
+fn put_label(sheet: &mut Sheet, at: usize, label: Label)
+    requires { ⌜ at + 8 ≤ 62 ⌝ }
+{
+    let codes = label.codes;
+    sheet[at] = label.len;
+    for i in 0..LONGEST_LABEL {
+        let place = at + 1 + i;
+        sheet[place] = codes[i];
+    }
+}
+
+// All but the labels, whose places are still 0. The mark is on this row, and past the last one if there is none.
+fn numbers_but_labels(p: Settings, mark: u8) -> Sheet {
+    [
+        0,
+        p.screen.mode,
+        (0 < p.screen.overlay) as u8,
+        p.screen.overlay,
+        p.screen.row,
+        p.screen.column,
+        p.volume.which,
+        p.volume.level,
+        p.volume.hidden as u8,
+        0,
+        p.volume.mute as u8,
+        0,
+        0,
+        p.times.time1.0,
+        0,
+        p.times.time2.0,
+        p.backlight.mode,
+        0,
+        0,
+        p.backlight.left.0,
+        0,
+        p.backlight.duration.0,
+        p.backlight.keypad as u8,
+        0,
+        p.screen.display as u8,
+        0,
+        p.shown as u8,
+        0,
+        0,
+        p.icons.s,
+        0,
+        p.icons.u,
+        0,
+        p.icons.f,
+        0,
+        p.icons.r,
+        0,
+        p.icons.p,
+        0,
+        p.icons.w,
+        0,
+        p.buzzer.0,
+        0,
+        p.contrast,
+        (mark < ROWS as u8) as u8,
+        mark,
+        0,
+        0,
+        0,
+        0,
+        0,
+        0,
+        0,
+        0,
+        0,
+        0,
+        0,
+        0,
+        0,
+        0,
+        0,
+        0,
+    ]
+}
+
+pub fn sheet_of(s: Small) -> Sheet {
+    let p = s.settings;
     let marks = p.inverse;
-    match field {
-        Field::Mode => p.screen.mode,
-        Field::IconS => p.icons.s,
-        Field::IconU => p.icons.u,
-        Field::IconF => p.icons.f,
-        Field::IconR => p.icons.r,
-        Field::IconP => p.icons.p,
-        Field::IconW => p.icons.w,
-        Field::Volume => p.volume.which,
-        Field::Mute => p.volume.mute as u8,
-        Field::Time1 => p.times.time1.0,
-        Field::Time2 => p.times.time2.0,
-        Field::Buzzer => p.buzzer.0,
-        Field::Duration => p.backlight.duration.0,
-        Field::Contrast => p.contrast,
-        Field::Display => p.screen.display as u8,
-        Field::Cursor => p.shown as u8,
-        Field::Position => p.screen.row,
-        Field::LeftLabel => p.left.len,
-        Field::RightLabel => p.right.len,
-        Field::Hidden => p.volume.hidden as u8,
-        Field::Backlight => p.backlight.mode,
-        Field::SecondsLeft => p.backlight.left.0,
-        Field::Keypad => p.backlight.keypad as u8,
-        Field::Overlay => p.screen.overlay,
-        Field::Inverse => marked(marks),
-        Field::Nothing => 0,
-    }
-}
-
-fn second_of(field: Field, p: Settings) -> u8 {
-    match field {
-        Field::Position => p.screen.column,
-        Field::Volume => p.volume.level,
-        _ => 0,
-    }
-}
-
-fn codes_of(field: Field, p: Settings) -> [u8; LABEL] {
     let left = p.left;
     let right = p.right;
-    match field {
-        Field::LeftLabel => left.codes,
-        Field::RightLabel => right.codes,
-        _ => [0u8; LABEL],
+    let mut sheet = numbers_but_labels(p, marked(marks));
+    put_label(&mut sheet, LEFT_AT, left);
+    put_label(&mut sheet, RIGHT_AT, right);
+    sheet
+}
+
+// Where the numbers of a field stand.
+fn numbers_of(line: usize) -> Part
+    requires { ⌜ line < 25 ⌝ }
+    ensures { λ r. ⌜ (r .start + 2 ≤ r .end) × (r .end ≤ 62) ⌝ }
+{
+    if line < LEFT_LABEL {
+        return Part {
+            start: 2 * line,
+            end: 2 * line + 2,
+        };
+    }
+    let start = 2 * LEFT_LABEL + LABEL * (line - LEFT_LABEL);
+    Part {
+        start: start,
+        end: start + LABEL,
     }
 }
 
-fn value_of(field: Field, p: Settings) -> Value {
-    let codes = codes_of(field, p);
-    Value {
-        field: field,
-        first: first_of(field, p),
-        second: second_of(field, p),
-        codes: codes,
+// The first number is the label's length.
+fn say_label(sheet: &Sheet, start: usize, end: usize)
+    requires { ⌜ (start < end) × (end ≤ 62) ⌝ }
+{
+    let length = wide(sheet[start]) as usize;
+    say_words(OPENING);
+    for i in start + 1..end {
+        if i - start <= length {
+            let one = [sheet[i]];
+            say_codes(&one);
+        }
     }
+    say_words(CLOSING);
 }
 
-fn say_overlay(n: u8) {
-    if n == 0 {
-        say(b"no overlay");
+fn say_value(line: usize, sheet: &Sheet, numbers: Part)
+    requires { ⌜ (numbers .start + 2 ≤ numbers .end) × (numbers .end ≤ 62) ⌝ }
+{
+    let start = numbers.start;
+    if line < LEFT_LABEL {
+        let words = wide(sheet[start]) as usize;
+        say_of(line, VALUES + words, wide(sheet[start + 1]));
         return;
     }
-    say_count(b"overlay ", n as u64);
-}
-
-fn say_position(row: u8, column: u8) {
-    say_number(row as u64);
-    say_count(b",", column as u64);
-}
-
-fn say_volume(which: u8, level: u8) {
-    say_entry(b"none\nprivate \nhandsfree \n", which);
-    if 0 < which {
-        say_number(level as u64);
-    }
-}
-
-// Rows are counted from 0, as in a cursor frame.
-fn say_mark(marked: u8) {
-    if marked == 0 {
-        say(b"no inverse mark");
-        return;
-    }
-    say_count(b"inverse mark on row ", marked as u64 - 1);
-}
-
-fn say_label(codes: [u8; LABEL], n: u8) {
-    say(b"[");
-    say_codes(&codes, n as usize);
-    say(b"]");
-}
-
-fn say_value(v: Value) {
-    let field = v.field;
-    let codes = v.codes;
-    match field {
-        Field::Display => say_entry(b"off\non\n", v.first),
-        Field::Cursor => say_entry(b"not shown\nshown\n", v.first),
-        Field::Position => say_position(v.first, v.second),
-        Field::LeftLabel => say_label(codes, v.first),
-        Field::RightLabel => say_label(codes, v.first),
-        Field::Volume => say_volume(v.first, v.second),
-        Field::Hidden => say_entry(b"no\nyes\n", v.first),
-        Field::Mute => say_entry(b"off\non\n", v.first),
-        Field::Backlight => say_entry(b"off\non\nauto\n", v.first),
-        Field::Keypad => say_entry(b"clear\nset\n", v.first),
-        Field::Overlay => say_overlay(v.first),
-        Field::Inverse => say_mark(v.first),
-        _ => say_number(v.first as u64),
-    }
+    say_label(sheet, start, numbers.end);
 }
 
 // Changes.
 
-fn same_codes(a: [u8; LABEL], b: [u8; LABEL]) -> bool {
-    for i in 0..LABEL {
-        if a[i] != b[i] {
-            return false;
-        }
-    }
-    true
-}
-
-fn same_value(a: Value, b: Value) -> bool {
-    let codes = a.codes;
-    let others = b.codes;
-    (a.first == b.first) & (a.second == b.second) & same_codes(codes, others)
-}
-
-// A field's change, if it has changed; and whether anything has been said by then.
-fn say_change(before: Value, after: Value, said: bool) -> bool {
-    if same_value(before, after) {
+// A field with its value and, if it has changed, the value before; where only changes are wanted, nothing if it has not. Says whether
+// anything has been said by then.
+fn say_field(line: usize, was: &Sheet, is: &Sheet, only_changes: bool, said: bool) -> bool
+    requires { ⌜ line < 25 ⌝ }
+{
+    let numbers = numbers_of(line);
+    let changed = 0 < changes(was, is, numbers.start, numbers.end);
+    if only_changes & !changed {
         return said;
     }
     say_comma(said);
-    let field = after.field;
-    say_name(field);
-    say_value(before);
-    say(b" to ");
-    say_value(after);
+    say_of(line, NAME, 0);
+    if changed {
+        say_value(line, was, numbers);
+        say_words(TO);
+    }
+    say_value(line, is, numbers);
     true
 }
 
-// The changes of these fields, and whether anything has been said by then.
-pub fn say_changes(fields: Fields, before: Settings, after: Settings, said: bool) -> bool {
+pub fn say_fields(fields: Fields, was: &Sheet, is: &Sheet, only_changes: bool, said: bool) -> bool {
+    let first_field = fields.first;
+    let last_field = fields.last;
+    let first = line_of(first_field);
+    let last = line_of(last_field);
     let mut now = said;
-    for i in 0..MOST_FIELDS {
-        let field = fields[i];
-        now = say_change(value_of(field, before), value_of(field, after), now);
+    for line in 0..FIELDS {
+        if (first <= line) & (line <= last) {
+            now = say_field(line, was, is, only_changes, now);
+        }
     }
     now
-}
-
-// These fields, and the values that they have.
-pub fn say_values(fields: Fields, p: Settings) {
-    for i in 0..MOST_FIELDS {
-        let field = fields[i];
-        if let Field::Nothing = field {
-            return;
-        }
-        say_comma(0 < i);
-        say_name(field);
-        say_value(value_of(field, p));
-    }
 }

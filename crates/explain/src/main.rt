@@ -17,11 +17,10 @@ mod line;
 mod tally;
 mod telling;
 mod text;
+mod words;
 
 ghost use Prim.Native.Nat.{_+_, _≤_, _<_};
 ghost use lib.ListN.{length};
-use lists::CARRIAGE_RETURN;
-use lists::LINE_FEED;
 use parts::Kind;
 use parts::PartAt;
 use parts::part_at;
@@ -33,7 +32,8 @@ use tally::NOTHING_COUNTED;
 use tally::Tally;
 use tally::say_tally;
 use telling::Progress;
-use telling::tell_part;
+use telling::has_others;
+use telling::tell_front;
 
 const TEXT: usize = 104;
 
@@ -46,7 +46,14 @@ const KEPT: usize = 252;
 // Nothing says that the input ends, so its pieces are counted down.
 const MOST_PIECES: u64 = 0xFFFF_FFFF_FFFF_FFFF;
 
-// What came of the parts that a window has told, and how many bytes: those told, or those that the window holds of the next part.
+// The runs: text bytes that follow each other, and skipped ones; a frame belongs to none.
+const NO_RUN: u8 = 0;
+
+const TEXT_RUN: u8 = 1;
+
+const SKIPPED_RUN: u8 = 2;
+
+// What came of the parts that a window has told, and how many bytes these have.
 struct Told {
     progress: Progress,
     bytes: usize,
@@ -54,24 +61,25 @@ struct Told {
 
 // Parts.
 
-// Whether another byte of this kind stands at a place.
-fn goes_on(window: &[u8], at: usize, text: bool) -> bool {
-    let part = part_at(window, at);
-    let kind = part.kind;
+// Which run a part belongs to.
+fn run_of(kind: Kind) -> u8 {
     match kind {
-        Kind::Text => text,
-        Kind::Skipped => !text,
-        _ => false,
+        Kind::Text => TEXT_RUN,
+        Kind::Skipped => SKIPPED_RUN,
+        _ => NO_RUN,
     }
 }
 
-fn run_end(window: &[u8], from: usize, text: bool) -> usize
+// Where the bytes of a run end that begins before this place.
+fn run_end(window: &[u8], from: usize, run: u8) -> usize
     requires { ⌜ from ≤ length (now window) ⌝ }
     ensures { λ r. ⌜ (from ≤ r) × (r ≤ length (now (window .entry))) ⌝ }
 {
     let mut i = from;
     while i < window.len() {
-        if !goes_on(window, i, text) {
+        let part = part_at(window, i);
+        let kind = part.kind;
+        if run_of(kind) != run {
             return i;
         }
         i += 1;
@@ -79,100 +87,47 @@ fn run_end(window: &[u8], from: usize, text: bool) -> usize
     i
 }
 
-// Bytes of one kind that follow each other, the first of them from one place up to another.
-fn run_at(window: &[u8], kind: Kind, from: usize, to: usize, text: bool) -> PartAt
-    requires { ⌜ (from < to) × (to ≤ length (now window)) ⌝ }
-    ensures { λ r. ⌜ (from < r .end) × (r .end ≤ length (now (window .entry))) × (r .body ≤ r .«body_end») × (r .«body_end» ≤ r .end) ⌝ }
-{
-    let end = run_end(window, to, text);
-    PartAt {
-        kind: kind,
-        end: end,
-        body: from,
-        body_end: end,
-    }
-}
-
-// What stands at a place, where text bytes that follow each other are one thing, and skipped ones too. Its body is what is shown.
+// What stands at a place, where a run is one thing. Its body is what is shown.
 fn front_at(window: &[u8], at: usize) -> PartAt
     requires { ⌜ at < length (now window) ⌝ }
     ensures { λ r. ⌜ (at < r .end) × (r .end ≤ length (now (window .entry))) × (r .body ≤ r .«body_end») × (r .«body_end» ≤ r .end) ⌝ }
 {
     let part = part_at(window, at);
     let kind = part.kind;
-    let end = part.end;
-    match kind {
-        Kind::Text => run_at(window, kind, at, end, true),
-        Kind::Skipped => run_at(window, kind, at, end, false),
-        _ => part,
+    let run = run_of(kind);
+    if run == NO_RUN {
+        return part;
+    }
+    let end = run_end(window, part.end, run);
+    PartAt {
+        kind: kind,
+        end: end,
+        body: at,
+        body_end: end,
     }
 }
 
-// Whether bytes that are still to come may belong to what ends at the window's end.
-fn may_go_on(kind: Kind) -> bool {
-    match kind {
-        Kind::None => false,
-        Kind::Text => true,
-        Kind::Skipped => true,
-        Kind::Closed => false,
-        Kind::Abandoned => false,
-        Kind::Tail => true,
+// Whether bytes that are still to come may belong to a part of a window of this length.
+fn may_go_on(part: PartAt, length: usize, ended: bool) -> bool {
+    let kind = part.kind;
+    if let Kind::Closed = kind {
+        return false;
     }
-}
-
-// Whether any of these codes is no line end.
-fn has_others(codes: &[u8]) -> bool {
-    for i in 0..codes.len() {
-        if (codes[i] != CARRIAGE_RETURN) & (codes[i] != LINE_FEED) {
-            return true;
-        }
-    }
-    false
+    !ended & (part.end == length)
 }
 
 // The window.
 
-// Goes on behind a part of which so many bytes were held.
-fn behind(mut tally: Tally, held: u64) -> Tally {
-    let length = more(held, tally.dropped);
-    tally.place = more(tally.place, length);
-    tally.dropped = 0;
-    tally.others = false;
-    tally
-}
-
-// Tells a part, whole and its body, and goes on behind it.
-fn tell_front<'a>(
-    before: Progress,
-    text: &mut [u8; TEXT],
-    picture: &mut [u8; PICTURE],
-    kind: Kind,
-    whole: &'a [u8],
-    body: &'a [u8],
-    all: bool,
-) -> Progress {
-    let wanted = all | before.tally.others | has_others(body);
-    let told = tell_part(before, text, picture, kind, whole, body, wanted);
-    let small = told.small;
-    let tally = told.tally;
-    Progress {
-        small: small,
-        tally: behind(tally, whole.len() as u64),
-    }
-}
-
 // Of a part that has not ended no more is kept than is needed; the rest is counted.
-fn count_rest(before: Progress, part: &[u8]) -> Progress {
-    let small = before.small;
-    let mut tally = before.tally;
-    if KEPT < part.len() {
-        tally.dropped = more(tally.dropped, (part.len() - KEPT) as u64);
-        tally.others = tally.others | has_others(&part[KEPT..]);
+fn count_rest(mut tally: Tally, window: &[u8], at: usize) -> Tally
+    requires { ⌜ at ≤ length (now window) ⌝ }
+{
+    if KEPT < window.len() - at {
+        let rest = at + KEPT;
+        tally.dropped = more(tally.dropped, (window.len() - rest) as u64);
+        tally.others = tally.others | has_others(&window[rest..]);
     }
-    Progress {
-        small: small,
-        tally: tally,
-    }
+    tally
 }
 
 // Tells all parts that have ended by the window's end, and where the stream has ended too what has not.
@@ -190,26 +145,19 @@ fn tell_window(
     let mut at = 0;
     while at < window.len() {
         let front = front_at(window, at);
-        let kind = front.kind;
-        let end = front.end;
-        let body = front.body;
-        let body_end = front.body_end;
-        if !ended & (end == window.len()) & may_go_on(kind) {
+        if may_go_on(front, window.len(), ended) {
             break;
         }
-        now = tell_front(
-            now,
-            text,
-            picture,
-            kind,
-            &window[at..end],
-            &window[body..body_end],
-            all,
-        );
-        at = end;
+        now = tell_front(now, text, picture, window, at, front, all);
+        at = front.end;
     }
+    let small = now.small;
+    let progress = Progress {
+        small: small,
+        tally: count_rest(now.tally, window, at),
+    };
     Told {
-        progress: count_rest(now, &window[at..]),
+        progress: progress,
         bytes: at,
     }
 }
@@ -231,25 +179,16 @@ fn keep(window: &mut [u8], from: usize, to: usize) -> usize
     n
 }
 
-// Tells the parts that end in the window's first bytes, and keeps what is needed of the one that does not.
-fn tell_and_keep(
-    before: Progress,
-    text: &mut [u8; TEXT],
-    picture: &mut [u8; PICTURE],
-    window: &mut [u8],
-    end: usize,
-    ended: bool,
-    all: bool,
-) -> Told
-    requires { ⌜ end ≤ length (now window) ⌝ }
-    ensures { λ r. ⌜ r .bytes ≤ 252 ⌝ }
-{
-    let told = tell_window(before, text, picture, &window[..end], ended, all);
-    let used = told.bytes;
-    let progress = told.progress;
-    Told {
-        progress: progress,
-        bytes: keep(window, used, end),
+// What there is before the first part.
+fn power_on(text: &mut [u8; TEXT], picture: &mut [u8; PICTURE]) -> Progress {
+    let start = Record::power_on();
+    let blank_text = start.text;
+    let blank_picture = start.picture;
+    *text = blank_text;
+    *picture = blank_picture;
+    Progress {
+        small: record::small_of(start),
+        tally: NOTHING_COUNTED,
     }
 }
 
@@ -264,13 +203,9 @@ fn refill(input: Input, window: &mut [u8], held: usize) -> Piece
 
 // Of an input that fails nothing is summed up: what came before is not the stream.
 fn explain(input: Input, all: bool) {
-    let start = Record::power_on();
-    let mut text = start.text;
-    let mut picture = start.picture;
-    let mut now = Progress {
-        small: record::small_of(start),
-        tally: NOTHING_COUNTED,
-    };
+    let mut text = [0u8; TEXT];
+    let mut picture = [0u8; PICTURE];
+    let mut now = power_on(&mut text, &mut picture);
     let mut window = io::buffer();
     let mut held = 0;
     let mut left = MOST_PIECES;
@@ -280,17 +215,11 @@ fn explain(input: Input, all: bool) {
         if read.failed {
             return;
         }
-        let kept = tell_and_keep(
-            now,
-            &mut text,
-            &mut picture,
-            &mut window,
-            held + n,
-            n == 0,
-            all,
-        );
-        now = kept.progress;
-        held = kept.bytes;
+        let end = held + n;
+        let told = tell_window(now, &mut text, &mut picture, &window[..end], n == 0, all);
+        let used = told.bytes;
+        now = told.progress;
+        held = keep(&mut window, used, end);
         if n == 0 {
             break;
         }
@@ -299,19 +228,15 @@ fn explain(input: Input, all: bool) {
     say_tally(now.tally);
 }
 
-fn accepted() -> bool {
-    program::accepts(
+fn main() {
+    if program::accepts(
         b"explain",
         b"usage: ./run explain [--all] [FILE]\n\
         Reads a stream from FILE, or from standard input without one, and says of each part what it did.\n\
         --all gives line ends outside of frames a line too.\n",
         b"--all\n",
         true,
-    )
-}
-
-fn main() {
-    if accepted() {
+    ) {
         let input = program::open_input(b"explain");
         if 0 <= input.descriptor {
             explain(input, program::is_given(b"--all\n"));

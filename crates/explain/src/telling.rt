@@ -1,15 +1,39 @@
 // What a part of the stream did: it is done to the record, told in a line, and counted.
+ghost use Prim.Native.Nat.{_≤_, _<_};
+ghost use lib.ListN.{length};
+use crate::commands::field_out;
 use crate::commands::say_range;
 use crate::doings::say_obeyed;
+use crate::fields::Field;
+use crate::fields::Sheet;
+use crate::fields::say_takes;
+use crate::fields::sheet_of;
 use crate::line::ROOM;
 use crate::line::begin_line;
-use crate::line::say;
-use crate::line::say_count;
+use crate::line::changes;
 use crate::line::say_if_overlong;
+use crate::tally::ABANDONED;
+use crate::tally::BAD;
+use crate::tally::OBEYED;
+use crate::tally::OPEN;
+use crate::tally::PASSED_OVER;
+use crate::tally::SKIPPED;
+use crate::tally::STORED;
 use crate::tally::Tally;
+use crate::tally::counted;
+use crate::tally::length_of;
 use crate::text::say_stored;
+use crate::words::FATES;
+use crate::words::FATES_ENDS;
+use crate::words::LINE_END;
+use crate::words::NOTHING_CHANGED;
+use crate::words::say_count;
+use crate::words::say_words;
 use command::Reading;
+use lists::CARRIAGE_RETURN;
+use lists::LINE_FEED;
 use parts::Kind;
+use parts::PartAt;
 use record::Small;
 use std::num::wrapping_add_u64 as more;
 use stream::FedLent;
@@ -27,204 +51,209 @@ pub struct Progress {
     pub tally: Tally,
 }
 
-// Hands a part to the handset. Behind a whole part no frame is open.
+// Parts that change nothing.
+
+fn say_passed_over(mode: u8, frame: &[u8]) {
+    let verdict = verdict::judge(mode, frame);
+    let Verdict::PassedOver(out) = verdict else {
+        return;
+    };
+    match command::read_command(frame) {
+        Reading::Plain(c) => say_range(field_out(c, out), mode),
+        // A label has no number, so it is a picture.
+        _ => say_takes(Field::PictureRow, 0),
+    }
+}
+
+// An abandoned frame is answered at the ESC that stands behind it.
+fn say_undone(fate: usize, place: u64, length: u64)
+    requires { ⌜ fate < 7 ⌝ }
+{
+    say_count(FATES + fate, more(more(place, 1), length));
+    if (fate == ABANDONED) | (fate == OPEN) | (fate == BAD) {
+        say_if_overlong(length);
+    }
+    say_words(FATES_ENDS + fate);
+}
+
+// Says what stands at a place and, of a part that changes nothing, what became of it.
+fn say_part(fate: usize, place: u64, length: u64, mode: u8, body: &[u8])
+    requires { ⌜ fate < 7 ⌝ }
+{
+    begin_line(place, fate, body);
+    if (fate == STORED) | (fate == OBEYED) {
+        return;
+    }
+    say_undone(fate, place, length);
+    if fate == PASSED_OVER {
+        say_passed_over(mode, body);
+    }
+    say_words(LINE_END);
+}
+
+// Whether any of these codes is no line end.
+pub fn has_others(codes: &[u8]) -> bool {
+    for i in 0..codes.len() {
+        if (codes[i] != CARRIAGE_RETURN) & (codes[i] != LINE_FEED) {
+            return true;
+        }
+    }
+    false
+}
+
+// Says what stands at a place, and what becomes of it. Line ends alone have no line, unless all are to have one.
+fn say_front(window: &[u8], front: PartAt, mode: u8, tally: Tally, all: bool) -> usize
+    requires { ⌜ (front .body ≤ front .«body_end») × (front .«body_end» ≤ length (now window)) ⌝ }
+{
+    let start = front.body;
+    let end = front.body_end;
+    let kind = front.kind;
+    let body = &window[start..end];
+    let fate = fate_of(kind, mode, body);
+    if all | tally.others | (fate != SKIPPED) | has_others(body) {
+        say_part(
+            fate,
+            tally.place,
+            length_of(front, tally.dropped),
+            mode,
+            body,
+        );
+    }
+    fate
+}
+
+// Parts that change the record.
+
+// Where the bytes end that are handed to the handset: of a part that changes nothing there are none.
+fn fed_end(fate: usize, start: usize, end: usize) -> usize
+    requires { ⌜ start ≤ end ⌝ }
+    ensures { λ r. ⌜ (start ≤ r) × (r ≤ end) ⌝ }
+{
+    if (fate == STORED) | (fate == OBEYED) {
+        return end;
+    }
+    start
+}
+
+// Hands bytes to the handset. Behind a whole part no frame is open.
 fn feed(
     small: Small,
     text: &mut [u8; TEXT],
     picture: &mut [u8; PICTURE],
-    part: &[u8],
+    bytes: &[u8],
     answers: &mut [u8; ROOM],
 ) -> FedLent {
     let mut frame = [0u8; FRAME];
-    stream::feed_lent(small, text, picture, &mut frame, part, answers)
+    stream::feed_lent(small, text, picture, &mut frame, bytes, answers)
 }
 
-// Text.
-
-fn tell_text(
-    before: Progress,
-    text: &mut [u8; TEXT],
-    picture: &mut [u8; PICTURE],
-    codes: &[u8],
-    length: u64,
-) -> Progress {
-    let mut answers = [0u8; ROOM];
-    let small = before.small;
-    let fed = feed(small, text, picture, codes, &mut answers);
-    let after = fed.small;
-    let mut tally = before.tally;
-    let settings = small.settings;
-    let screen = settings.screen;
-    begin_line(tally.place, b"text", codes, length);
-    say_stored(screen, after.settings.screen.column, length);
-    say(b"\n");
-    tally.text = more(tally.text, length);
-    Progress {
-        small: after,
-        tally: tally,
-    }
-}
-
-// Parts that change nothing.
-
-// Line ends alone have no line, unless one is wanted.
-fn tell_skipped(mut tally: Tally, codes: &[u8], length: u64, wanted: bool) -> Tally {
-    if wanted {
-        begin_line(tally.place, b"skipped", codes, length);
-        say(b"nothing done\n");
-    }
-    tally.skipped = more(tally.skipped, length);
-    tally
-}
-
-// It is answered at the ESC that stands behind it.
-fn tell_abandoned(mut tally: Tally, frame: &[u8], length: u64) -> Tally {
-    begin_line(tally.place, b"frame", frame, length);
-    say_count(
-        b"abandoned by the ESC at ",
-        more(more(tally.place, 1), length),
-    );
-    say_if_overlong(length);
-    say(b": answered ?\n");
-    tally.abandoned = more(tally.abandoned, 1);
-    tally.answers = more(tally.answers, 1);
-    tally
-}
-
-fn tell_tail(mut tally: Tally, frame: &[u8], length: u64) -> Tally {
-    begin_line(tally.place, b"tail", frame, length);
-    say(b"still open");
-    say_if_overlong(length);
-    say(b": nothing done yet\n");
-    tally.tail = true;
-    tally.tail_place = tally.place;
-    tally
-}
-
-// Closed frames.
-
-// Neither a bad frame nor one that is passed over changes anything, and the mark is all that a bad one is answered.
-
-fn tell_bad(mut tally: Tally, length: u64) -> Tally {
-    say(b"bad");
-    say_if_overlong(length);
-    say(b": answered ?\n");
-    tally.bad = more(tally.bad, 1);
-    tally.answers = more(tally.answers, 1);
-    tally
-}
-
-fn tell_passed_over(mut tally: Tally, frame: &[u8], out: u16, mode: u8) -> Tally {
-    say(b"passed over: ");
-    match command::read_command(frame) {
-        Reading::Plain(c) => say_range(c, out, mode),
-        // A label has no number, so it is a picture.
-        _ => say(b"picture row takes 0 to 6"),
-    }
-    say(b"\n");
-    tally.passed_over = more(tally.passed_over, 1);
-    tally
-}
-
-fn obeyed(mut tally: Tally, written: usize) -> Tally {
-    tally.obeyed = more(tally.obeyed, 1);
-    if 0 < written {
-        tally.answers = more(tally.answers, 1);
-    }
-    tally
-}
-
-// How many columns of the picture have changed.
 fn changed_columns(before: &[u8; PICTURE], after: &[u8; PICTURE]) -> u64 {
-    let mut n = 0;
-    for i in 0..PICTURE {
-        if before[i] == after[i] {
-            continue;
-        }
-        n += 1;
-    }
-    n
+    changes(before, after, 0, PICTURE)
 }
 
-fn tell_obeyed<'a>(
+// What a part changed.
+fn say_done(
+    fate: usize,
+    window: &[u8],
+    front: PartAt,
+    dropped: u64,
+    was: &Sheet,
+    is: &Sheet,
+    before: &[u8; TEXT],
+    after: &[u8; TEXT],
+    columns: u64,
+    answers: &[u8; ROOM],
+    written: usize,
+)
+    requires { ⌜ (front .body ≤ front .«body_end») × (front .«body_end» ≤ length (now window)) ⌝ }
+{
+    if fate == STORED {
+        say_stored(was, is, length_of(front, dropped));
+        say_words(LINE_END);
+    }
+    if fate == OBEYED {
+        let start = front.body;
+        let end = front.body_end;
+        let done = say_obeyed(
+            &window[start..end],
+            was,
+            is,
+            before,
+            after,
+            columns,
+            answers,
+            written,
+        );
+        if !done {
+            say_words(NOTHING_CHANGED);
+        }
+        say_words(LINE_END);
+    }
+}
+
+// Any part.
+
+fn judged(mode: u8, frame: &[u8]) -> usize
+    ensures { λ r. ⌜ r < 7 ⌝ }
+{
+    match verdict::judge(mode, frame) {
+        Verdict::Bad => BAD,
+        Verdict::PassedOver(_) => PASSED_OVER,
+        Verdict::Obeyed => OBEYED,
+    }
+}
+
+// What becomes of a part in a text mode, by its body.
+fn fate_of(kind: Kind, mode: u8, body: &[u8]) -> usize
+    ensures { λ r. ⌜ r < 7 ⌝ }
+{
+    match kind {
+        Kind::Text => STORED,
+        Kind::Skipped => SKIPPED,
+        Kind::Closed => judged(mode, body),
+        Kind::Abandoned => ABANDONED,
+        _ => OPEN,
+    }
+}
+
+// Does, tells and counts the part that begins at a place of the window.
+pub fn tell_front(
     before: Progress,
     text: &mut [u8; TEXT],
     picture: &mut [u8; PICTURE],
-    whole: &'a [u8],
-    frame: &'a [u8],
-) -> Progress {
+    window: &[u8],
+    at: usize,
+    front: PartAt,
+    all: bool,
+) -> Progress
+    requires { ⌜ (at ≤ front .end) × (front .end ≤ length (now window)) × (front .body ≤ front .«body_end») × (front .«body_end» ≤ front .end) ⌝ }
+{
     let mut answers = [0u8; ROOM];
     let old_text = *text;
     let old_picture = *picture;
-    let small = before.small;
-    let old = small.settings;
-    let fed = feed(small, text, picture, whole, &mut answers);
-    let written = fed.written;
-    let after = fed.small;
-    let new = after.settings;
+    let mode = before.small.settings.screen.mode;
+    let fate = say_front(window, front, mode, before.tally, all);
+    let was = sheet_of(before.small);
+    let end = fed_end(fate, at, front.end);
+    let fed = feed(before.small, text, picture, &window[at..end], &mut answers);
+    let is = sheet_of(fed.small);
     let columns = changed_columns(&old_picture, picture);
-    say_obeyed(frame, old, new, &old_text, text, columns, &answers, written);
-    say(b"\n");
+    say_done(
+        fate,
+        window,
+        front,
+        before.tally.dropped,
+        &was,
+        &is,
+        &old_text,
+        text,
+        columns,
+        &answers,
+        fed.written,
+    );
+    let after = fed.small;
     Progress {
         small: after,
-        tally: obeyed(before.tally, written),
-    }
-}
-
-// A closed frame, whole and without its ESC and CR.
-fn tell_closed<'a>(
-    before: Progress,
-    text: &mut [u8; TEXT],
-    picture: &mut [u8; PICTURE],
-    whole: &'a [u8],
-    frame: &'a [u8],
-    length: u64,
-) -> Progress {
-    let small = before.small;
-    let tally = before.tally;
-    let mode = small.settings.screen.mode;
-    begin_line(tally.place, b"frame", frame, length);
-    match verdict::judge(mode, frame) {
-        Verdict::Bad => Progress {
-            small: small,
-            tally: tell_bad(tally, length),
-        },
-        Verdict::PassedOver(out) => Progress {
-            small: small,
-            tally: tell_passed_over(tally, frame, out, mode),
-        },
-        Verdict::Obeyed => tell_obeyed(before, text, picture, whole, frame),
-    }
-}
-
-// Any part, whole and its body. A line is wanted of skipped bytes where they are not line ends alone.
-pub fn tell_part<'a>(
-    before: Progress,
-    text: &mut [u8; TEXT],
-    picture: &mut [u8; PICTURE],
-    kind: Kind,
-    whole: &'a [u8],
-    body: &'a [u8],
-    wanted: bool,
-) -> Progress {
-    let small = before.small;
-    let tally = before.tally;
-    let length = more(body.len() as u64, tally.dropped);
-    match kind {
-        Kind::Text => tell_text(before, text, picture, body, length),
-        Kind::Closed => tell_closed(before, text, picture, whole, body, length),
-        Kind::Skipped => Progress {
-            small: small,
-            tally: tell_skipped(tally, body, length, wanted),
-        },
-        Kind::Abandoned => Progress {
-            small: small,
-            tally: tell_abandoned(tally, body, length),
-        },
-        Kind::Tail => Progress {
-            small: small,
-            tally: tell_tail(tally, body, length),
-        },
-        Kind::None => before,
+        tally: counted(before.tally, fate, at, front, fed.written),
     }
 }

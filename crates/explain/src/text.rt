@@ -1,11 +1,18 @@
 // What became of the text: codes that were stored in a line, and lines that were cleared.
-use crate::line::say;
+ghost use Prim.Native.Nat.{_≤_};
+use crate::fields::COLUMN_AT;
+use crate::fields::MODE_AT;
+use crate::fields::ROW_AT;
+use crate::fields::Sheet;
+use crate::line::changes;
 use crate::line::say_columns;
 use crate::line::say_comma;
-use crate::line::say_count;
 use crate::line::say_number;
+use crate::line::wide;
+use crate::words;
+use crate::words::say_count;
+use crate::words::say_words;
 use record::LARGE;
-use record::Screen;
 
 // The text rows are lines 0 to 4 and, behind them, the large line.
 const LARGE_LINE: u8 = 5;
@@ -14,25 +21,22 @@ const LINES: u8 = 6;
 
 const ROW: usize = 16;
 
-// Where the large line begins, and where the text ends.
-const LARGE_START: usize = 80;
-
 const TEXT: usize = 104;
 
 // Which line the cursor stands in.
-fn line_of(s: Screen) -> u8 {
-    if s.mode == LARGE {
+fn line_of(s: &Sheet) -> u8 {
+    if s[MODE_AT] == LARGE {
         return LARGE_LINE;
     }
-    s.row
+    s[ROW_AT]
 }
 
 fn say_line(line: u8) {
     if line == LARGE_LINE {
-        say(b"large line");
+        say_words(words::LARGE_LINE);
         return;
     }
-    say_count(b"row ", line as u64);
+    say_count(words::ROW, line as u64);
 }
 
 // Stored codes.
@@ -40,46 +44,47 @@ fn say_line(line: u8) {
 fn say_dropped(n: u64) {
     say_number(n);
     if n == 1 {
-        say(b" code dropped");
+        say_words(words::CODE_DROPPED);
         return;
     }
-    say(b" codes dropped");
+    say_words(words::CODES_DROPPED);
 }
 
-// So many codes, which began at the cursor and ended before a column: those that found no place were dropped.
-pub fn say_stored(s: Screen, end: u8, length: u64) {
-    say_line(line_of(s));
-    if end <= s.column {
-        say(b" is full: ");
+// Of so many codes, which began at the cursor and ended before a column, those that found no place were dropped.
+pub fn say_stored(was: &Sheet, is: &Sheet, length: u64) {
+    let column = wide(was[COLUMN_AT]);
+    let end = wide(is[COLUMN_AT]);
+    say_line(line_of(was));
+    if end <= column {
+        say_words(words::IS_FULL);
+        say_words(words::COLON);
         say_dropped(length);
         return;
     }
-    say(b", ");
-    say_columns(s.column as u64, end as u64 - 1);
-    let stored = (end - s.column) as u64;
+    say_words(words::COMMA);
+    say_columns(column, end - 1);
+    let stored = end - column;
     if stored < length {
-        say(b", ");
+        say_words(words::COMMA);
         say_dropped(length - stored);
     }
 }
 
 // Cleared lines.
 
-// Which line a place of the text belongs to.
-fn line_at(place: usize) -> u8 {
-    if LARGE_START <= place {
-        return LARGE_LINE;
+// Where the codes of a line end: the large line has the rest.
+fn line_end(line: u8) -> usize
+    ensures { λ r. ⌜ r ≤ 104 ⌝ }
+{
+    if line < LARGE_LINE {
+        return (line as usize + 1) * ROW;
     }
-    (place / ROW) as u8
+    TEXT
 }
 
+// Whether a line has changed.
 fn line_differs(before: &[u8; TEXT], after: &[u8; TEXT], line: u8) -> bool {
-    for i in 0..TEXT {
-        if (line_at(i) == line) & (before[i] != after[i]) {
-            return true;
-        }
-    }
-    false
+    0 < changes(before, after, line as usize * ROW, line_end(line))
 }
 
 // The lines that have changed, and whether there are any.
@@ -89,7 +94,7 @@ pub fn say_cleared_lines(before: &[u8; TEXT], after: &[u8; TEXT]) -> bool {
         if line_differs(before, after, line) {
             say_comma(said);
             say_line(line);
-            say(b" cleared");
+            say_words(words::CLEARED);
             said = true;
         }
     }
@@ -97,16 +102,16 @@ pub fn say_cleared_lines(before: &[u8; TEXT], after: &[u8; TEXT]) -> bool {
 }
 
 // The cursor's line, from the cursor on; and whether that changed it. At the line's end nothing is left to clear.
-pub fn say_cleared_line(before: &[u8; TEXT], after: &[u8; TEXT], s: Screen) -> bool {
-    let line = line_of(s);
-    say_line(line);
-    if record::row_end(s.mode) <= s.column {
-        say(b" is full");
+pub fn say_cleared_line(before: &[u8; TEXT], after: &[u8; TEXT], s: &Sheet) -> bool {
+    let column = wide(s[COLUMN_AT]);
+    say_line(line_of(s));
+    if wide(record::row_end(s[MODE_AT])) <= column {
+        say_words(words::IS_FULL);
         return false;
     }
-    say(b" cleared");
-    if 0 < s.column {
-        say_count(b" from column ", s.column as u64);
+    say_words(words::CLEARED);
+    if 0 < column {
+        say_count(words::FROM_COLUMN, column);
     }
-    line_differs(before, after, line)
+    0 < changes(before, after, 0, TEXT)
 }

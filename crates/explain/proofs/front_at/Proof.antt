@@ -3,6 +3,7 @@ use Prim.Native.Nat.{ℕ, _≤_, _<_}
 use mathlib.Core.Path.{_≡_}
 use mathlib.Core.List.{List}
 use lib.ListN.{length}
+use native.Mathlib.Omega.{arith}
 use borrow.Author.Needs.{needs}
 use Rattle.parts.specs.declared.PartAt.{PartAt}
 use Rattle.parts.specs.Parts.{partAt}
@@ -18,11 +19,11 @@ lying bytes place p e before =
 
 pub front-at-spec : {M : Type 1} → statement M
 front-at-spec = tie.close (tie.spec
-    (λ c κs. search needs) (λ c. search needs)
-    (λ c κs. let l = lying (c .before .before .before .before .args .window .now) (c .before .before .before .before .args .at) (c .before .before .part-at .result) (c .before .before .part-at .ensures) (c .before .before .before .before .pre) in
-    (l .0, l .1))
-    (λ c. search needs)
-    (λ c κs. let l = lying (c .before .before .before .before .args .window .now) (c .before .before .before .before .args .at) (c .before .before .part-at .result) (c .before .before .part-at .ensures) (c .before .before .before .before .pre) in
-    (l .0, l .1))
-    (λ c. search needs) (λ c. search needs)
-    (λ c. lying (c .before .before .before .args .window .now) (c .before .before .before .args .at) (c .before .part-at .result) (c .before .part-at .ensures) (c .before .before .before .pre)))
+    (λ c κs. search needs) (λ c κs. search needs)
+    (λ c. let start = c .before .before .before .before in
+    lying (start .args .window .now) (start .args .at) (c .before .before .part-at .result) (c .before .before .part-at .ensures) (start .pre))
+    (λ c κs. let start = c .before .before .before .before in
+    lying (start .args .window .now) (start .args .at) (c .before .before .part-at .result) (c .before .before .part-at .ensures) (start .pre) .1)
+    (λ c. let start = c .before .before .before .before .before in
+    let l = lying (start .args .window .now) (start .args .at) (c .before .before .before .part-at .result) (c .before .before .before .part-at .ensures) (start .pre) in
+    (omega (arith, l .0, c .run-end .ensures .0), c .run-end .ensures .1, omega (arith, l .0, c .run-end .ensures .0), omega arith)))

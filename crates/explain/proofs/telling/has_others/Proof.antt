@@ -2,8 +2,8 @@
 use borrow.Author.Needs.{needs}
 use Prim.Native.Nat.{_-_, _≤_}
 use lib.ListN.{length}
-use Rattle.explain.proofs.has_others.Statement.{statement}
-use Rattle.explain.proofs.has_others.Tie as tie
+use Rattle.explain.proofs.telling.has_others.Statement.{statement}
+use Rattle.explain.proofs.telling.has_others.Tie as tie
 
 abbrev Inv-loop : tie.InvT-loop
 Inv-loop codes i₀ i-end i = i ≤ length codes
