@@ -72,6 +72,7 @@ for name in $names; do
     case " $readers " in *" $name "*) file=' [FILE]' ;; esac
     [ $name != show_screen ] || file=" [--pause]$file"
     [ $name != explain ] || file=" [--all]$file"
+    [ $name != walk_frame ] || file=' [--table] [FRAME]'
     ends "./run $name --help has status 0 and complains of nothing" 0 '' ./run $name --help
     head -n 1 "$work/out" | says "./run $name --help begins with its usage" "usage: ./run $name$file"
     program $name --help </dev/null | same "./run $name --help is what the program itself says" "$work/out"
@@ -330,6 +331,28 @@ for counted in examples/*.stream; do
     marks=$(program list_screen "$counted" | head -n 1)
     [ "${marks#REPLIES }" -le "${room#ROOM }" ] && echo within || echo "$marks $room"
 done | sort -u | says "count_room: no example is answered more often" within
+
+# walk_frame: the table of the rules, and the walk against the verdict
+program walk_frame --table >"$work/table"
+sed -n '/^States; a frame may end/,/^```/p' docs/RULES.md | grep -v '^```' | same "walk_frame --table: the table as docs/RULES.md has it" "$work/table"
+program walk_frame '[3;15H' | tail -n 2 | says "walk_frame: a good frame" 'H  J  W  the end
+good: a frame may end here'
+program walk_frame IT1 | tail -n 4 | says "walk_frame: a frame that ends too soon" "bad, it ends too soon: behind 'IT1' could have stood:
+  0
+  1 to 9
+  ;"
+program walk_frame | tail -n 3 | says "walk_frame: the empty frame" '  I
+  &
+  ['
+program walk_frame "$(printf 'I\310')" | sed -n 3p | says "walk_frame: a code that is no ASCII is a dot" '.  @  @  refused'
+for other in IK1Keep IK2 'Gr0,00z'; do
+    program walk_frame "$other" | says "walk_frame: $other is no frame of the table" 'no frame of the table: IK1 and IK2 open a label, Gr opens a picture'
+done
+for frame in IDD IDE ID ID0 ID999 ID1000 ID01 '&C' '&C0' '&' '[0;0H' '[0;0' '[1;2;3H' '[K' '[KK' IK IK0 IK3 'IT4;0' 'IT4;' IT IA IA0 IA00 IH IH0 IEe IEr IEx IE IE25 '&V' '&#' '&##' Q I II7 IZ5 'IS 1'; do
+    walked=$(program walk_frame "$frame" | sed -n 's/^\(good\|bad\).*/\1/p')
+    told=$(printf '\e%s\r' "$frame" | program explain | head -n 1 | grep -q ' bad: ' && echo bad || echo good)
+    echo "$walked" | says "walk_frame: $frame, as explain has it" "$told"
+done
 
 # check_choice: the examples, and each rule in words
 cat >"$work/judged" <<'LINES'

@@ -6,7 +6,11 @@ use Rattle.lists.specs.Codes.{ascii, escape, carriageReturn}
 use Rattle.lists.specs.Padded.{padded}
 use Rattle.numeral.specs.Numeral.{digitOf}
 use Rattle.picture.specs.Reading.{hexOf, timesOf, items, columnsOf}
-use Rattle.command.specs.Reading.{twoNumbers, withNumber, numberFrame, displayOf, lightOf, isText, labelRead, contrastOf, hookOf, afterI, cursorSign, positionOf, afterBracket, readOf, opensPicture, rowAndData, drawnRow, pictureOf, orderOf}
+use Rattle.frame_table.specs.Numbers.{numbersAfter}
+use Rattle.frame_table.specs.Reader as reader
+use Rattle.command.specs.Table.{classes, nextStates}
+use Rattle.command.specs.Pick.{withNumber, displayOf, lightOf, contrastOf, afterI, cursorSign, afterBracket, commandOf}
+use Rattle.command.specs.Reading.{isText, labelRead, readBy, readOf, opensPicture, rowAndData, drawnRow, pictureOf, orderOf}
 use Rattle.parting.specs.Cut.{cut}
 use Rattle.choice.specs.declared.Choice.{Choice}
 use Rattle.choice.specs.declared.Rule.the-variants.{None, NoScreen, LabelMissing, QuestionMark, FrameOpen}
@@ -76,5 +80,5 @@ table =
     ∷ []
 
 pub cases : map (λ (c : Choice × Choice). c .0) table ≡ map (λ (c : Choice × Choice). c .1) table
-unfolding digitOf padded hexOf timesOf items columnsOf twoNumbers withNumber numberFrame displayOf lightOf isText labelRead contrastOf hookOf afterI cursorSign positionOf afterBracket readOf opensPicture rowAndData drawnRow pictureOf orderOf cut judgedFrom choiceOf
+unfolding digitOf padded hexOf timesOf items columnsOf numbersAfter reader.readBy classes nextStates withNumber displayOf lightOf contrastOf afterI cursorSign afterBracket commandOf isText labelRead readBy readOf opensPicture rowAndData drawnRow pictureOf orderOf cut judgedFrom choiceOf
 cases = refl

@@ -1,95 +1,51 @@
--- What the definitions say of a slice by its length, its elements and its parts. Assumes nothing.
-use Prim.Native.Nat.{ℕ, suc, _<_, _≤_, _-_, _+_}
+-- What the definitions say of a slice by its length and its parts. Assumes nothing.
+use Prim.Native.Nat.{ℕ, _-_, _<_, _≤_}
 use Prim.Native.Char.{code}
-use native.Mathlib.Numerals.{add-one}
 use native.Mathlib.Nat.{le-refl}
 use native.Mathlib.Omega.{arith}
+use mathlib.Core.Bool.{true, false, _&&_, _||_, true≢false}
 use mathlib.Core.List.{List, [], _∷_}
 use mathlib.Core.Path.{_≡_, refl, sym}
-use mathlib.Core.Bool.{cond}
 use lib.Dec.{eqb}
-use lib.ListN.{length, getD, take, drop, length-drop, drop-of-length-le}
+use lib.ListN.{length, getD, take, drop, length-drop}
 use lib.Seq.{take-all, length-take-le}
-use borrow.Author.Tests.{ne-eqb}
-use Rattle.numeral.specs.declared.Numeral.{Numeral}
-use Rattle.numeral.specs.declared.Numeral.the-variants.{None, Value}
-use Rattle.numeral.specs.Numeral.{numberOf}
-use Rattle.command.specs.declared.NumberPair.the-variants.{None as Neither}
-use Rattle.command.specs.declared.Reading.{Reading}
-use Rattle.command.specs.declared.Reading.the-variants.{Bad, Plain}
-use Rattle.command.specs.declared.Command.the-variants.{LabelsEmpty}
-use Rattle.command.specs.Reading.{soleOf, semicolonAt, paired, twoNumbers, onlyIf, labelRead, labelled, afterI, cursorSign, positionOf, afterBracket, readOf}
-
-pub sole-one : (s : List ℕ) → length s ≡ 1 → getD s 0 0 ≡ soleOf s
-sole-one [] e = absurd (omega arith)
-sole-one (a ∷ []) e = refl
-sole-one (a ∷ b ∷ more) e = absurd (omega arith)
-
-pub sole-none : (s : List ℕ) → (length s ≡ 1 → ⊥) → 0 ≡ soleOf s
-sole-none [] e = refl
-sole-none (a ∷ []) e = absurd (e refl)
-sole-none (a ∷ b ∷ more) e = refl
+use Rattle.command.specs.Pick.{byteAt}
+use Rattle.frame_table.specs.Reader as reader
+use Rattle.command.specs.First.{opensLabel, first}
+use Rattle.command.specs.Reading.{isText, onlyIf, sideOf, labelRead, readBy}
 
 -- the part from n on is what `drop` leaves
 pub part-rest : (n : ℕ) (s : List ℕ) → take (length s - n) (drop n s) ≡ drop n s
 part-rest n s = take-all (length s - n) (drop n s) (simp length-drop (le-refl _))
 
+pub label-short : (f : List ℕ) → length f < 3 → false ≡ opensLabel f
+label-short [] h = refl
+label-short (a ∷ []) h = refl
+label-short (a ∷ b ∷ []) h = refl
+label-short (a ∷ b ∷ c ∷ f) h = absurd (omega arith)
+
+pub label-opens : (f : List ℕ) → 3 ≤ length f
+    → (eqb (getD f 0 0) (code "I") && eqb (getD f 1 0) (code "K") && (eqb (getD f 2 0) (code "1") || eqb (getD f 2 0) (code "2"))) ≡ opensLabel f
+label-opens [] h = absurd (omega arith)
+label-opens (a ∷ []) h = absurd (omega arith)
+label-opens (a ∷ b ∷ []) h = absurd (omega arith)
+label-opens (a ∷ b ∷ c ∷ f) h = refl
+
+pub label-long : (f : List ℕ) → opensLabel f ≡ true → 3 ≤ length f
+label-long [] e = absurd (true≢false (sym e))
+label-long (a ∷ []) e = absurd (true≢false (sym e))
+label-long (a ∷ b ∷ []) e = absurd (true≢false (sym e))
+label-long (a ∷ b ∷ c ∷ f) e = omega arith
+
+-- the reading by whether the frame is a label's
+module _ (class next f : List ℕ) where
+  pub label-read : opensLabel f ≡ true → onlyIf (isText (take (length f - 3) (drop 3 f))) (sideOf (byteAt f 2)) ≡ readBy class next f
+  unfolding readBy labelRead
+  label-read e = rw (part-rest 3 f, e)
+
+  pub table-read : opensLabel f ≡ false → reader.readBy first class next f ≡ readBy class next f
+  unfolding readBy
+  table-read e = rw e
+
 pub part-start : (n : ℕ) (s : List ℕ) → n ≤ length s → n ≡ length (take n s)
 part-start n s h = sym (length-take-le n s h)
-
-paired-none : (v : Numeral) → paired v None ≡ Neither
-paired-none None = refl
-paired-none (Value n) = refl
-
-pub no-semicolon : (s : List ℕ) → length s ≤ semicolonAt s → Neither ≡ twoNumbers s
-unfolding twoNumbers
-no-semicolon s h = rw (drop-of-length-le s (le-of (semicolonAt s) h)) (sym (paired-none (numberOf (take (semicolonAt s) s))))
-  where
-    le-of : (k : ℕ) → length s ≤ k → length s ≤ suc k
-    le-of k e = omega arith
-
-pub at-semicolon : (s : List ℕ) (i : ℕ) → i ≡ semicolonAt s
-    → paired (numberOf (take i s)) (numberOf (take (length s - (i + 1)) (drop (i + 1) s))) ≡ twoNumbers s
-unfolding twoNumbers
-at-semicolon s i e = rw (part-rest (i + 1) s, add-one i, e)
-
-pub label-none : (s : List ℕ) → length s ≡ 0 → Bad ≡ labelRead s
-unfolding labelRead
-label-none [] e = refl
-label-none (a ∷ more) e = absurd (omega arith)
-
-pub label-opens : (s : List ℕ) → (length s ≡ 0 → ⊥) → labelRead s ≡ labelled (getD s 0 0) (drop 1 s)
-unfolding labelRead
-label-opens [] e = absurd (e refl)
-label-opens (a ∷ more) e = refl
-
-pub position-none : (s : List ℕ) → length s ≡ 0 → Bad ≡ positionOf s
-unfolding positionOf
-position-none [] e = refl
-position-none (a ∷ more) e = absurd (omega arith)
-
-pub read-short : (s : List ℕ) → length s < 2 → Bad ≡ readOf s
-unfolding readOf
-read-short [] e = refl
-read-short (a ∷ []) e = refl
-read-short (a ∷ b ∷ more) e = absurd (omega arith)
-
--- by the first byte and what follows it
-abbrev pub opened : ℕ → List ℕ → Reading
-opened a s =
-    cond (eqb a (code "I")) (afterI (getD s 1 0) (drop 2 s))
-    (cond (eqb a (code "&")) (cursorSign (soleOf (drop 1 s)))
-    (cond (eqb a (code "[")) (afterBracket (drop 1 s)) Bad))
-
-pub read-opens : (s : List ℕ) → 2 ≤ length s → readOf s ≡ opened (getD s 0 0) s
-unfolding readOf
-read-opens [] e = absurd (omega arith)
-read-opens (a ∷ []) e = absurd (omega arith)
-read-opens (a ∷ b ∷ more) e = refl
-
-pub label-empties : (s : List ℕ) → (length s ≡ 0 → ⊥) → getD s 0 0 ≡ code "0" → onlyIf (eqb (length s) 1) (Plain LabelsEmpty) ≡ labelRead s
-unfolding labelRead
-label-empties [] e k = absurd (e refl)
-label-empties (a ∷ []) e k = rw k
-label-empties (a ∷ b ∷ more) e k =
-    rw (k, ne-eqb (length (a ∷ b ∷ more)) 1 (λ h. omega arith), ne-eqb (length (b ∷ more)) 0 (λ h. omega arith))

@@ -11,16 +11,6 @@ use borrow.Author.Tests.{ne-eqb, le-leb, lt-leb}
 use Rattle.lists.specs.Codes.{blank}
 use Rattle.lists.specs.Every.{every}
 use Rattle.record.specs.Range.{isCode}
-use Rattle.command.specs.Reading.{semicolonAt}
-
-pub semicolon-here : (s : List ℕ) (i : ℕ) → i < length s → getD s i 0 ≡ code ";" → semicolonAt (drop i s) ≡ 0
-semicolon-here s i h e = rw (drop-cons s i 0 h, e)
-
-pub semicolon-later : (s : List ℕ) (i : ℕ) → i < length s → (getD s i 0 ≡ code ";" → ⊥) → semicolonAt (drop i s) ≡ suc (semicolonAt (drop (i + 1) s))
-semicolon-later s i h e = rw (add-one i, drop-cons s i 0 h, ne-eqb _ _ e)
-
-pub semicolon-nowhere : (s : List ℕ) (i : ℕ) → length s ≤ i → semicolonAt (drop i s) ≡ 0
-semicolon-nowhere s i h = rw (drop-of-length-le s h)
 
 pub code-too-low : (s : List ℕ) (i : ℕ) → i < length s → getD s i 0 < blank → every isCode (drop i s) ≡ false
 code-too-low s i h e = rw (drop-cons s i 0 h, lt-leb blank (getD s i 0) e)

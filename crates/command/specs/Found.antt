@@ -2,7 +2,7 @@
 use Prim.Native.Nat.{ℕ, _-_, _<_, _≤_}
 use Prim.Native.Char.{code}
 use native.Mathlib.Omega.{arith}
-use mathlib.Core.Bool.{Bool, true, false, _&&_}
+use mathlib.Core.Bool.{Bool, true, false, cond, _&&_, true≢false}
 use mathlib.Core.List.{List, [], _∷_}
 use mathlib.Core.Option.{Option, none, some}
 use mathlib.Core.Path.{_≡_, refl, sym, ap, _∙_}
@@ -10,42 +10,64 @@ use lib.Dec.{eqb, leb}
 use lib.ListN.{length, drop}
 use borrow.Author.Tests.{eqb-true, leb-true}
 use Rattle.lists.specs.Both.{both}
+use Rattle.lists.specs.Tests.{by-test}
 use Rattle.numeral.specs.Numeral.{isDigit}
 use Rattle.lists.specs.Padded.{length-padded}
 use Rattle.picture.specs.Reading.{items, few, columnsOf, columnsIn}
 use Rattle.command.specs.Order.{label}
 use Rattle.command.specs.Grammar.{Spells}
 use Rattle.command.specs.Facts.{LabelText, read-label, label-length}
-use Rattle.command.specs.Reading.{endsWith, butLast, readOf, opensPicture, rowWith, noPicture, rowAndData, drawnRow, pictureOf, orderRead, orderDrawn, orderOf}
+use Rattle.command.specs.Reading.{endsWith, butLast, readBy, readOf, opensPicture, rowWith, noPicture, rowAndData, drawnRow, pictureOf, orderRead, orderDrawn, orderFound, orderBy, orderOf}
+use Rattle.frame_table.specs.Reader.{by-reading}
+use Rattle.frame_table.specs.Reader as reader
+use Rattle.frame_table.specs.Opens.{heads}
+use Rattle.frame_table.specs.Table.{stateFrom}
+use Rattle.frame_table.specs.declared.Numbers.{Numbers}
+use Rattle.frame_table.specs.Numbers.{pair, numbersFrom}
+use Rattle.command.specs.Pick.{withNumber, displayOf, lightOf, contrastOf, afterI, cursorSign, afterBracket, commandOf}
+use Rattle.command.specs.Table.{classes, nextStates}
+use Rattle.command.specs.First.{opensLabel, pick, first, tested}
+use Rattle.command.specs.Complete.{plain-opens}
 use Rattle.command.specs.Sound.{cond-if, sound}
 use Rattle.command.specs.declared.Side.{Side}
 use Rattle.command.specs.declared.Reading.{Reading}
-use Rattle.command.specs.declared.Reading.the-variants.{Bad, Label}
+use Rattle.command.specs.declared.Reading.the-variants.{Bad, Plain, Label}
 use Rattle.command.specs.declared.PictureFrame.{PictureFrame}
 
--- The order of a frame that opens as a picture, and of any other.
-pub order-drawn : (f : List ℕ) → opensPicture f ≡ true → orderOf f ≡ orderDrawn (pictureOf f)
-unfolding orderOf
-order-drawn f e = rw e
-
-pub order-read : (f : List ℕ) → opensPicture f ≡ false → orderOf f ≡ orderRead (readOf f) (drop 3 f)
-unfolding orderOf
-order-read f e = rw e
-
--- The order by what a caller was told: whether the frame opens as a picture, and what was read.
+-- The order by what a caller was told: whether the frame opens as a picture, and what was read, by whatever tables.
 module _ (f : List ℕ) {opens : Bool} (o : opens ≡ opensPicture f) where
+  pub drawn-found : (read : Reading) {drawn : PictureFrame} → opens ≡ true → drawn ≡ pictureOf f → orderFound read f ≡ orderDrawn drawn
+  drawn-found read t e = rw (sym o ∙ t) (ap orderDrawn (sym e))
+
+  pub read-found : {read reading r : Reading} → opens ≡ false → reading ≡ read → reading ≡ r → orderFound read f ≡ orderRead r (drop 3 f)
+  read-found t q e = rw (sym o ∙ t) (ap (λ (x : Reading). orderRead x (drop 3 f)) (sym q ∙ e))
+
   pub drawn-order : {drawn : PictureFrame} → opens ≡ true → drawn ≡ pictureOf f → orderOf f ≡ orderDrawn drawn
-  drawn-order t e = order-drawn f (sym o ∙ t) ∙ ap orderDrawn (sym e)
+  unfolding orderOf
+  drawn-order t e = drawn-found (readOf f) t e
 
   pub read-order : {reading r : Reading} → opens ≡ false → reading ≡ readOf f → reading ≡ r → orderOf f ≡ orderRead r (drop 3 f)
-  read-order t q e = order-read f (sym o ∙ t) ∙ ap (λ (x : Reading). orderRead x (drop 3 f)) (sym q ∙ e)
+  unfolding orderOf
+  read-order t q e = read-found t q e
+
+-- The first edition's tables find the first edition's order.
+pub order-by : {class next : List ℕ} (f : List ℕ) → class ≡ classes → next ≡ nextStates → orderBy class next f ≡ orderOf f
+unfolding orderOf readOf
+order-by f p q = rw (p, q)
+
+picture-no-label : (f : List ℕ) → opensPicture f ≡ true → opensLabel f ≡ false
+unfolding opensPicture
+picture-no-label [] e = refl
+picture-no-label (a ∷ []) e = refl
+picture-no-label (a ∷ b ∷ []) e = refl
+picture-no-label (a ∷ b ∷ c ∷ rest) e = rw (eqb-true a (code "G") (both {a = eqb a (code "G")} e .0))
 
 -- A frame that opens as a picture is bad to read_command.
 pub picture-no-command : (f : List ℕ) → opensPicture f ≡ true → readOf f ≡ Bad
-unfolding opensPicture readOf
-picture-no-command [] e = refl
-picture-no-command (a ∷ []) e = refl
-picture-no-command (a ∷ b ∷ rest) e = rw (eqb-true a (code "G") (both {a = eqb a (code "G")} e .0))
+unfolding readOf readBy
+picture-no-command f e =
+    rw (picture-no-label f e)
+    (by-reading first tested (λ (x : Reading). x ≡ Bad) f refl (λ c s. absurd (true≢false (sym e ∙ plain-opens c f s .1))))
 
 -- A label's codes are the frame's own, from its fourth byte on.
 pub record LabelFound (side : Side) (f : List ℕ) : Type 0 where
@@ -61,7 +83,38 @@ label-found f {side} e = cases (opensPicture f) refl
 
     cases : (b : Bool) → opensPicture f ≡ b → LabelFound side f
     cases true p = let q = picture-no-command f p in let z : _≡_ {A = ℕ} 0 1 = cc in absurd (omega arith)
-    cases false p = found (sound {o = label side (drop 3 f)} f (order-read f p ∙ rw e))
+    cases false p = found (sound {o = label side (drop 3 f)} f (read-order f refl p refl e))
+
+-- No table picks a label: whatever tables are lent, a label that is read is one of the first edition's.
+abbrev isLabel : Reading → Bool
+isLabel Bad = false
+isLabel (Plain c) = false
+isLabel (Label side) = true
+
+label-in : (b : Bool) (x y : Reading) → isLabel (cond b x y) ≡ cond b (isLabel x) (isLabel y)
+label-in true x y = refl
+label-in false x y = refl
+
+never : (b : Bool) → cond b false false ≡ false
+never true = refl
+never false = refl
+
+picks-none : (w : List ℕ) (r : Numbers) → isLabel (pick w r) ≡ false
+unfolding withNumber displayOf lightOf contrastOf afterI cursorSign afterBracket commandOf
+picks-none [] r = refl
+picks-none (a ∷ []) r = refl
+picks-none (a ∷ b ∷ []) r = refl
+picks-none (a ∷ b ∷ c ∷ more) r = simp (label-in, never)
+
+pub label-by : (class next f : List ℕ) {side : Side} → readBy class next f ≡ Label side → readOf f ≡ Label side
+unfolding readOf readBy reader.readBy
+label-by class next f {side} e =
+    by-test (opensLabel f) (λ l. rw l (rw l at e))
+    (λ l. absurd (true≢false (sym (ap isLabel (rw l at e)) ∙ picks (leb (first .table .good) (stateFrom class next (first .table .states) 1 f)))))
+  where
+    picks : (b : Bool) → isLabel (cond b (pick (heads 3 f) (numbersFrom (pair 0 0) f)) Bad) ≡ false
+    picks true = picks-none (heads 3 f) (numbersFrom (pair 0 0) f)
+    picks false = refl
 
 at-most : (codes : List ℕ) → length (columnsOf codes) ≤ 96
 unfolding columnsOf

@@ -2,6 +2,9 @@ pub mod Order
 pub mod Grammar
 pub mod InRange
 pub mod Judged
+pub mod Pick
+pub mod Table
+pub mod First
 pub mod Reading
 pub mod Complete
 pub mod Sound

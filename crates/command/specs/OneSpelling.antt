@@ -2,13 +2,16 @@
 -- Assumes nothing.
 use Prim.Native.Nat.{ℕ}
 use mathlib.Core.List.{List, [], _∷_, _++_}
-use mathlib.Core.Path.{_≡_, refl, ap, ap₂}
+use mathlib.Core.Bool.{true, true≢false}
+use mathlib.Core.Path.{_≡_, refl, sym, ap, ap₂}
 use Rattle.numeral.specs.Spelt.{digitCode}
 use Rattle.numeral.specs.Laws.{one-spelling}
 use Rattle.command.specs.Order.{Order, plain}
 use Rattle.command.specs.Grammar.{Piece, sign, number, digit, text, columns, Matches, end, signs, digits, one-digit, codes, form, Spells}
 use Rattle.command.specs.declared.Command.{Command}
-use Rattle.command.specs.declared.Command.the-variants.{DisplayOff, DisplayOn, Mode, CursorShown, CursorHidden, Clear, Position, LabelsEmpty, IconS, IconU, IconF, IconR, IconP, IconW, Private, Handsfree, HandsfreeOfNote, Mute, KeyTimes, Buzzer, Light, LightOn, LightAutoStart, LightAuto, DefaultDuration, KeypadSet, KeypadCleared, Contrast, ContrastAsked, HookAsked, VersionAsked, ClearLine, Inverse}
+use Rattle.frame_table.specs.Spelling.{isPlain}
+use Rattle.frame_table.specs.Reader as commands
+use Rattle.command.specs.First.{first, tested}
 
 -- no piece is the data of a picture, which may be cut into items in several ways
 abbrev pub NoData : List Piece → Type 0
@@ -30,38 +33,14 @@ one-match (columns cs ∷ ps) h m k = absurd h
 pub one-frame : (o : Order) (f g : List ℕ) → NoData (form o) → Spells o f → Spells o g → f ≡ g
 one-frame o f g h s t = one-match (form o) h s t
 
+plain-no-data : (ps : List Piece) → isPlain ps ≡ true → NoData ps
+plain-no-data [] h = tt
+plain-no-data (sign s ∷ ps) h = plain-no-data ps h
+plain-no-data (number n ∷ ps) h = plain-no-data ps h
+plain-no-data (digit n ∷ ps) h = absurd (true≢false (sym h))
+plain-no-data (text t ∷ ps) h = absurd (true≢false (sym h))
+plain-no-data (columns cs ∷ ps) h = absurd (true≢false (sym h))
+
 -- A command carries none.
 pub no-data : (c : Command) → NoData (form (plain c))
-no-data DisplayOff = tt
-no-data DisplayOn = tt
-no-data (Mode n) = tt
-no-data CursorShown = tt
-no-data CursorHidden = tt
-no-data Clear = tt
-no-data (Position row column) = tt
-no-data LabelsEmpty = tt
-no-data (IconS n) = tt
-no-data (IconU n) = tt
-no-data (IconF n) = tt
-no-data (IconR n) = tt
-no-data (IconP n) = tt
-no-data (IconW n) = tt
-no-data (Private n) = tt
-no-data (Handsfree n) = tt
-no-data (HandsfreeOfNote n) = tt
-no-data (Mute n) = tt
-no-data (KeyTimes time1 time2) = tt
-no-data (Buzzer n) = tt
-no-data (Light n) = tt
-no-data LightOn = tt
-no-data LightAutoStart = tt
-no-data LightAuto = tt
-no-data DefaultDuration = tt
-no-data KeypadSet = tt
-no-data KeypadCleared = tt
-no-data (Contrast n) = tt
-no-data ContrastAsked = tt
-no-data HookAsked = tt
-no-data VersionAsked = tt
-no-data ClearLine = tt
-no-data (Inverse n) = tt
+no-data c = plain-no-data (form (plain c)) (commands.no-data first tested c)

@@ -2,9 +2,13 @@
 // The grammar is in specs/Grammar.antt, which knows nothing of this reader. The ranges of specs/InRange.antt are asked in the
 // crate `command_ranges`, and frames that draw are read in the crate `picture_frame`: each is judged by the definitions here.
 ghost use mathlib.Core.Path.{_≡_};
-ghost use Rattle.command.specs.Reading.{soleOf, semicolonAt, paired, twoNumbers, withNumber, oneNumber, keyTimes, numberFrame, displayOf, lightOf, isText, onlyIf, labelRead, contrastOf, hookOf, afterI, cursorSign, positionAt, positionOf, afterBracket, readOf};
+ghost use Rattle.command.specs.Pick.{byteAt, withNumber, displayOf, lightOf, contrastOf, afterI, cursorSign, afterBracket, commandOf};
+ghost use Rattle.frame_table.specs.Reader as reader;
+ghost use Rattle.command.specs.First.{opensLabel, first};
+ghost use Rattle.command.specs.Reading.{isText, onlyIf, sideOf, readBy, readOf};
+use frame_table::Classes;
+use frame_table::NextStates;
 use lists::BLANK;
-use numeral::Numeral;
 use picture::Columns;
 use record::LONGEST_LABEL;
 
@@ -64,69 +68,55 @@ pub struct PictureFrame {
     pub columns: Columns,
 }
 
-enum NumberPair {
-    None,
-    Both(u16, u16),
-}
+// The table of the frames that carry numbers. The class of each byte, sixteen to a row; @ is in no frame.
+pub const CLASSES: Classes = *b"\
+    @@@@@@@@@@@@@@@@\
+    @@@@@@@@@@@@@@@@\
+    @@@N@@E@@@@@@@@@\
+    ABBBBBBBBB@C@@@@\
+    @GPNHIP@JDPKPP@@\
+    P@MMLPNP@@PF@@@@\
+    @@@@@O@@@@@@@@@@\
+    @@O@@@@@@@@@@@@@\
+    @@@@@@@@@@@@@@@@\
+    @@@@@@@@@@@@@@@@\
+    @@@@@@@@@@@@@@@@\
+    @@@@@@@@@@@@@@@@\
+    @@@@@@@@@@@@@@@@\
+    @@@@@@@@@@@@@@@@\
+    @@@@@@@@@@@@@@@@\
+    @@@@@@@@@@@@@@@@";
 
-// The only byte of a slice of one; 0 of any other.
-fn sole(s: &[u8]) -> u8
-    ensures same { λ r. ⌜ r ≡ soleOf (now (s .entry)) ⌝ }
-{
-    let n = s.len();
-    match n {
-        1 => s[0],
-        _ => 0,
-    }
-}
+// The next state: a row for each class from @ on, a column for each state from @ on, which refuses; A is the start.
+pub const NEXT_STATES: NextStates = *b"\
+    @@@@@@@@@@@@@@@@@@@@@@@@\
+    @@@@OWWWLWKL@NO@SRS@WVW@\
+    @@@@MUU@JUKL@NO@QRS@UVW@\
+    @@@@@@@@@@IIIPPP@@@@@@@@\
+    @BI@@@@@@@@@@@@@@@@@@@@@\
+    @C@@@@@@@@@@@@@@@@@@@@@@\
+    @D@@@@@@@@@@@@@@@@@@@@@@\
+    @@T@@@W@@@@@@@@@@@@@@@@@\
+    @@EW@W@@@@@@@@@@@@@@@@@@\
+    @@F@@WW@@@@@@@@@@@@@@@@@\
+    @@W@@@@@@@@@@@@@@WWW@@@@\
+    @@G@W@@@@@@@@@@@@@@@@@@@\
+    @@H@@@@@@@@@@@@@@@@@@@@@\
+    @@I@@@W@@@@@@@@@@@@@@@@@\
+    @@@W@@@@@@@@@@@@@@@@@@@@\
+    @@@@@@W@@@@@@@@@@@@@@@@@\
+    @@I@@@@@@@@@@@@@@@@@@@@@";
 
-// Where the first ';' stands; the length where there is none.
-fn semicolon_at(s: &[u8]) -> usize
-    ensures same { λ r. ⌜ r ≡ semicolonAt (now (s .entry)) ⌝ }
-{
-    let mut i = 0;
-    while i < s.len() {
-        if s[i] == b';' {
-            return i;
-        }
-        i += 1;
-    }
-    i
-}
+pub const STATES: u8 = 24;
 
-fn paired(a: Numeral, b: Numeral) -> NumberPair
-    ensures same { λ r. ⌜ r ≡ paired a b ⌝ }
-{
-    match a {
-        Numeral::None => NumberPair::None,
-        Numeral::Value(m) => match b {
-            Numeral::None => NumberPair::None,
-            Numeral::Value(n) => NumberPair::Both(m, n),
-        },
-    }
-}
-
-// Two numbers with a ';' between them.
-fn two_numbers(s: &[u8]) -> NumberPair
-    ensures same { λ r. ⌜ r ≡ twoNumbers (now (s .entry)) ⌝ }
-{
-    let i = semicolon_at(s);
-    if i < s.len() {
-        paired(
-            numeral::read_number(&s[..i]),
-            numeral::read_number(&s[i + 1..]),
-        )
-    } else {
-        NumberPair::None
-    }
-}
+// The first of the states in which a frame may end: T.
+pub const FIRST_GOOD: usize = 20;
 
 // The command of a letter and its number.
 fn with_number(letter: u8, n: u16) -> Reading
     ensures same { λ r. ⌜ r ≡ withNumber letter n ⌝ }
 {
     match letter {
-        b'D' => Reading::Plain(Command::Mode(n)),
         b'S' => Reading::Plain(Command::IconS(n)),
         b'U' => Reading::Plain(Command::IconU(n)),
         b'F' => Reading::Plain(Command::IconF(n)),
@@ -138,66 +128,101 @@ fn with_number(letter: u8, n: u16) -> Reading
         b'I' => Reading::Plain(Command::HandsfreeOfNote(n)),
         b'M' => Reading::Plain(Command::Mute(n)),
         b'B' => Reading::Plain(Command::Buzzer(n)),
-        b'E' => Reading::Plain(Command::Light(n)),
-        b'A' => Reading::Plain(Command::Contrast(n)),
         b'Z' => Reading::Plain(Command::Inverse(n)),
         _ => Reading::Bad,
     }
 }
 
-fn one_number(letter: u8, value: Numeral) -> Reading
-    ensures same { λ r. ⌜ r ≡ oneNumber letter value ⌝ }
-{
-    match value {
-        Numeral::None => Reading::Bad,
-        Numeral::Value(n) => with_number(letter, n),
-    }
-}
-
-fn key_times(pair: NumberPair) -> Reading
-    ensures same { λ r. ⌜ r ≡ keyTimes pair ⌝ }
-{
-    match pair {
-        NumberPair::None => Reading::Bad,
-        NumberPair::Both(time1, time2) => Reading::Plain(Command::KeyTimes(time1, time2)),
-    }
-}
-
-// The frames of an I, a letter and a number or two.
-fn number_frame(letter: u8, rest: &[u8]) -> Reading
-    ensures same { λ r. ⌜ r ≡ numberFrame letter (now (rest .entry)) ⌝ }
-{
-    match letter {
-        b'T' => key_times(two_numbers(rest)),
-        _ => one_number(letter, numeral::read_number(rest)),
-    }
-}
-
 // After ID: a letter, or a number.
-fn display(rest: &[u8]) -> Reading
-    ensures same { λ r. ⌜ r ≡ displayOf (now (rest .entry)) ⌝ }
+fn display(sign: u8, n: u16) -> Reading
+    ensures same { λ r. ⌜ r ≡ displayOf sign n ⌝ }
 {
-    let letter = sole(rest);
-    match letter {
+    match sign {
         b'D' => Reading::Plain(Command::DisplayOff),
         b'E' => Reading::Plain(Command::DisplayOn),
-        _ => number_frame(b'D', rest),
+        _ => Reading::Plain(Command::Mode(n)),
     }
 }
 
 // After IE: a letter, or a number.
-fn light(rest: &[u8]) -> Reading
-    ensures same { λ r. ⌜ r ≡ lightOf (now (rest .entry)) ⌝ }
+fn light(sign: u8, n: u16) -> Reading
+    ensures same { λ r. ⌜ r ≡ lightOf sign n ⌝ }
 {
-    let letter = sole(rest);
-    match letter {
+    match sign {
         b'E' => Reading::Plain(Command::LightOn),
         b'A' => Reading::Plain(Command::LightAutoStart),
         b'S' => Reading::Plain(Command::LightAuto),
         b'R' => Reading::Plain(Command::DefaultDuration),
         b'e' => Reading::Plain(Command::KeypadSet),
         b'r' => Reading::Plain(Command::KeypadCleared),
-        _ => number_frame(b'E', rest),
+        _ => Reading::Plain(Command::Light(n)),
+    }
+}
+
+// After IA: nothing, which asks, or a number.
+fn contrast(sign: u8, n: u16) -> Reading
+    ensures same { λ r. ⌜ r ≡ contrastOf sign n ⌝ }
+{
+    match sign {
+        0 => Reading::Plain(Command::ContrastAsked),
+        _ => Reading::Plain(Command::Contrast(n)),
+    }
+}
+
+// The byte after I picks the command.
+fn after_i(letter: u8, sign: u8, before: u16, last: u16) -> Reading
+    ensures same { λ r. ⌜ r ≡ afterI letter sign before last ⌝ }
+{
+    match letter {
+        b'D' => display(sign, last),
+        b'E' => light(sign, last),
+        b'K' => Reading::Plain(Command::LabelsEmpty),
+        b'A' => contrast(sign, last),
+        b'H' => Reading::Plain(Command::HookAsked),
+        b'T' => Reading::Plain(Command::KeyTimes(before, last)),
+        _ => with_number(letter, last),
+    }
+}
+
+// After &.
+fn cursor_sign(sign: u8) -> Reading
+    ensures same { λ r. ⌜ r ≡ cursorSign sign ⌝ }
+{
+    match sign {
+        b'C' => Reading::Plain(Command::CursorShown),
+        b'D' => Reading::Plain(Command::CursorHidden),
+        b'#' => Reading::Plain(Command::Clear),
+        b'V' => Reading::Plain(Command::VersionAsked),
+        _ => Reading::Bad,
+    }
+}
+
+// After [: a K, or a position.
+fn after_bracket(sign: u8, before: u16, last: u16) -> Reading
+    ensures same { λ r. ⌜ r ≡ afterBracket sign before last ⌝ }
+{
+    match sign {
+        b'K' => Reading::Plain(Command::ClearLine),
+        _ => Reading::Plain(Command::Position(before, last)),
+    }
+}
+
+// A byte of a frame; 0 past its end.
+fn byte_at(f: &[u8], i: usize) -> u8
+    ensures same { λ r. ⌜ r ≡ byteAt (now (f .entry)) i ⌝ }
+{
+    if i < f.len() { f[i] } else { 0 }
+}
+
+// The command of a good frame, by its first three bytes and its numbers.
+fn command_of(first: u8, second: u8, third: u8, before: u16, last: u16) -> Reading
+    ensures same { λ r. ⌜ r ≡ commandOf first second third before last ⌝ }
+{
+    match first {
+        b'I' => after_i(second, third, before, last),
+        b'&' => cursor_sign(second),
+        b'[' => after_bracket(second, before, last),
+        _ => Reading::Bad,
     }
 }
 
@@ -224,118 +249,54 @@ fn only_if(good: bool, reading: Reading) -> Reading
     if good { reading } else { Reading::Bad }
 }
 
-// After IK: 0 and no more, or 1 or 2 and a text.
-fn label(rest: &[u8]) -> Reading
-    ensures same { λ r. ⌜ r ≡ labelRead (now (rest .entry)) ⌝ }
+// The command that a frame spells by a table of classes and one of next states.
+fn read_table(class: &Classes, next: &NextStates, f: &[u8]) -> Reading
+    ensures same { λ r. ⌜ r ≡ reader.readBy first (now (class .entry)) (now (next .entry)) (now (f .entry)) ⌝ }
 {
-    let n = rest.len();
-    if n == 0 {
+    let found = frame_table::run(class, next, STATES, f);
+    if found.state < FIRST_GOOD {
         return Reading::Bad;
     }
-    let sign = rest[0];
-    match sign {
-        b'0' => only_if(n == 1, Reading::Plain(Command::LabelsEmpty)),
-        b'1' => only_if(is_text(&rest[1..]), Reading::Label(Side::Left)),
-        b'2' => only_if(is_text(&rest[1..]), Reading::Label(Side::Right)),
-        _ => Reading::Bad,
-    }
+    let before = found.numbers.before;
+    let last = found.numbers.last;
+    command_of(byte_at(f, 0), byte_at(f, 1), byte_at(f, 2), before, last)
 }
 
-// After IA: nothing, which asks, or a number.
-fn contrast(rest: &[u8]) -> Reading
-    ensures same { λ r. ⌜ r ≡ contrastOf (now (rest .entry)) ⌝ }
-{
-    let n = rest.len();
-    match n {
-        0 => Reading::Plain(Command::ContrastAsked),
-        _ => number_frame(b'A', rest),
-    }
-}
-
-// After IH: nothing.
-fn hook(rest: &[u8]) -> Reading
-    ensures same { λ r. ⌜ r ≡ hookOf (now (rest .entry)) ⌝ }
-{
-    let n = rest.len();
-    only_if(n == 0, Reading::Plain(Command::HookAsked))
-}
-
-// The byte after I picks the command.
-fn after_i(letter: u8, rest: &[u8]) -> Reading
-    ensures same { λ r. ⌜ r ≡ afterI letter (now (rest .entry)) ⌝ }
-{
-    match letter {
-        b'D' => display(rest),
-        b'E' => light(rest),
-        b'K' => label(rest),
-        b'A' => contrast(rest),
-        b'H' => hook(rest),
-        _ => number_frame(letter, rest),
-    }
-}
-
-// After &.
-fn cursor_sign(sign: u8) -> Reading
-    ensures same { λ r. ⌜ r ≡ cursorSign sign ⌝ }
+// Which label IK1 or IK2 sets.
+fn side_label(sign: u8) -> Reading
+    ensures same { λ r. ⌜ r ≡ sideOf sign ⌝ }
 {
     match sign {
-        b'C' => Reading::Plain(Command::CursorShown),
-        b'D' => Reading::Plain(Command::CursorHidden),
-        b'#' => Reading::Plain(Command::Clear),
-        b'V' => Reading::Plain(Command::VersionAsked),
-        _ => Reading::Bad,
+        b'1' => Reading::Label(Side::Left),
+        _ => Reading::Label(Side::Right),
     }
 }
 
-fn position_at(pair: NumberPair) -> Reading
-    ensures same { λ r. ⌜ r ≡ positionAt pair ⌝ }
+// IK1 or IK2 and no other frame.
+fn opens_label(f: &[u8]) -> bool
+    ensures same { λ r. ⌜ r ≡ opensLabel (now (f .entry)) ⌝ }
 {
-    match pair {
-        NumberPair::None => Reading::Bad,
-        NumberPair::Both(row, column) => Reading::Plain(Command::Position(row, column)),
+    if f.len() < 3 {
+        return false;
     }
+    let sign = f[2];
+    (f[0] == b'I') & (f[1] == b'K') & ((sign == b'1') | (sign == b'2'))
 }
 
-// Two numbers and an H.
-fn position(s: &[u8]) -> Reading
-    ensures same { λ r. ⌜ r ≡ positionOf (now (s .entry)) ⌝ }
+// What read_command finds, where the two tables that are lent are CLASSES and NEXT_STATES: a constant is copied by whoever names it, so
+// whoever reads many frames lends them, and copies them once.
+pub fn read_lent(class: &Classes, next: &NextStates, f: &[u8]) -> Reading
+    ensures same { λ r. ⌜ r ≡ readBy (now (class .entry)) (now (next .entry)) (now (f .entry)) ⌝ }
 {
-    let n = s.len();
-    if n == 0 {
-        return Reading::Bad;
+    if opens_label(f) {
+        return only_if(is_text(&f[3..]), side_label(byte_at(f, 2)));
     }
-    let end = n - 1;
-    if s[end] == b'H' {
-        position_at(two_numbers(&s[..end]))
-    } else {
-        Reading::Bad
-    }
-}
-
-// After [: a K and no more, or a position.
-fn after_bracket(s: &[u8]) -> Reading
-    ensures same { λ r. ⌜ r ≡ afterBracket (now (s .entry)) ⌝ }
-{
-    let sign = sole(s);
-    match sign {
-        b'K' => Reading::Plain(Command::ClearLine),
-        _ => position(s),
-    }
+    read_table(class, next, f)
 }
 
 // The command that a frame spells, or the label that it sets; Bad for a picture frame, which read_picture reads.
 pub fn read_command(f: &[u8]) -> Reading
     ensures same { λ r. ⌜ r ≡ readOf (now (f .entry)) ⌝ }
 {
-    if f.len() < 2 {
-        return Reading::Bad;
-    }
-    let first = f[0];
-    let letter = f[1];
-    match first {
-        b'I' => after_i(letter, &f[2..]),
-        b'&' => cursor_sign(sole(&f[1..])),
-        b'[' => after_bracket(&f[1..]),
-        _ => Reading::Bad,
-    }
+    read_lent(&CLASSES, &NEXT_STATES, f)
 }

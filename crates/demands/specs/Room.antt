@@ -28,7 +28,9 @@ use Rattle.picture.specs.ReadLaws.{two-codes-a-column}
 use Rattle.answer.specs.Answers.{isSilence}
 use Rattle.command.specs.Order.{Order, plain}
 use Rattle.command.specs.Grammar.{Spells}
-use Rattle.command.specs.Reading.{readOf, opensPicture, orderOf}
+use Rattle.frame_table.specs.Reader as reader
+use Rattle.command.specs.Table.{classes, nextStates}
+use Rattle.command.specs.Reading.{readBy, readOf, opensPicture, orderOf}
 use Rattle.command.specs.Agree.{agree, bad-frame}
 use Rattle.command.specs.declared.Command.the-variants.{ContrastAsked, HookAsked, VersionAsked}
 use Rattle.effect.specs.Core.{Core, coreOf}
@@ -206,7 +208,7 @@ empty-parted zero = goes-on {part = closed []} empty tt ends
 empty-parted (suc n) = goes-on {part = abandoned []} empty opens (empty-parted n)
 
 empty-bad : (o : Order) → Spells o [] → ⊥
-unfolding orderOf opensPicture readOf
+unfolding orderOf opensPicture readOf readBy reader.readBy classes nextStates
 empty-bad = bad-frame [] .0 refl
 
 -- A bad frame that CR closes, or ESC abandons, is asked, and what follows is done from the same core.

@@ -18,7 +18,8 @@ use Rattle.numeral.specs.Numeral as Numerals
 use Rattle.picture.specs.Reading.{columnsRead}
 use Rattle.picture.specs.Writing.{dataWritten}
 use Rattle.command.specs.InRange.{rowsNamed, firstOut, numbersOf, commandInRange, mostRows}
-use Rattle.command.specs.Reading.{readOf, opensPicture, pictureOf}
+use Rattle.frame_table.specs.Run.{foundIn}
+use Rattle.command.specs.Reading.{readBy, readOf, orderBy, opensPicture, pictureOf}
 use Rattle.verdict.specs.Verdict.{verdictOf}
 use Rattle.effect_modes.specs.Modes.{toMode, atLevel}
 use Rattle.effect.specs.Obey.{Obeys, core}
@@ -90,6 +91,10 @@ use Rattle.command_ranges.proofs.number_out as NumberOut
 use Rattle.command_ranges.proofs.number_out.Reads as NumberOutReads
 use Rattle.command_ranges.proofs.in_range as CommandInRange
 use Rattle.command_ranges.proofs.in_range.Reads as CommandInRangeReads
+use Rattle.frame_table.proofs.run as RunTable
+use Rattle.frame_table.proofs.run.Reads as RunTableReads
+use Rattle.command.proofs.read_lent as ReadLent
+use Rattle.command.proofs.read_lent.Reads as ReadLentReads
 use Rattle.command.proofs.read_command as ReadCommand
 use Rattle.command.proofs.read_command.Reads as ReadCommandReads
 use Rattle.picture_frame.proofs.opens_picture as OpensPicture
@@ -368,6 +373,14 @@ number-out-says κs a q e w = (refl, refl)
 pub command-in-range-says : Says CommandInRange.ended CommandInRangeReads.requires CommandInRangeReads.ensures (λ κs a q e. q ≡ commandInRange (a .1 .0) (a .0))
 command-in-range-says κs a q e w = (refl, refl)
 
+-- frame_table::run
+pub run-table-says : Says RunTable.ended RunTableReads.requires RunTableReads.ensures (λ κs a q e. q ≡ foundIn (now (a .0)) (now (a .1 .0)) (a .1 .1 .0) (now (a .1 .1 .1 .0)))
+run-table-says κs a q e w = (refl, refl)
+
+-- command::read_lent
+pub read-lent-says : Says ReadLent.ended ReadLentReads.requires ReadLentReads.ensures (λ κs a q e. q ≡ readBy (now (a .0)) (now (a .1 .0)) (now (a .1 .1 .0)))
+read-lent-says κs a q e w = (refl, refl)
+
 -- command::read_command
 pub read-command-says : Says ReadCommand.ended ReadCommandReads.requires ReadCommandReads.ensures (λ κs a q e. q ≡ readOf (now (a .0)))
 read-command-says κs a q e w = (refl, refl)
@@ -393,7 +406,7 @@ pub at-level-says : Says AtLevel.ended AtLevelReads.requires AtLevelReads.ensure
 at-level-says κs a q e w = (refl, refl)
 
 -- effect::obey
-pub obey-says : Says Obey.ended ObeyReads.requires ObeyReads.ensures (λ κs a q e. Obeys (now (a .1 .1 .1 .0)) (core (a .0) (now (a .1 .0)) (now (a .1 .1 .0))) q (core (q .settings) (now (e .1 .0)) (now (e .1 .1 .0))))
+pub obey-says : Says Obey.ended ObeyReads.requires ObeyReads.ensures (λ κs a q e. Obeys (orderBy (now (a .1 .1 .1 .1 .0)) (now (a .1 .1 .1 .1 .1 .0)) (now (a .1 .1 .1 .0))) (core (a .0) (now (a .1 .0)) (now (a .1 .1 .0))) q (core (q .settings) (now (e .1 .0)) (now (e .1 .1 .0))))
 obey-says κs a q e w = (refl, refl)
 
 -- answer::is_silence

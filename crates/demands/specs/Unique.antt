@@ -51,6 +51,10 @@ use Rattle.command_ranges.proofs.number_out as NumberOut
 use Rattle.command_ranges.proofs.number_out.Reads as NumberOutReads
 use Rattle.command_ranges.proofs.in_range as CommandInRange
 use Rattle.command_ranges.proofs.in_range.Reads as CommandInRangeReads
+use Rattle.frame_table.proofs.run as RunTable
+use Rattle.frame_table.proofs.run.Reads as RunTableReads
+use Rattle.command.proofs.read_lent as ReadLent
+use Rattle.command.proofs.read_lent.Reads as ReadLentReads
 use Rattle.command.proofs.read_command as ReadCommand
 use Rattle.command.proofs.read_command.Reads as ReadCommandReads
 use Rattle.picture_frame.proofs.opens_picture as OpensPicture
@@ -312,6 +316,14 @@ number-out-one = equal NumberOut.ended _
 -- command_ranges::in_range
 pub command-in-range-one : OneResult CommandInRange.ended CommandInRangeReads.Learnt
 command-in-range-one = equal CommandInRange.ended _
+
+-- frame_table::run
+pub run-table-one : OneResult RunTable.ended RunTableReads.Learnt
+run-table-one = equal RunTable.ended _
+
+-- command::read_lent
+pub read-lent-one : OneResult ReadLent.ended ReadLentReads.Learnt
+read-lent-one = equal ReadLent.ended _
 
 -- command::read_command
 pub read-command-one : OneResult ReadCommand.ended ReadCommandReads.Learnt

@@ -9,26 +9,26 @@ use borrow.Author.Tests.{eq-eqb, ne-eqb}
 use Rattle.command.specs.Order.{Order, draw}
 use Rattle.command.specs.InRange.{isPictureRow, rowsNamed, commandInRange}
 use Rattle.command.specs.declared.Command.{Command}
-use Rattle.command.specs.Reading.{opensPicture, pictureOf, orderOf}
-use Rattle.command.specs.Found.{drawn-order}
+use Rattle.command.specs.Reading.{readBy, opensPicture, pictureOf, orderBy}
+use Rattle.command.specs.Found.{drawn-found}
 use Rattle.command.specs.declared.PictureFrame.{PictureFrame}
 use Rattle.effect.specs.declared.Obeyed.{Obeyed}
 use Rattle.effect.specs.Core.{Core, onPicture}
 use Rattle.effect.specs.Effect.{drawn, carryOut}
 use Rattle.effect.specs.Obey.{obeyOrder, answerTo, Obeys}
 
-pub obeys : {f : List ℕ} {before after : Core} {obeyed : Obeyed} {found : Option Order}
-    → orderOf f ≡ found → obeyed .answer ≡ answerTo found → after ≡ obeyOrder before found → Obeys f before obeyed after
+pub obeys : {order found : Option Order} {before after : Core} {obeyed : Obeyed}
+    → order ≡ found → obeyed .answer ≡ answerTo found → after ≡ obeyOrder before found → Obeys order before obeyed after
 obeys {before = before} e g s = record { answer = g ∙ ap answerTo (sym e); same = s ∙ ap (obeyOrder before) (sym e) }
 
 -- a picture frame that was read: without columns it is bad
-module _ (f : List ℕ) {opens : Bool} (o : opens ≡ opensPicture f) where
-  pub no-drawing : (p : PictureFrame) → opens ≡ true → p ≡ pictureOf f → p .columns .len ≡ 0 → orderOf f ≡ none
-  no-drawing p t e z = drawn-order f o t e ∙ rw (eq-eqb (p .columns .len) 0 z)
+module _ (class next f : List ℕ) {opens : Bool} (o : opens ≡ opensPicture f) where
+  pub no-drawing : (p : PictureFrame) → opens ≡ true → p ≡ pictureOf f → p .columns .len ≡ 0 → orderBy class next f ≡ none
+  no-drawing p t e z = drawn-found f o (readBy class next f) t e ∙ rw (eq-eqb (p .columns .len) 0 z)
 
   pub a-drawing : (p : PictureFrame) → opens ≡ true → p ≡ pictureOf f → (p .columns .len ≡ 0 → ⊥)
-      → orderOf f ≡ some (draw (p .row) (take (p .columns .len) (p .columns .bytes)))
-  a-drawing p t e z = drawn-order f o t e ∙ rw (ne-eqb (p .columns .len) 0 z)
+      → orderBy class next f ≡ some (draw (p .row) (take (p .columns .len) (p .columns .bytes)))
+  a-drawing p t e z = drawn-found f o (readBy class next f) t e ∙ rw (ne-eqb (p .columns .len) 0 z)
 
 -- what was asked of the ranges, in the text mode's rows
 pub judged : {rows : ℕ} {ok : Bool} (mode : ℕ) (c : Command) (b : Bool) → rows ≡ rowsNamed mode → ok ≡ commandInRange rows c → ok ≡ b → commandInRange (rowsNamed mode) c ≡ b

@@ -9,7 +9,11 @@ use Rattle.lists.specs.Padded.{padded}
 use Rattle.numeral.specs.Numeral.{digitOf}
 use Rattle.picture.specs.Reading.{hexOf, timesOf, items, columnsOf}
 use Rattle.record.specs.PowerOn.{powerOn}
-use Rattle.command.specs.Reading.{twoNumbers, withNumber, numberFrame, displayOf, lightOf, isText, labelRead, contrastOf, hookOf, afterI, cursorSign, positionOf, afterBracket, readOf, opensPicture, rowAndData, drawnRow, pictureOf, orderOf}
+use Rattle.frame_table.specs.Numbers.{numbersAfter}
+use Rattle.frame_table.specs.Reader as reader
+use Rattle.command.specs.Table.{classes, nextStates}
+use Rattle.command.specs.Pick.{withNumber, displayOf, lightOf, contrastOf, afterI, cursorSign, afterBracket, commandOf}
+use Rattle.command.specs.Reading.{isText, labelRead, readBy, readOf, opensPicture, rowAndData, drawnRow, pictureOf, orderOf}
 use Rattle.effect.specs.Core.{Core, coreOf}
 use Rattle.effect.specs.Effect.{blanks, drawn, carryOut, storeText}
 use Rattle.effect.specs.Obey.{obeyOrder}
@@ -107,5 +111,5 @@ table =
     ∷ []
 
 pub cases : map (λ (c : List ℕ × List ℕ). c .0) table ≡ map (λ (c : List ℕ × List ℕ). c .1) table
-unfolding digitOf padded hexOf timesOf items columnsOf twoNumbers withNumber numberFrame displayOf lightOf isText labelRead contrastOf hookOf afterI cursorSign positionOf afterBracket readOf opensPicture rowAndData drawnRow pictureOf orderOf blanks drawn carryOut storeText
+unfolding digitOf padded hexOf timesOf items columnsOf numbersAfter reader.readBy classes nextStates withNumber displayOf lightOf contrastOf afterI cursorSign afterBracket commandOf isText labelRead readBy readOf opensPicture rowAndData drawnRow pictureOf orderOf blanks drawn carryOut storeText
 cases = refl

@@ -10,7 +10,6 @@ use Rattle.answer.specs.declared.Answer.the-variants as Answers
 use Rattle.command.specs.Order.{Order, plain, label, draw}
 use Rattle.command.specs.declared.Command.{Command}
 use Rattle.command.specs.declared.Command.the-variants.{DisplayOff, DisplayOn, Mode, CursorShown, CursorHidden, Clear, Position, LabelsEmpty, IconS, IconU, IconF, IconR, IconP, IconW, Private, Handsfree, HandsfreeOfNote, Mute, KeyTimes, Buzzer, Light, LightOn, LightAutoStart, LightAuto, DefaultDuration, KeypadSet, KeypadCleared, Contrast, ContrastAsked, HookAsked, VersionAsked, ClearLine, Inverse}
-use Rattle.command.specs.Reading.{orderOf}
 use Rattle.effect.specs.declared.Obeyed.{Obeyed}
 use Rattle.effect.specs.Core.{Core}
 use Rattle.effect.specs.Effect.{carryOut}
@@ -65,7 +64,8 @@ answerTo (some (draw row columns)) = Silence
 abbrev pub core : Settings → List ℕ → List ℕ → Core
 core settings text picture = record { settings = settings; text = text; picture = picture }
 
--- the promise: `before` is the core at entry and `after` the one at exit, made of the settings handed back and the two arrays
-pub record Obeys (frame : List ℕ) (before : Core) (obeyed : Obeyed) (after : Core) : Type 0 where
-  pub answer : obeyed .answer ≡ answerTo (orderOf frame)
-  pub same : after ≡ obeyOrder before (orderOf frame)
+-- the promise: `found` is the order that the frame spells by the tables that are lent, `before` the core at entry and `after` the one at
+-- exit, made of the settings handed back and the two arrays
+pub record Obeys (found : Option Order) (before : Core) (obeyed : Obeyed) (after : Core) : Type 0 where
+  pub answer : obeyed .answer ≡ answerTo found
+  pub same : after ≡ obeyOrder before found

@@ -9,6 +9,7 @@ ghost use lib.Seq.{sets};
 ghost use Rattle.lists.specs.Codes.{blank};
 ghost use Rattle.lists.specs.Padded.{padded};
 ghost use Rattle.command.specs.Order.{plain, label};
+ghost use Rattle.command.specs.Reading.{orderBy};
 ghost use Rattle.command.specs.InRange.{isPictureRow, rowsNamed, commandInRange};
 ghost use Rattle.effect.specs.Effect.{blanks, labelOf, muted, lightAt, marksOf, keptIn, drawn, effect, carryOut};
 ghost use Rattle.effect.specs.Obey.{answerFor, core, Obeys};
@@ -16,6 +17,8 @@ use answer::Answer;
 use command::Command;
 use command::Reading;
 use command::Side;
+use frame_table::Classes;
+use frame_table::NextStates;
 use lists::BLANK;
 use picture::Columns;
 use picture::MOST_COLUMNS;
@@ -318,8 +321,16 @@ fn obey_label(mut p: Settings, side: Side, f: &[u8]) -> Settings
 }
 
 // Obeys a frame: the text and the picture in place, the settings handed back.
-pub fn obey(settings: Settings, text: &mut Text, picture: &mut Picture, frame: &[u8]) -> Obeyed
-    ensures obeys { λ o. ⌜ Obeys (now (frame .entry)) (core settings (now (text .entry)) (now (picture .entry))) o (core (o .settings) (now (text .exit)) (now (picture .exit))) ⌝ }
+// The frame is read by two tables that are lent.
+pub fn obey(
+    settings: Settings,
+    text: &mut Text,
+    picture: &mut Picture,
+    frame: &[u8],
+    class: &Classes,
+    next: &NextStates,
+) -> Obeyed
+    ensures obeys { λ o. ⌜ Obeys (orderBy (now (class .entry)) (now (next .entry)) (now (frame .entry))) (core settings (now (text .entry)) (now (picture .entry))) o (core (o .settings) (now (text .exit)) (now (picture .exit))) ⌝ }
 {
     if picture_frame::opens_picture(frame) {
         let drawn = picture_frame::read_picture(frame);
@@ -336,7 +347,7 @@ pub fn obey(settings: Settings, text: &mut Text, picture: &mut Picture, frame: &
             answer: Answer::Silence,
         };
     }
-    let reading = command::read_command(frame);
+    let reading = command::read_lent(class, next, frame);
     match reading {
         Reading::Bad => Obeyed {
             settings: settings,

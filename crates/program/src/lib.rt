@@ -56,6 +56,23 @@ pub fn write_number(name: &[u8], n: u64) {
     write(name, &digits[..count]);
 }
 
+// Writes the words of a number, from 0: each has a line of the table. A number past the last one has none.
+pub fn write_entry<'a>(name: &'a [u8], table: &'a [u8], n: u8) {
+    let mut line = 0;
+    let mut start = 0;
+    for i in 0..table.len() {
+        if table[i] != LINE_FEED {
+            continue;
+        }
+        if line == n as usize {
+            write(name, &table[start..i]);
+            return;
+        }
+        line += 1;
+        start = i + 1;
+    }
+}
+
 // Words. They are counted from 1; 0, which is the program's own name, stands for none.
 
 enum Kind {
@@ -291,4 +308,15 @@ pub fn read_piece(name: &[u8], input: Input, piece: &mut [u8]) -> Piece
         length: io::count(got, piece),
         failed: got < 0,
     }
+}
+
+// The word that is no option, at the front of the room: how many codes it has, 0 if there is none.
+pub fn read_word(room: &mut [u8]) -> usize
+    ensures { λ r. ⌜ Counts r (now (room .exit)) ⌝ }
+{
+    let i = file_word();
+    if i == 0 {
+        return 0;
+    }
+    os::arg(i, room)
 }

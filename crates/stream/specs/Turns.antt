@@ -112,7 +112,7 @@ module _ (p : Settings) (t g : List ℕ) (state : ℕ) (body : List ℕ) where
       }
 
   -- of a whole one
-  module _ (o : Obeyed) (t′ g′ : List ℕ) (e : state ≡ 1) (q : Obeys body (core p t g) o (core (o .settings) t′ g′)) where
+  module _ (o : Obeyed) (t′ g′ : List ℕ) (e : state ≡ 1) (q : Obeys (orderOf body) (core p t g) o (core (o .settings) t′ g′)) where
     closing : step handset in-frame carriageReturn ≡ record { state = record { core = obeyOrder (core p t g) (orderOf body); frame = noFrame }; answers = answerFrom p (o .answer) }
     closing = step-closes handset in-frame carriageReturn body (rw e) refl ∙ (λ j. record { state = record { core = obeyOrder (core p t g) (orderOf body); frame = noFrame }; answers = answerFrom p (sym (q .answer) j) })
 

@@ -6,10 +6,13 @@ ghost use lib.ListN.{length, getD};
 ghost use Rattle.lists.specs.Codes.{escape, carriageReturn, blank};
 ghost use Rattle.parting.specs.Rules.{limit};
 ghost use Rattle.record.specs.Parts.{together};
+ghost use Rattle.command.specs.Table.{classes, nextStates};
 ghost use Rattle.stream.specs.Turns.{Stores, Ends, Drops, Collects};
 ghost use Rattle.stream.specs.Stream.{InRow, lentOf, standing, fedOf, answersAfter, Ready, Closes, Reads};
 use answer::Answer;
 use effect::Obeyed;
+use frame_table::Classes;
+use frame_table::NextStates;
 use lists::BLANK;
 use lists::CARRIAGE_RETURN;
 use lists::ESCAPE;
@@ -132,11 +135,14 @@ fn close(
     picture: &mut Picture,
     frame: &[u8],
     state: u8,
+    class: &Classes,
+    next: &NextStates,
 ) -> Obeyed
+    requires { ⌜ (now class ≡ classes) × (now next ≡ nextStates) ⌝ }
     ensures { λ o. ⌜ Closes settings (now (text .entry)) (now (picture .entry)) state (now (frame .entry)) o (now (text .exit)) (now (picture .exit)) ⌝ }
 {
     if state == OPEN {
-        return effect::obey(settings, text, picture, frame);
+        return effect::obey(settings, text, picture, frame, class, next);
     }
     Obeyed {
         settings: settings,
@@ -172,8 +178,10 @@ fn read(
     mut len: usize,
     bytes: &[u8],
     answers: &mut [u8],
+    class: &Classes,
+    next: &NextStates,
 ) -> AfterBytes
-    requires { ⌜ Ready settings (now text) (now picture) state len (now frame) ⌝ }
+    requires { ⌜ (Ready settings (now text) (now picture) state len (now frame)) × ((now class ≡ classes) × (now next ≡ nextStates)) ⌝ }
     ensures { λ d. ⌜ Reads (standing settings (now (text .entry)) (now (picture .entry)) state len (now (frame .entry))) (now (bytes .entry)) (now (answers .entry)) d (now (text .exit)) (now (picture .exit)) (now (frame .exit)) (now (answers .exit)) ⌝ }
 {
     let mut i = 0;
@@ -221,7 +229,7 @@ fn read(
             };
         }
         if b == CARRIAGE_RETURN {
-            let o = close(settings, text, picture, &frame[..len], state);
+            let o = close(settings, text, picture, &frame[..len], state, class, next);
             let said = o.answer;
             if answer::is_silence(said) {
                 let obeyed = o.settings;
@@ -297,6 +305,8 @@ pub fn feed_lent(
             wide(small.len),
             bytes,
             answers,
+            &command::CLASSES,
+            &command::NEXT_STATES,
         );
         stream_places::empty_from(frame, d.len);
         let after = d.settings;

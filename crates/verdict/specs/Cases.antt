@@ -5,7 +5,11 @@ use Rattle.lists.specs.Codes.{ascii}
 use Rattle.lists.specs.Padded.{padded}
 use Rattle.numeral.specs.Numeral.{digitOf}
 use Rattle.picture.specs.Reading.{hexOf, timesOf, items, columnsOf}
-use Rattle.command.specs.Reading.{twoNumbers, withNumber, numberFrame, displayOf, lightOf, isText, labelRead, contrastOf, hookOf, afterI, cursorSign, positionOf, afterBracket, readOf, opensPicture, rowAndData, drawnRow, pictureOf, orderOf}
+use Rattle.frame_table.specs.Numbers.{numbersAfter}
+use Rattle.frame_table.specs.Reader as reader
+use Rattle.command.specs.Table.{classes, nextStates}
+use Rattle.command.specs.Pick.{withNumber, displayOf, lightOf, contrastOf, afterI, cursorSign, afterBracket, commandOf}
+use Rattle.command.specs.Reading.{isText, labelRead, readBy, readOf, opensPicture, rowAndData, drawnRow, pictureOf, orderOf}
 use Rattle.verdict.specs.declared.Verdict.{Verdict}
 use Rattle.verdict.specs.declared.Verdict.the-variants.{Bad, PassedOver, Obeyed}
 use Rattle.verdict.specs.Verdict.{verdictOf}
@@ -54,5 +58,5 @@ table =
     ∷ []
 
 pub cases : map (λ (c : Verdict × Verdict). c .0) table ≡ map (λ (c : Verdict × Verdict). c .1) table
-unfolding digitOf padded hexOf timesOf items columnsOf twoNumbers withNumber numberFrame displayOf lightOf isText labelRead contrastOf hookOf afterI cursorSign positionOf afterBracket readOf opensPicture rowAndData drawnRow pictureOf orderOf verdictOf
+unfolding digitOf padded hexOf timesOf items columnsOf numbersAfter reader.readBy classes nextStates withNumber displayOf lightOf contrastOf afterI cursorSign afterBracket commandOf isText labelRead readBy readOf opensPicture rowAndData drawnRow pictureOf orderOf verdictOf
 cases = refl

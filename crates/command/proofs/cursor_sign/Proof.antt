@@ -1,12 +1,14 @@
--- A sign after & picks the command. Assumes nothing.
+-- After &. Assumes nothing.
 use borrow.Author.Tests.{ne-eqb}
-use Rattle.command.specs.Reading.{cursorSign}
+use Rattle.command.specs.Pick.{cursorSign}
 use Rattle.command.proofs.cursor_sign.Statement.{statement}
 use Rattle.command.proofs.cursor_sign.Tie as tie
 
 pub cursor-sign-spec : {M : Type 1} → statement M
 unfolding cursorSign
-cursor-sign-spec = tie.close (tie.spec
+cursor-sign-spec =
+    tie.close
+    (tie.spec
     (λ c. rw (c .match .keys1))
     (λ c. rw (c .match .keys2))
     (λ c. rw (c .match .keys3))

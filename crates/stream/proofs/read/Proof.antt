@@ -15,14 +15,14 @@ use Rattle.stream.proofs.read.Statement.{statement}
 use Rattle.stream.proofs.read.Tie as tie
 
 abbrev Inv-loop : tie.InvT-loop
-Inv-loop panel₀ text₀ picture₀ frame₀ state₀ len₀ bytes answers₀ i₀ w₀ settings text picture frame state len answers i w = Going bytes answers₀ (standing panel₀ text₀ picture₀ state₀ len₀ frame₀) answers settings text picture state len frame i w
+Inv-loop panel₀ text₀ picture₀ frame₀ state₀ len₀ bytes answers₀ class next i₀ w₀ settings text picture frame state len answers i w = Going bytes answers₀ (standing panel₀ text₀ picture₀ state₀ len₀ frame₀) answers settings text picture state len frame i w
 
 abbrev μ-loop : tie.MeasureT-loop
-μ-loop panel₀ text₀ picture₀ frame₀ state₀ len₀ bytes answers₀ i₀ w₀ settings text picture frame state len answers i w = length bytes - i
+μ-loop panel₀ text₀ picture₀ frame₀ state₀ len₀ bytes answers₀ class next i₀ w₀ settings text picture frame state len answers i w = length bytes - i
 
 pub read-spec : {M : Type 1} → statement M
 read-spec = tie.close (tie.spec Inv-loop μ-loop
-    (λ c. record { account = go-start (step handset) _ _ _; range = c .before .before .before .pre .range; fits = c .before .before .before .pre .fits })
+    (λ c. record { account = go-start (step handset) _ _ _; range = c .before .before .before .pre .0 .range; fits = c .before .before .before .pre .0 .fits })
     (λ c. search needs) (λ c κs. search needs) (λ c κs. search needs)
     (λ c κs. let q = in-place (c .before .before .before .before .before .before .before .loop .inv .range) in
     (rw (c .before .before .row-start .ensures, c .before .row-end .ensures) q, c .before .before .before .before .before .before .loop-test .taken, c .before .before .before .if2 .taken))
@@ -41,7 +41,7 @@ read-spec = tie.close (tie.spec Inv-loop μ-loop
     (λ c. let v = c .before .before .before .before .before .before .before .before .before .loop in
     go-loud (v .inv) (let t = c .before .before .before .before .before .before .before .before .loop-test in omega arith) (v .inv .range) (fits-none 1 (v .frame) (omega arith) (v .inv .fits .full)) (loud-esc (v .settings) (v .text) (v .picture) (v .state) (v .len) (v .frame) _ (c .before .before .before .before .before .before .if1 .left) (c .before .before .before .before .before .if4 .taken))
     (c .before .before .before .say .ensures .0) (c .before .before .before .say .ensures .1) (c .if5 .taken))
-    (λ c. c .before .before .before .before .before .before .before .before .before .loop .inv .fits .full ∙ sym (c .before .before .before .before .before .before .before .before .before .before .before .before .before .pre .fits .full))
+    (λ c. c .before .before .before .before .before .before .before .before .before .loop .inv .fits .full ∙ sym (c .before .before .before .before .before .before .before .before .before .before .before .before .before .pre .0 .fits .full))
     (λ c. let v = c .before .before .before .before .before .before .before .before .before .loop in ap length (c .before .before .before .say .ensures .1) ∙ room-stays (v .answers) (v .w) (answerFrom (v .settings) QuestionMark) ∙ v .inv .account .even)
     (λ c. let v = c .before .before .before .before .before .before .before .before .before .loop in
     record { account = go-halt (v .inv) (let t = c .before .before .before .before .before .before .before .before .loop-test in omega arith) (loud-esc (v .settings) (v .text) (v .picture) (v .state) (v .len) (v .frame) _ (c .before .before .before .before .before .before .if1 .left) (c .before .before .before .before .before .if4 .taken)) (omega arith) (c .before .before .before .say .ensures .0) (c .before .before .before .say .ensures .1) (c .if5 .left); fits = v .inv .fits })
@@ -62,7 +62,7 @@ read-spec = tie.close (tie.spec Inv-loop μ-loop
     let loud = sym (c .before .before .before .before .before .before .is-silence .ensures) ∙ c .before .before .before .before .before .if7 .left in
     go-loud (v .inv) (let t = c .before .before .before .before .before .before .before .before .before .before .before .before .before .before .before .loop-test in omega arith) (range-loud (v .settings) (v .text) (v .picture) (v .state) (v .len) (v .frame) _ (c .before .before .before .before .before .before .before .before .before .before .before .before .before .if1 .left) (c .before .before .before .before .before .before .before .before .before .before .before .if6 .taken) k loud (v .inv .range)) (fits-none 0 (v .frame) (omega arith) (v .inv .fits .full))
     (loud-return (v .settings) (v .text) (v .picture) (v .state) (v .len) (v .frame) _ (c .before .before .before .before .before .before .before .before .before .before .before .before .before .if1 .left) (c .before .before .before .before .before .before .before .before .before .before .before .if6 .taken) k loud) (c .before .before .before .say2 .ensures .0) (c .before .before .before .say2 .ensures .1) (c .if8 .taken))
-    (λ c. c .before .before .before .before .before .before .before .before .before .before .before .before .before .before .before .before .loop .inv .fits .full ∙ sym (c .before .before .before .before .before .before .before .before .before .before .before .before .before .before .before .before .before .before .before .before .pre .fits .full))
+    (λ c. c .before .before .before .before .before .before .before .before .before .before .before .before .before .before .before .before .loop .inv .fits .full ∙ sym (c .before .before .before .before .before .before .before .before .before .before .before .before .before .before .before .before .before .before .before .before .pre .0 .fits .full))
     (λ c. let v = c .before .before .before .before .before .before .before .before .before .before .before .before .before .before .before .before .loop in ap length (c .before .before .before .say2 .ensures .1) ∙ room-stays (v .answers) (v .w) (answerFrom (v .settings) (c .before .before .before .before .before .before .before .close .result .answer)) ∙ v .inv .account .even)
     (λ c. let v = c .before .before .before .before .before .before .before .before .before .before .before .before .before .before .before .before .loop in
     let k = c .before .before .before .before .before .before .before .close .ensures in
@@ -82,6 +82,6 @@ read-spec = tie.close (tie.spec Inv-loop μ-loop
     let e : v .state ≡ 1 = omega (arith, v .inv .fits .known) in
     go-quiet (v .inv) (omega arith) (v .inv .range) (fits-none 2 (v .frame) (omega arith) (v .inv .fits .full))
     (turn-over (v .settings) (v .text) (v .picture) (v .state) (v .len) (v .frame) _ (v .inv .fits) e (c .before .before .before .if4 .left) (c .before .before .if6 .left) (c .if10 .left)))
-    (λ c. c .before .loop .inv .fits .full ∙ sym (c .before .before .before .before .before .pre .fits .full))
+    (λ c. c .before .loop .inv .fits .full ∙ sym (c .before .before .before .before .before .pre .0 .fits .full))
     (λ c. c .before .loop .inv .account .even)
     (λ c. let v = c .before .loop in record { account = go-end (step handset) (v .inv .account) (omega arith); fits = v .inv .fits }))

@@ -1,0 +1,10 @@
+pub mod Pieces
+pub mod Rest
+pub mod Spelling
+pub mod Numbers
+pub mod Opens
+pub mod Table
+pub mod Run
+pub mod Accepts
+pub mod Kinds
+pub mod Reader
