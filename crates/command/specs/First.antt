@@ -82,7 +82,7 @@ of : {c : Command} (place m n : ℕ) → made kinds place m n ≡ some c → Kin
 of place m n same = record { place = place; m = m; n = n; same = same }
 
 -- there is no other command
-kind : (c : Command) → Kind kinds c
+pub kind : (c : Command) → Kind kinds c
 kind DisplayOff = of 0 0 0 refl
 kind DisplayOn = of 1 0 0 refl
 kind (Mode m) = of 2 m 0 refl

@@ -1,4 +1,5 @@
 pub mod Order
+pub mod Ranges
 pub mod Grammar
 pub mod InRange
 pub mod Judged
@@ -10,6 +11,7 @@ pub mod Complete
 pub mod Sound
 pub mod Agree
 pub mod OneSpelling
+pub mod Spell
 pub mod Facts
 pub mod Plain
 pub mod Found

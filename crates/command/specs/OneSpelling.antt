@@ -17,16 +17,16 @@ use Rattle.command.specs.First.{first, tested}
 abbrev pub NoData : List Piece → Type 0
 NoData [] = Unit {0}
 NoData (sign s ∷ ps) = NoData ps
-NoData (number n ∷ ps) = NoData ps
-NoData (digit n ∷ ps) = NoData ps
+NoData (number r n ∷ ps) = NoData ps
+NoData (digit r n ∷ ps) = NoData ps
 NoData (text t ∷ ps) = NoData ps
 NoData (columns cs ∷ ps) = ⊥
 
 one-match : (ps : List Piece) {f g : List ℕ} → NoData ps → Matches ps f → Matches ps g → f ≡ g
 one-match [] h end end = refl
 one-match (sign s ∷ ps) h (signs _ m) (signs _ k) = ap (λ (t : List ℕ). s ++ t) (one-match ps h m k)
-one-match (number n ∷ ps) h (digits a m) (digits b k) = ap₂ {C = List ℕ} (λ (d t : List ℕ). d ++ t) (one-spelling a b) (one-match ps h m k)
-one-match (digit n ∷ ps) h (one-digit a m) (one-digit b k) = ap (λ (t : List ℕ). digitCode n ∷ t) (one-match ps h m k)
+one-match (number r n ∷ ps) h (digits a m) (digits b k) = ap₂ {C = List ℕ} (λ (d t : List ℕ). d ++ t) (one-spelling a b) (one-match ps h m k)
+one-match (digit r n ∷ ps) h (one-digit a m) (one-digit b k) = ap (λ (t : List ℕ). digitCode n ∷ t) (one-match ps h m k)
 one-match (text t ∷ ps) h (codes a b m) (codes c d k) = ap (λ (u : List ℕ). t ++ u) (one-match ps h m k)
 one-match (columns cs ∷ ps) h m k = absurd h
 
@@ -36,8 +36,8 @@ one-frame o f g h s t = one-match (form o) h s t
 plain-no-data : (ps : List Piece) → isPlain ps ≡ true → NoData ps
 plain-no-data [] h = tt
 plain-no-data (sign s ∷ ps) h = plain-no-data ps h
-plain-no-data (number n ∷ ps) h = plain-no-data ps h
-plain-no-data (digit n ∷ ps) h = absurd (true≢false (sym h))
+plain-no-data (number r n ∷ ps) h = plain-no-data ps h
+plain-no-data (digit r n ∷ ps) h = absurd (true≢false (sym h))
 plain-no-data (text t ∷ ps) h = absurd (true≢false (sym h))
 plain-no-data (columns cs ∷ ps) h = absurd (true≢false (sym h))
 

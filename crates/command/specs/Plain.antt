@@ -4,8 +4,9 @@ use Prim.Native.Nat.{ℕ, _+_, _*_, _≤_}
 use Prim.Native.Char.{code}
 use native.Mathlib.Omega.{arith}
 use mathlib.Core.Bool.{Bool, true, _&&_}
-use mathlib.Core.List.{List, [], _∷_, _++_}
-use mathlib.Core.Path.{_≡_, refl}
+use mathlib.Core.List.{List, [], _∷_, _++_, map}
+use mathlib.Core.Path.{_≡_, refl, subst}
+use lib.Dec.{leb}
 use lib.ListN.{length, length-append, length-replicate}
 use borrow.Author.Tests.{leb-true, ne-eqb}
 use Rattle.lists.specs.Codes.{escape, carriageReturn, blank}
@@ -19,7 +20,9 @@ use Rattle.picture.specs.Data.{Digit, decimal, letter, Item, single, several, I
 use Rattle.picture.specs.Data as told
 use Rattle.command.specs.Order.{Order, plain, label, draw}
 use Rattle.command.specs.Grammar.{Piece, sign, number, digit, text, columns, Matches, end, signs, digits, one-digit, codes, data-of, form, Spells}
-use Rattle.command.specs.declared.Command.the-variants.{DisplayOff, DisplayOn, Mode, CursorShown, CursorHidden, Clear, Position, LabelsEmpty, IconS, IconU, IconF, IconR, IconP, IconW, Private, Handsfree, HandsfreeOfNote, Mute, KeyTimes, Buzzer, Light, LightOn, LightAutoStart, LightAuto, DefaultDuration, KeypadSet, KeypadCleared, Contrast, ContrastAsked, HookAsked, VersionAsked, ClearLine, Inverse}
+use Rattle.command.specs.declared.Command.{Command}
+use Rattle.command.specs.First.{kinds, kind}
+use Rattle.frame_table.specs.Kinds.{of-kind}
 use Rattle.command.specs.declared.Side.the-variants.{Left, Right}
 
 -- codes that are neither ESC nor CR, and at most so many
@@ -73,15 +76,15 @@ items-within (told.more {xs = xs} {ys = ys} i rest) = wider (rw (length-append x
 -- how many codes a piece has at most, and whether its signs are plain
 abbrev size : Piece → ℕ
 size (sign s) = length s
-size (number n) = 3
-size (digit n) = 1
+size (number r n) = 3
+size (digit r n) = 1
 size (text t) = 7
 size (columns cs) = 192
 
 abbrev signsPlain : Piece → Bool
 signsPlain (sign s) = every isFrameByte s
-signsPlain (number n) = true
-signsPlain (digit n) = true
+signsPlain (number r n) = true
+signsPlain (digit r n) = true
 signsPlain (text t) = true
 signsPlain (columns cs) = true
 
@@ -109,45 +112,24 @@ matches-within (one-digit {n} l rest) h = joined {m = 1} {s = digitCode n ∷ []
 matches-within (codes {t} l e rest) h = joined {m = 7} {s = t} (record { plain = every-more isCode isFrameByte is-code t e; most = l }) (matches-within rest h)
 matches-within (data-of {d = s} d rest) h = joined {m = 192} {s = s} (wider (omega (arith, d .most)) (items-within (d .items))) (matches-within rest h)
 
--- the table's signs and sizes
-form-plain : (order : Order) → (allPlain (form order) ≡ true) × (sizes (form order) ≤ 197)
-form-plain (plain DisplayOff) = (refl, omega arith)
-form-plain (plain DisplayOn) = (refl, omega arith)
-form-plain (plain (Mode n)) = (refl, omega arith)
-form-plain (plain CursorShown) = (refl, omega arith)
-form-plain (plain CursorHidden) = (refl, omega arith)
-form-plain (plain Clear) = (refl, omega arith)
-form-plain (plain (Position row column)) = (refl, omega arith)
-form-plain (plain LabelsEmpty) = (refl, omega arith)
-form-plain (plain (IconS n)) = (refl, omega arith)
-form-plain (plain (IconU n)) = (refl, omega arith)
-form-plain (plain (IconF n)) = (refl, omega arith)
-form-plain (plain (IconR n)) = (refl, omega arith)
-form-plain (plain (IconP n)) = (refl, omega arith)
-form-plain (plain (IconW n)) = (refl, omega arith)
-form-plain (plain (Private n)) = (refl, omega arith)
-form-plain (plain (Handsfree n)) = (refl, omega arith)
-form-plain (plain (HandsfreeOfNote n)) = (refl, omega arith)
-form-plain (plain (Mute n)) = (refl, omega arith)
-form-plain (plain (KeyTimes time1 time2)) = (refl, omega arith)
-form-plain (plain (Buzzer n)) = (refl, omega arith)
-form-plain (plain (Light n)) = (refl, omega arith)
-form-plain (plain LightOn) = (refl, omega arith)
-form-plain (plain LightAutoStart) = (refl, omega arith)
-form-plain (plain LightAuto) = (refl, omega arith)
-form-plain (plain DefaultDuration) = (refl, omega arith)
-form-plain (plain KeypadSet) = (refl, omega arith)
-form-plain (plain KeypadCleared) = (refl, omega arith)
-form-plain (plain (Contrast n)) = (refl, omega arith)
-form-plain (plain ContrastAsked) = (refl, omega arith)
-form-plain (plain HookAsked) = (refl, omega arith)
-form-plain (plain VersionAsked) = (refl, omega arith)
-form-plain (plain ClearLine) = (refl, omega arith)
-form-plain (plain (Inverse n)) = (refl, omega arith)
-form-plain (label Left t) = (refl, omega arith)
-form-plain (label Right t) = (refl, omega arith)
-form-plain (draw row cs) = (refl, omega arith)
+-- the table's signs and sizes, computed for each kind of command with any numbers
+abbrev short : List Piece → Bool
+short ps = allPlain ps && leb (sizes ps) 197
+
+kinds-short : (m n : ℕ) → map (λ (k : ℕ → ℕ → Command). short (form (plain (k m n)))) kinds ≡ map (λ (k : ℕ → ℕ → Command). true) kinds
+kinds-short m n = refl
+
+form-short : (order : Order) → short (form order) ≡ true
+form-short (plain c) =
+    let k = kind c in
+    let w = of-kind kinds (λ (x : ℕ → ℕ → Command). short (form (plain (x (k .m) (k .n))))) (λ (x : ℕ → ℕ → Command). true) (kinds-short (k .m) (k .n)) (k .place) (k .same) in
+    subst (λ (x : Command). short (form (plain x)) ≡ true) (w .is) (w .same)
+form-short (label Left t) = refl
+form-short (label Right t) = refl
+form-short (draw row cs) = refl
 
 -- Whatever spells an order holds neither ESC nor CR, and at most 197 bytes.
 pub spells-within : (order : Order) {frame : List ℕ} → Spells order frame → Within 197 frame
-spells-within order s = let w = form-plain order in wider (w .1) (matches-within s (w .0))
+spells-within order s =
+    let w = both {a = allPlain (form order)} (form-short order) in
+    wider (leb-true (sizes (form order)) 197 (w .1)) (matches-within s (w .0))

@@ -21,6 +21,7 @@ use Rattle.command.specs.declared.Side.{Side}
 use Rattle.command.specs.declared.Side.the-variants.{Left, Right}
 use Rattle.command.specs.Order.{Order, plain, label, draw}
 use Rattle.command.specs.Grammar.{form, Spells}
+use Rattle.command.specs.Spell.{spelling}
 use Rattle.command.specs.InRange.{commandInRange, mostRows, inRangeInMode}
 use Rattle.command.specs.Agree.{one-order}
 use Rattle.command.specs.OneSpelling.{NoData, one-frame, no-data}
@@ -49,7 +50,6 @@ use Rattle.seen.specs.Agree.{columns-agree}
 use Rattle.seen.specs.Rows.{contents, rowSeen, smsSeen, volumeSeen}
 use Rattle.seen.specs.Laws.{seen-row, seen-column, panels-told, steady-unseen}
 use Rattle.writer_ranges.specs.Fitting.{isLabel, isRow}
-use Rattle.writer.specs.Writing.{bodyOf, labelBody, rowBody}
 use Rattle.writer.specs.ReadBack.{AfterZero, command-reads-back, label-reads-back, command-written, label-written, row-written}
 use Rattle.demands.specs.HeldKeys.{HeldKeys, held-keys}
 use Rattle.demands.specs.Room.{AnswerRoom, answer-room}
@@ -72,8 +72,8 @@ pub record Demand2 : Type 0 where
   -- And an order that carries no picture data has one spelling (request T-02): two different good frames never mean the same command;
   -- so what the writers write for a command or a label is its only spelling.
   pub one-spelling : (o : Order) (frame other : List ℕ) → NoData (form o) → Spells o frame → Spells o other → frame ≡ other
-  pub command-spelling : (c : Command) (frame : List ℕ) → commandInRange mostRows c ≡ true → Spells (plain c) frame → frame ≡ bodyOf c
-  pub label-spelling : (side : Side) (codes frame : List ℕ) → isLabel codes ≡ true → Spells (label side codes) frame → frame ≡ labelBody side codes
+  pub command-spelling : (c : Command) (frame : List ℕ) → commandInRange mostRows c ≡ true → Spells (plain c) frame → frame ≡ spelling (plain c)
+  pub label-spelling : (side : Side) (codes frame : List ℕ) → isLabel codes ≡ true → Spells (label side codes) frame → frame ≡ spelling (label side codes)
   -- A good frame in range has its order's effect, a question with its answer and any other in silence: as a part of the stream,
   pub obeyed : (c : Core) (frame : List ℕ) (o : Order) → Spells o frame → inRangeInMode (c .settings .screen .mode) o ≡ true → act handset c (closed frame) ≡ said c o (effect o c)
   -- and of the call on ESC, frame, CR, from a record in range with no frame open, with room for the answer, if there is one.
@@ -137,13 +137,13 @@ pub record Demand2 : Type 0 where
   pub phase-unseen : (r : Record) (phase : Phase) → (r .settings .icons .u ≡ 255 → ⊥) → ((row : ℕ) → rowSeen r row phase ≡ rowSeen r row Lit) × ((row column : ℕ) → columnSeen r row column phase ≡ columnSeen r row column Lit) × (smsSeen r phase ≡ smsSeen r Lit)
   -- What is written for a command, a label or a picture row reads back as that: after number 0 the bytes counted part into one closed
   -- frame and one skipped LF, the frame spells that order, and the other places of the room are as they were.
-  pub commands-read-back : (c : Command) (room : List ℕ) → AfterZero (plain c) (commandInRange mostRows c) (bodyOf c) room
-  pub labels-read-back : (side : Side) (codes room : List ℕ) → AfterZero (label side codes) (isLabel codes) (labelBody side codes) room
-  pub rows-read-back : (row : ℕ) (columns room : List ℕ) → Bytes columns → AfterZero (draw row columns) (isRow row columns) (rowBody row columns) room
+  pub commands-read-back : (c : Command) (room : List ℕ) → AfterZero (plain c) (commandInRange mostRows c) (spelling (plain c)) room
+  pub labels-read-back : (side : Side) (codes room : List ℕ) → AfterZero (label side codes) (isLabel codes) (spelling (label side codes)) room
+  pub rows-read-back : (row : ℕ) (columns room : List ℕ) → Bytes columns → AfterZero (draw row columns) (isRow row columns) (spelling (draw row columns)) room
 
 -- The proof ---------------------------------------------------------------------------------------------------------
 
-label-once : (side : Side) (codes frame : List ℕ) → isLabel codes ≡ true → Spells (label side codes) frame → frame ≡ labelBody side codes
+label-once : (side : Side) (codes frame : List ℕ) → isLabel codes ≡ true → Spells (label side codes) frame → frame ≡ spelling (label side codes)
 label-once Left codes frame h s = one-frame (label Left codes) frame _ tt s (label-reads-back Left codes h .spells)
 label-once Right codes frame h s = one-frame (label Right codes) frame _ tt s (label-reads-back Right codes h .spells)
 
@@ -152,7 +152,7 @@ demand2 =
     record {
       one-meaning = one-order;
       one-spelling = one-frame;
-      command-spelling = λ c frame h s. one-frame (plain c) frame (bodyOf c) (no-data c) s (command-reads-back c h .spells);
+      command-spelling = λ c frame h s. one-frame (plain c) frame (spelling (plain c)) (no-data c) s (command-reads-back c h .spells);
       label-spelling = label-once;
       obeyed = closed-obeyed;
       obeyed-called = good-whole;

@@ -45,7 +45,9 @@ use Rattle.seen.specs.Columns.{columnSeen}
 use Rattle.writer_ranges.specs.Fitting.{isLabel, isRow}
 use Rattle.choice.specs.Choice.{choiceOf}
 use Rattle.choice.specs.Rules.{ruleNumber}
-use Rattle.writer.specs.Writing.{bodyOf, labelBody, rowBody, frameOf, writtenOf, roomAfter}
+use Rattle.command.specs.Order.{plain, label, draw}
+use Rattle.command.specs.Spell.{spelling}
+use Rattle.writer.specs.Writing.{frameOf, writtenOf, roomAfter}
 use Rattle.handset_numbers.specs.Numbers.{phaseOf, sideOf, commandOf, smsNumber, volumeNumbers, ownerNumbers, shownNumbers, verdictNumbers, kindNumber}
 use Rattle.handset.specs.Calls.{fedIn, loggedIn, passedIn, hookedIn, countedIn, smsIn, volumeIn, rowIn, columnIn, commandWritten, commandRoom, writtenIn, judgedIn, choiceIn, partIn, lightIn}
 use Rattle.record.proofs.small_of as SmallOf
@@ -581,20 +583,20 @@ row-in-range-says κs a q e w = (refl, refl)
 
 -- writer::write_command
 pub write-command-says : SaysBoth WriteCommand.ended WriteCommandReads.requires WriteCommandReads.ensures
-    (λ κs a q e. q ≡ writtenOf (commandInRange mostRows (a .0)) (frameOf (bodyOf (a .0))) (now (a .1 .0)))
-    (λ κs a q e. now (e .1 .0) ≡ roomAfter (commandInRange mostRows (a .0)) (frameOf (bodyOf (a .0))) (now (a .1 .0)))
+    (λ κs a q e. q ≡ writtenOf (commandInRange mostRows (a .0)) (frameOf (spelling (plain (a .0)))) (now (a .1 .0)))
+    (λ κs a q e. now (e .1 .0) ≡ roomAfter (commandInRange mostRows (a .0)) (frameOf (spelling (plain (a .0)))) (now (a .1 .0)))
 write-command-says κs a q e w = (refl, refl)
 
 -- writer::write_label
 pub write-label-says : SaysBoth WriteLabel.ended WriteLabelReads.requires WriteLabelReads.ensures
-    (λ κs a q e. q ≡ writtenOf (isLabel (now (a .1 .0))) (frameOf (labelBody (a .0) (now (a .1 .0)))) (now (a .1 .1 .0)))
-    (λ κs a q e. now (e .1 .1 .0) ≡ roomAfter (isLabel (now (a .1 .0))) (frameOf (labelBody (a .0) (now (a .1 .0)))) (now (a .1 .1 .0)))
+    (λ κs a q e. q ≡ writtenOf (isLabel (now (a .1 .0))) (frameOf (spelling (label (a .0) (now (a .1 .0))))) (now (a .1 .1 .0)))
+    (λ κs a q e. now (e .1 .1 .0) ≡ roomAfter (isLabel (now (a .1 .0))) (frameOf (spelling (label (a .0) (now (a .1 .0))))) (now (a .1 .1 .0)))
 write-label-says κs a q e w = (refl, refl)
 
 -- writer::write_picture_row
 pub write-picture-row-says : SaysBoth WritePictureRow.ended WritePictureRowReads.requires WritePictureRowReads.ensures
-    (λ κs a q e. q ≡ writtenOf (isRow (a .0) (now (a .1 .0))) (frameOf (rowBody (a .0) (now (a .1 .0)))) (now (a .1 .1 .0)))
-    (λ κs a q e. now (e .1 .1 .0) ≡ roomAfter (isRow (a .0) (now (a .1 .0))) (frameOf (rowBody (a .0) (now (a .1 .0)))) (now (a .1 .1 .0)))
+    (λ κs a q e. q ≡ writtenOf (isRow (a .0) (now (a .1 .0))) (frameOf (spelling (draw (a .0) (now (a .1 .0))))) (now (a .1 .1 .0)))
+    (λ κs a q e. now (e .1 .1 .0) ≡ roomAfter (isRow (a .0) (now (a .1 .0))) (frameOf (spelling (draw (a .0) (now (a .1 .0))))) (now (a .1 .1 .0)))
 write-picture-row-says κs a q e w = (refl, refl)
 
 -- handset_numbers::phase_of
@@ -729,14 +731,14 @@ proved-write-command-says κs a q e w = (refl, refl)
 
 -- handset::proved_write_label
 pub proved-write-label-says : SaysBoth ProvedWriteLabel.ended ProvedWriteLabelReads.requires ProvedWriteLabelReads.ensures
-    (λ κs a q e. q ≡ writtenIn (writtenOf (isLabel (now (a .1 .0))) (frameOf (labelBody (sideOf (a .0)) (now (a .1 .0)))) (now (a .1 .1 .0))))
-    (λ κs a q e. now (e .1 .1 .0) ≡ roomAfter (isLabel (now (a .1 .0))) (frameOf (labelBody (sideOf (a .0)) (now (a .1 .0)))) (now (a .1 .1 .0)))
+    (λ κs a q e. q ≡ writtenIn (writtenOf (isLabel (now (a .1 .0))) (frameOf (spelling (label (sideOf (a .0)) (now (a .1 .0))))) (now (a .1 .1 .0))))
+    (λ κs a q e. now (e .1 .1 .0) ≡ roomAfter (isLabel (now (a .1 .0))) (frameOf (spelling (label (sideOf (a .0)) (now (a .1 .0))))) (now (a .1 .1 .0)))
 proved-write-label-says κs a q e w = (refl, refl)
 
 -- handset::proved_write_picture_row
 pub proved-write-picture-row-says : SaysBoth ProvedWritePictureRow.ended ProvedWritePictureRowReads.requires ProvedWritePictureRowReads.ensures
-    (λ κs a q e. q ≡ writtenIn (writtenOf (isRow (a .0) (now (a .1 .0))) (frameOf (rowBody (a .0) (now (a .1 .0)))) (now (a .1 .1 .0))))
-    (λ κs a q e. now (e .1 .1 .0) ≡ roomAfter (isRow (a .0) (now (a .1 .0))) (frameOf (rowBody (a .0) (now (a .1 .0)))) (now (a .1 .1 .0)))
+    (λ κs a q e. q ≡ writtenIn (writtenOf (isRow (a .0) (now (a .1 .0))) (frameOf (spelling (draw (a .0) (now (a .1 .0))))) (now (a .1 .1 .0))))
+    (λ κs a q e. now (e .1 .1 .0) ≡ roomAfter (isRow (a .0) (now (a .1 .0))) (frameOf (spelling (draw (a .0) (now (a .1 .0))))) (now (a .1 .1 .0)))
 proved-write-picture-row-says κs a q e w = (refl, refl)
 
 -- handset::proved_judge

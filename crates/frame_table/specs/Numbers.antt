@@ -33,16 +33,16 @@ numbersFrom r (b ∷ f) = numbersFrom (numbersAfter b r) f
 unfoldable pub numbersTold : Numbers → List Piece → Numbers
 numbersTold r [] = r
 numbersTold r (sign s ∷ ps) = numbersTold (numbersFrom r s) ps
-numbersTold r (number n ∷ ps) = numbersTold (pair (r .before) n) ps
-numbersTold r (digit n ∷ ps) = numbersTold r ps
+numbersTold r (number q n ∷ ps) = numbersTold (pair (r .before) n) ps
+numbersTold r (digit q n ∷ ps) = numbersTold r ps
 numbersTold r (text t ∷ ps) = numbersTold r ps
 numbersTold r (columns cs ∷ ps) = numbersTold r ps
 
 unfoldable pub beginsEach : Numbers → List Piece → Bool
 beginsEach r [] = true
 beginsEach r (sign s ∷ ps) = beginsEach (numbersFrom r s) ps
-beginsEach r (number n ∷ ps) = eqb (r .last) 0 && beginsEach (pair (r .before) n) ps
-beginsEach r (digit n ∷ ps) = beginsEach r ps
+beginsEach r (number q n ∷ ps) = eqb (r .last) 0 && beginsEach (pair (r .before) n) ps
+beginsEach r (digit q n ∷ ps) = beginsEach r ps
 beginsEach r (text t ∷ ps) = beginsEach r ps
 beginsEach r (columns cs ∷ ps) = beginsEach r ps
 

@@ -18,7 +18,7 @@ use Rattle.frame_table.specs.declared.Numbers.{Numbers}
 use Rattle.frame_table.specs.Pieces.{Piece, sign, number, digit, text, columns, Matches, end, signs, digits}
 use Rattle.frame_table.specs.Kinds.{Kind, OfKind, of-kind, first-of, others-of}
 use Rattle.frame_table.specs.Rest.{Mark, fits, fits-append, fits-none}
-use Rattle.frame_table.specs.Spelling.{marksOf, isPlain, fitsOne, filled, howMany, spread, matched-fits, fits-filled, gathered, either, or-left, or-right}
+use Rattle.frame_table.specs.Spelling.{marksOf, isPlain, fitsOne, howMany, numbersIn, Fills, matched-fits, fits-filled, filled-matches, either, or-left, or-right}
 use Rattle.frame_table.specs.Numbers.{pair, numbersFrom, numbersTold, beginsEach, numbers-read}
 use Rattle.frame_table.specs.Opens.{heads, opens, Every, opened}
 use Rattle.frame_table.specs.Table.{Table, stateFrom, accepts, listed, whole, right}
@@ -71,8 +71,8 @@ module _ (e : Reader) where
   reading f = readBy (e .table .class) (e .table .next) f
 
   -- The tests of a kind with two numbers. Its form is signs and numbers, it is in the table, each of its numbers begins anew; whatever first
-  -- bytes it may have pick it, and are no label's and no picture's; with these numbers it is its form with the numbers filled in, two
-  -- at most.
+  -- bytes it may have pick it, and are no label's and no picture's; whatever the numbers, its marks are the same, and it has these
+  -- numbers, two at most.
   abbrev pub isKnown : e .Command → Bool
   isKnown c = isPlain (e .form c) && listed (marksOf (e .form c)) formsOf && beginsEach (pair 0 0) (e .form c)
 
@@ -83,7 +83,8 @@ module _ (e : Reader) where
     pub known : Bool
     pub picks : List (e .Reading)
     pub others : List Bool
-    pub filled : List Piece
+    pub marked : List Mark
+    pub numbers : List ℕ
     pub few : Bool
 
   abbrev pub test : ℕ → ℕ → Maker → Test
@@ -93,7 +94,8 @@ module _ (e : Reader) where
         known = isKnown c;
         picks = map (λ (w : List ℕ). e .pick w (numbersTold (pair 0 0) (e .form c))) (opensOf c);
         others = map (e .others) (opensOf c);
-        filled = spread (e .form c);
+        marked = marksOf (e .form c);
+        numbers = numbersIn (e .form c);
         few = leb (howMany (marks k)) 2;
       }
 
@@ -104,7 +106,8 @@ module _ (e : Reader) where
         known = true;
         picks = map (λ (w : List ℕ). e .plain c) (opensOf c);
         others = map (λ (w : List ℕ). false) (opensOf c);
-        filled = filled (marks k) (numbered (howMany (marks k)) m n);
+        marked = marks k;
+        numbers = numbered (howMany (marks k)) m n;
         few = true;
       }
 
@@ -117,8 +120,8 @@ module _ (e : Reader) where
 one-match : (ps : List Piece) {f g : List ℕ} → isPlain ps ≡ true → Matches ps f → Matches ps g → f ≡ g
 one-match [] h end end = refl
 one-match (sign s ∷ ps) h (signs _ m) (signs _ k) = ap (λ (x : List ℕ). s ++ x) (one-match ps h m k)
-one-match (number n ∷ ps) h (digits a m) (digits b k) = ap₂ {C = List ℕ} (λ (d x : List ℕ). d ++ x) (one-spelling a b) (one-match ps h m k)
-one-match (digit n ∷ ps) h m k = absurd (true≢false (sym h))
+one-match (number r n ∷ ps) h (digits a m) (digits b k) = ap₂ {C = List ℕ} (λ (d x : List ℕ). d ++ x) (one-spelling a b) (one-match ps h m k)
+one-match (digit r n ∷ ps) h m k = absurd (true≢false (sym h))
 one-match (text x ∷ ps) h m k = absurd (true≢false (sym h))
 one-match (columns cs ∷ ps) h m k = absurd (true≢false (sym h))
 
@@ -205,20 +208,22 @@ module _ (e : Reader) (t : Tested e) where
     command : e .Command
     spelt : Spells e command f
 
-  spelt-by : (k : Maker e) (f : List ℕ) → howMany (marks e k) ≤ 2 → ((m n : ℕ) → spread (e .form (k m n)) ≡ filled (marks e k) (numbered (howMany (marks e k)) m n)) → fitsOne 0 (marks e k) f ≡ true → Spelt f
+  -- a frame that fits the marks of a kind spells the command of that kind with some numbers
+  spelt-by : (k : Maker e) (f : List ℕ) → howMany (marks e k) ≤ 2 → ((m n : ℕ) → (marksOf (e .form (k m n)) ≡ marks e k) × (numbersIn (e .form (k m n)) ≡ numbered (howMany (marks e k)) m n)) → fitsOne 0 (marks e k) f ≡ true → Spelt f
   spelt-by k f few same h =
       let r = fits-filled (marks e k) f h in
       let w = two-of (r .numbers) (howMany (marks e k)) (r .count) few in
-      record {
-        command = k (w .m) (w .n);
-        spelt = gathered (e .form (k (w .m) (w .n))) (subst (λ (ps : List Piece). Matches ps f) (ap (filled (marks e k)) (w .same) ∙ sym (same (w .m) (w .n))) (r .matches));
-      }
+      let c = k (w .m) (w .n) in
+      let v = same (w .m) (w .n) in
+      let fills : Fills (marksOf (e .form c)) (numbersIn (e .form c)) f = rw (v .0, v .1, ← w .same) (r .fills) in
+      record { command = c; spelt = filled-matches (e .form c) (passes c .plain) fills }
 
   spelt-in : (ks : List (Maker e)) (f : List ℕ) → ((m n : ℕ) → map (test e m n) ks ≡ map (passed e m n) ks) → fits (whole (map (marks e) ks)) f ≡ true → Spelt f
   spelt-in [] f same h = absurd (true≢false (sym h ∙ fits-none f))
   spelt-in (k ∷ ks) f same h =
       either (sym (fits-append ((0, marks e k) ∷ []) (whole (map (marks e) ks)) f) ∙ h)
-      (λ g. spelt-by k f (leb-true (howMany (marks e k)) 2 (ap (λ (x : Test e). x .few) (first-of (same 0 0)))) (λ m n. ap (λ (x : Test e). x .filled) (first-of (same m n))) g)
+      (λ g. spelt-by k f (leb-true (howMany (marks e k)) 2 (ap (λ (x : Test e). x .few) (first-of (same 0 0))))
+      (λ m n. let t = first-of (same m n) in (ap (λ (x : Test e). x .marked) t, ap (λ (x : Test e). x .numbers) t)) g)
       (λ g. spelt-in ks f (λ m n. others-of (same m n)) g)
 
   refused : (f : List ℕ) → accepts (e .table) f ≡ false → reading e f ≡ e .bad

@@ -22,16 +22,16 @@ abbrev pub marksOf : List Piece → List Mark
 marksOf [] = []
 marksOf (piece.sign [] ∷ ps) = marksOf ps
 marksOf (piece.sign (a ∷ s) ∷ ps) = sign a ∷ marksOf (piece.sign s ∷ ps)
-marksOf (piece.number n ∷ ps) = number ∷ marksOf ps
-marksOf (piece.digit n ∷ ps) = marksOf ps
+marksOf (piece.number r n ∷ ps) = number ∷ marksOf ps
+marksOf (piece.digit r n ∷ ps) = marksOf ps
 marksOf (text t ∷ ps) = marksOf ps
 marksOf (columns cs ∷ ps) = marksOf ps
 
 abbrev pub isPlain : List Piece → Bool
 isPlain [] = true
 isPlain (piece.sign s ∷ ps) = isPlain ps
-isPlain (piece.number n ∷ ps) = isPlain ps
-isPlain (piece.digit n ∷ ps) = false
+isPlain (piece.number r n ∷ ps) = isPlain ps
+isPlain (piece.digit r n ∷ ps) = false
 isPlain (text t ∷ ps) = false
 isPlain (columns cs ∷ ps) = false
 
@@ -100,12 +100,11 @@ matched-fits h (data-of d m) = absurd (true≢false (sym h))
 
 -- What fits is spelt ------------------------------------------------------------------------------------------------
 
--- the pieces of marks with these numbers
-abbrev pub filled : List Mark → List ℕ → List Piece
-filled [] ns = []
-filled (sign a ∷ ms) ns = piece.sign (a ∷ []) ∷ filled ms ns
-filled (number ∷ ms) [] = piece.number 0 ∷ filled ms []
-filled (number ∷ ms) (n ∷ ns) = piece.number n ∷ filled ms ns
+-- the frame is signs and numbers that have these marks and these values
+pub data Fills : List Mark → List ℕ → List ℕ → Type 0 where
+  none : Fills [] [] []
+  a-sign : {a : ℕ} {ms : List Mark} {ns f : List ℕ} → Fills ms ns f → Fills (sign a ∷ ms) ns (a ∷ f)
+  a-number : {n : ℕ} {d : List ℕ} {ms : List Mark} {ns f : List ℕ} → Spelt n d → Fills ms ns f → Fills (number ∷ ms) (n ∷ ns) (d ++ f)
 
 abbrev pub howMany : List Mark → ℕ
 howMany [] = 0
@@ -115,7 +114,7 @@ howMany (number ∷ ms) = suc (howMany ms)
 pub record Filled (ms : List Mark) (f : List ℕ) : Type 0 where
   pub numbers : List ℕ
   pub count : length numbers ≡ howMany ms
-  pub matches : Matches (filled ms numbers) f
+  pub fills : Fills ms numbers f
 
 -- digits that come, and what comes after them
 record Digits (more : ℕ) (ms : List Mark) (f : List ℕ) : Type 0 where
@@ -193,36 +192,36 @@ number-comes ms (b ∷ f) h =
         record { d = b ∷ r .d; g = r .g; whole = ap (λ (x : List ℕ). b ∷ x) (r .whole); name = named b (r .d) (eqb-false b (code "0") e) t (r .decimal) (r .most); rest = r .rest }
 
 pub fits-filled : (ms : List Mark) (f : List ℕ) → fitsOne 0 ms f ≡ true → Filled ms f
-fits-filled [] [] h = record { numbers = []; count = refl; matches = end }
+fits-filled [] [] h = record { numbers = []; count = refl; fills = none }
 fits-filled [] (b ∷ f) h = absurd (true≢false (sym h ∙ fits-none f))
 fits-filled (sign a ∷ ms) [] h = absurd (true≢false (sym h))
 fits-filled (sign a ∷ ms) (b ∷ f) h =
     let t = if-fits (eqb b a) (0, ms) f (rw append-nil at h) in
     let r = fits-filled ms f (t .1) in
-    rw (eqb-true b a (t .0)) (record { numbers = r .numbers; count = r .count; matches = signs (a ∷ []) (r .matches) })
+    rw (eqb-true b a (t .0)) (record { numbers = r .numbers; count = r .count; fills = a-sign (r .fills) })
 fits-filled (number ∷ ms) f h =
     let n = number-comes ms f h in
     let r = fits-filled ms (n .g) (n .rest) in
-    rw (n .whole) (record { numbers = n .name .value ∷ r .numbers; count = ap suc (r .count); matches = digits (n .name .spelt) (r .matches) })
+    rw (n .whole) (record { numbers = n .name .value ∷ r .numbers; count = ap suc (r .count); fills = a-number (n .name .spelt) (r .fills) })
 
--- pieces with one sign each
-abbrev pub spread : List Piece → List Piece
-spread [] = []
-spread (piece.sign [] ∷ ps) = spread ps
-spread (piece.sign (a ∷ s) ∷ ps) = piece.sign (a ∷ []) ∷ spread (piece.sign s ∷ ps)
-spread (piece.number n ∷ ps) = piece.number n ∷ spread ps
-spread (piece.digit n ∷ ps) = piece.digit n ∷ spread ps
-spread (text t ∷ ps) = text t ∷ spread ps
-spread (columns cs ∷ ps) = columns cs ∷ spread ps
+-- the numbers of pieces
+abbrev pub numbersIn : List Piece → List ℕ
+numbersIn [] = []
+numbersIn (piece.sign s ∷ ps) = numbersIn ps
+numbersIn (piece.number r n ∷ ps) = n ∷ numbersIn ps
+numbersIn (piece.digit r n ∷ ps) = n ∷ numbersIn ps
+numbersIn (text t ∷ ps) = numbersIn ps
+numbersIn (columns cs ∷ ps) = numbersIn ps
 
-pub gathered : (ps : List Piece) {f : List ℕ} → Matches (spread ps) f → Matches ps f
-gathered [] m = m
-gathered (piece.sign [] ∷ ps) m = signs [] (gathered ps m)
-gathered (piece.sign (a ∷ s) ∷ ps) (signs _ m) = prepend (gathered (piece.sign s ∷ ps) m)
+-- what fills the marks of pieces with their numbers is those pieces
+pub filled-matches : (ps : List Piece) {f : List ℕ} → isPlain ps ≡ true → Fills (marksOf ps) (numbersIn ps) f → Matches ps f
+filled-matches [] h none = end
+filled-matches (piece.sign [] ∷ ps) h k = signs [] (filled-matches ps h k)
+filled-matches (piece.sign (a ∷ s) ∷ ps) h (a-sign k) = prepend (filled-matches (piece.sign s ∷ ps) h k)
   where
     prepend : {g : List ℕ} → Matches (piece.sign s ∷ ps) g → Matches (piece.sign (a ∷ s) ∷ ps) (a ∷ g)
-    prepend (signs _ k) = signs (a ∷ s) k
-gathered (piece.number n ∷ ps) (digits d m) = digits d (gathered ps m)
-gathered (piece.digit n ∷ ps) (one-digit l m) = one-digit l (gathered ps m)
-gathered (text t ∷ ps) (codes l e m) = codes l e (gathered ps m)
-gathered (columns cs ∷ ps) (data-of d m) = data-of d (gathered ps m)
+    prepend (signs _ m) = signs (a ∷ s) m
+filled-matches (piece.number r n ∷ ps) h (a-number d k) = digits d (filled-matches ps h k)
+filled-matches (piece.digit r n ∷ ps) h k = absurd (true≢false (sym h))
+filled-matches (text t ∷ ps) h k = absurd (true≢false (sym h))
+filled-matches (columns cs ∷ ps) h k = absurd (true≢false (sym h))

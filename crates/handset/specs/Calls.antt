@@ -22,7 +22,9 @@ use Rattle.seen.specs.declared.ColumnSeen.{ColumnSeen}
 use Rattle.seen.specs.declared.SmsSeen.{SmsSeen}
 use Rattle.seen.specs.declared.VolumeSeen.{VolumeSeen}
 use Rattle.writer.specs.declared.Written.{Written}
-use Rattle.writer.specs.Writing.{bodyOf, frameOf, writtenOf, roomAfter}
+use Rattle.command.specs.Order.{plain}
+use Rattle.command.specs.Spell.{spelling}
+use Rattle.writer.specs.Writing.{frameOf, writtenOf, roomAfter}
 use Rattle.verdict.specs.declared.Verdict.{Verdict}
 use Rattle.choice.specs.declared.Choice.{Choice}
 use Rattle.choice.specs.Rules.{ruleNumber}
@@ -73,12 +75,12 @@ writtenIn w = countWith (w .number) (w .count)
 -- a kind that is not known is a command out of range: number 2, and nothing is written
 abbrev pub commandWritten : ℕ → ℕ → ℕ → List ℕ → ProvedCount
 commandWritten kind a b room =
-    cond (leb kind lastKind) (writtenIn (writtenOf (commandInRange mostRows (commandOf kind a b)) (frameOf (bodyOf (commandOf kind a b))) room))
+    cond (leb kind lastKind) (writtenIn (writtenOf (commandInRange mostRows (commandOf kind a b)) (frameOf (spelling (plain (commandOf kind a b)))) room))
     (record { number = 2; count = 0 })
 
 abbrev pub commandRoom : ℕ → ℕ → ℕ → List ℕ → List ℕ
 commandRoom kind a b room =
-    cond (leb kind lastKind) (roomAfter (commandInRange mostRows (commandOf kind a b)) (frameOf (bodyOf (commandOf kind a b))) room) room
+    cond (leb kind lastKind) (roomAfter (commandInRange mostRows (commandOf kind a b)) (frameOf (spelling (plain (commandOf kind a b)))) room) room
 
 abbrev pub judgedIn : Verdict → ProvedVerdict
 judgedIn v = record { verdict = verdictNumbers v .0; value = verdictNumbers v .1 }

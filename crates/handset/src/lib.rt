@@ -15,7 +15,9 @@ ghost use Rattle.seen.specs.Rows.{rowSeen, smsSeen, volumeSeen};
 ghost use Rattle.seen.specs.Columns.{columnSeen};
 ghost use Rattle.answer_room.specs.Needed.{roomNeeded};
 ghost use Rattle.writer_ranges.specs.Fitting.{isLabel, isRow};
-ghost use Rattle.writer.specs.Writing.{labelBody, rowBody, frameOf, roomAfter, writtenOf};
+ghost use Rattle.command.specs.Order.{label, draw};
+ghost use Rattle.command.specs.Spell.{spelling};
+ghost use Rattle.writer.specs.Writing.{frameOf, roomAfter, writtenOf};
 ghost use Rattle.verdict.specs.Verdict.{verdictOf};
 ghost use Rattle.choice.specs.Choice.{choiceOf};
 ghost use Rattle.handset_numbers.specs.Numbers.{phaseOf, sideOf};
@@ -550,16 +552,16 @@ pub extern "C" fn proved_write_command(kind: u8, a: u16, b: u16, room: &mut [u8]
 
 #[no_mangle]
 pub extern "C" fn proved_write_label(side: u8, codes: &[u8], room: &mut [u8]) -> ProvedCount
-    ensures same { λ q. ⌜ q ≡ writtenIn (writtenOf (isLabel (now (codes .entry))) (frameOf (labelBody (sideOf side) (now (codes .entry)))) (now (room .entry))) ⌝ }
-    ensures left { λ _. ⌜ now (room .exit) ≡ roomAfter (isLabel (now (codes .entry))) (frameOf (labelBody (sideOf side) (now (codes .entry)))) (now (room .entry)) ⌝ }
+    ensures same { λ q. ⌜ q ≡ writtenIn (writtenOf (isLabel (now (codes .entry))) (frameOf (spelling (label (sideOf side) (now (codes .entry))))) (now (room .entry))) ⌝ }
+    ensures left { λ _. ⌜ now (room .exit) ≡ roomAfter (isLabel (now (codes .entry))) (frameOf (spelling (label (sideOf side) (now (codes .entry))))) (now (room .entry)) ⌝ }
 {
     written_in(writer::write_label(handset_numbers::side_of(side), codes, room))
 }
 
 #[no_mangle]
 pub extern "C" fn proved_write_picture_row(row: u8, columns: &[u8], room: &mut [u8]) -> ProvedCount
-    ensures same { λ q. ⌜ q ≡ writtenIn (writtenOf (isRow row (now (columns .entry))) (frameOf (rowBody row (now (columns .entry)))) (now (room .entry))) ⌝ }
-    ensures left { λ _. ⌜ now (room .exit) ≡ roomAfter (isRow row (now (columns .entry))) (frameOf (rowBody row (now (columns .entry)))) (now (room .entry)) ⌝ }
+    ensures same { λ q. ⌜ q ≡ writtenIn (writtenOf (isRow row (now (columns .entry))) (frameOf (spelling (draw row (now (columns .entry))))) (now (room .entry))) ⌝ }
+    ensures left { λ _. ⌜ now (room .exit) ≡ roomAfter (isRow row (now (columns .entry))) (frameOf (spelling (draw row (now (columns .entry))))) (now (room .entry)) ⌝ }
 {
     written_in(writer::write_picture_row(row, columns, room))
 }

@@ -7,13 +7,15 @@ use lib.ListN.{length, replicate}
 use Rattle.lists.specs.Codes.{ascii, escape, carriageReturn, lineFeed}
 use Rattle.record.specs.Number.{paperNumber}
 use Rattle.picture.specs.Writing.{hexCode, itemText}
+use Rattle.command.specs.Order.{plain, label, draw}
 use Rattle.command.specs.InRange.{commandInRange, mostRows}
+use Rattle.command.specs.Spell.{spelling}
 use Rattle.command.specs.declared.Command.{Command}
 use Rattle.command.specs.declared.Command.the-variants.{DisplayOn, Mode, Position, LabelsEmpty, IconU, IconP, HandsfreeOfNote, KeyTimes, Light, LightOn, KeypadSet, Contrast, ContrastAsked, HookAsked, VersionAsked, ClearLine, Inverse}
 use Rattle.command.specs.declared.Side.{Side}
 use Rattle.command.specs.declared.Side.the-variants.{Left, Right}
 use Rattle.writer_ranges.specs.Fitting.{isLabel, isRow}
-use Rattle.writer.specs.Writing.{bodyOf, labelBody, rowBody, frameOf, writtenOf, roomAfter}
+use Rattle.writer.specs.Writing.{frameOf, writtenOf, roomAfter}
 
 -- the number handed back, the count, and then all that stands in the room
 abbrev seen : Bool → List ℕ → List ℕ → List ℕ
@@ -27,13 +29,13 @@ abbrev roomOf : ℕ → List ℕ
 roomOf n = replicate n mark
 
 abbrev commandIn : ℕ → Command → List ℕ
-commandIn n c = seen (commandInRange mostRows c) (frameOf (bodyOf c)) (roomOf n)
+commandIn n c = seen (commandInRange mostRows c) (frameOf (spelling (plain c))) (roomOf n)
 
 abbrev labelIn : ℕ → Side → List ℕ → List ℕ
-labelIn n side codes = seen (isLabel codes) (frameOf (labelBody side codes)) (roomOf n)
+labelIn n side codes = seen (isLabel codes) (frameOf (spelling (label side codes))) (roomOf n)
 
 abbrev rowIn : ℕ → ℕ → List ℕ → List ℕ
-rowIn n row columns = seen (isRow row columns) (frameOf (rowBody row columns)) (roomOf n)
+rowIn n row columns = seen (isRow row columns) (frameOf (spelling (draw row columns))) (roomOf n)
 
 -- done: ESC, this, CR LF, and then so many marks that were there before
 abbrev done : List ℕ → ℕ → List ℕ

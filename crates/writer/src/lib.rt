@@ -9,9 +9,11 @@ ghost use lib.ListN.{length, drop};
 ghost use Rattle.lists.specs.Codes.{escape, carriageReturn, lineFeed};
 ghost use Rattle.numeral.specs.Numeral.{decimal};
 ghost use Rattle.picture.specs.Writing.{encode};
+ghost use Rattle.command.specs.Order.{plain, label, draw};
 ghost use Rattle.command.specs.InRange.{commandInRange, mostRows};
+ghost use Rattle.command.specs.Spell.{spelling};
 ghost use Rattle.writer_ranges.specs.Fitting.{isLabel, isRow};
-ghost use Rattle.writer.specs.Writing.{bodyOf, labelBody, rowBody, frameOf, writtenOf, roomAfter};
+ghost use Rattle.writer.specs.Writing.{frameOf, writtenOf, roomAfter};
 ghost use Rattle.writer.specs.Lines.{held, Added, planBody};
 use command::Command;
 use command::Side;
@@ -91,7 +93,7 @@ fn add_number(line: Line, n: u16) -> Line
 }
 
 fn plan_of(c: Command) -> Plan
-    ensures { λ r. ⌜ planBody r ≡ bodyOf c ⌝ }
+    ensures { λ r. ⌜ planBody r ≡ spelling (plain c) ⌝ }
 {
     match c {
         Command::DisplayOff => Plan::ThreeSigns(b'I', b'D', b'D'),
@@ -154,7 +156,7 @@ fn add_plan(line: Line, plan: Plan) -> Line
 // The body of a label's frame.
 fn add_label(line: Line, side: Side, codes: &[u8]) -> Line
     requires { ⌜ (line .len ≤ 1) × (length (now codes) ≤ 7) ⌝ }
-    ensures { λ r. ⌜ Added line (labelBody side (now (codes .entry))) 10 r ⌝ }
+    ensures { λ r. ⌜ Added line (spelling (label side (now (codes .entry)))) 10 r ⌝ }
 {
     match side {
         Side::Left => add(add(line, b"IK1"), codes),
@@ -176,7 +178,7 @@ fn add_data(line: Line, columns: &[u8]) -> Line
 // The body of a picture row's frame.
 fn add_row(line: Line, row: u8, columns: &[u8]) -> Line
     requires { ⌜ (line .len ≤ 1) × (row ≤ 6) × (length (now columns) ≤ 96) ⌝ }
-    ensures { λ r. ⌜ Added line (rowBody row (now (columns .entry))) 197 r ⌝ }
+    ensures { λ r. ⌜ Added line (spelling (draw row (now (columns .entry)))) 197 r ⌝ }
 {
     add(
         add_data(add(line, &[b'G', b'r', b'0' + row, b',']), columns),
@@ -221,8 +223,8 @@ fn deliver(line: Line, room: &mut [u8]) -> Written
 
 // The frame of a command.
 pub fn write_command(c: Command, room: &mut [u8]) -> Written
-    ensures same { λ r. ⌜ r ≡ writtenOf (commandInRange mostRows c) (frameOf (bodyOf c)) (now (room .entry)) ⌝ }
-    ensures left { λ _. ⌜ now (room .exit) ≡ roomAfter (commandInRange mostRows c) (frameOf (bodyOf c)) (now (room .entry)) ⌝ }
+    ensures same { λ r. ⌜ r ≡ writtenOf (commandInRange mostRows c) (frameOf (spelling (plain c))) (now (room .entry)) ⌝ }
+    ensures left { λ _. ⌜ now (room .exit) ≡ roomAfter (commandInRange mostRows c) (frameOf (spelling (plain c))) (now (room .entry)) ⌝ }
 {
     if in_range(c, MOST_ROWS) {
         return deliver(add_plan(opened(), plan_of(c)), room);
@@ -235,8 +237,8 @@ pub fn write_command(c: Command, room: &mut [u8]) -> Written
 
 // The frame of a soft-key label.
 pub fn write_label(side: Side, codes: &[u8], room: &mut [u8]) -> Written
-    ensures same { λ r. ⌜ r ≡ writtenOf (isLabel (now (codes .entry))) (frameOf (labelBody side (now (codes .entry)))) (now (room .entry)) ⌝ }
-    ensures left { λ _. ⌜ now (room .exit) ≡ roomAfter (isLabel (now (codes .entry))) (frameOf (labelBody side (now (codes .entry)))) (now (room .entry)) ⌝ }
+    ensures same { λ r. ⌜ r ≡ writtenOf (isLabel (now (codes .entry))) (frameOf (spelling (label side (now (codes .entry))))) (now (room .entry)) ⌝ }
+    ensures left { λ _. ⌜ now (room .exit) ≡ roomAfter (isLabel (now (codes .entry))) (frameOf (spelling (label side (now (codes .entry))))) (now (room .entry)) ⌝ }
 {
     if label_in_range(codes) {
         return deliver(add_label(opened(), side, codes), room);
@@ -249,8 +251,8 @@ pub fn write_label(side: Side, codes: &[u8], room: &mut [u8]) -> Written
 
 // The frame of a picture row, from its first column on.
 pub fn write_picture_row(row: u8, columns: &[u8], room: &mut [u8]) -> Written
-    ensures same { λ r. ⌜ r ≡ writtenOf (isRow row (now (columns .entry))) (frameOf (rowBody row (now (columns .entry)))) (now (room .entry)) ⌝ }
-    ensures left { λ _. ⌜ now (room .exit) ≡ roomAfter (isRow row (now (columns .entry))) (frameOf (rowBody row (now (columns .entry)))) (now (room .entry)) ⌝ }
+    ensures same { λ r. ⌜ r ≡ writtenOf (isRow row (now (columns .entry))) (frameOf (spelling (draw row (now (columns .entry))))) (now (room .entry)) ⌝ }
+    ensures left { λ _. ⌜ now (room .exit) ≡ roomAfter (isRow row (now (columns .entry))) (frameOf (spelling (draw row (now (columns .entry))))) (now (room .entry)) ⌝ }
 {
     if row_in_range(row, columns) {
         return deliver(add_row(opened(), row, columns), room);

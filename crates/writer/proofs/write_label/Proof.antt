@@ -3,7 +3,9 @@ use native.Mathlib.Omega.{arith}
 use mathlib.Core.Path.{refl, sym, _∙_}
 use denote.Ref.{now}
 use Rattle.writer_ranges.specs.Fitting.{isLabel}
-use Rattle.writer.specs.Writing.{labelBody, frameOf}
+use Rattle.command.specs.Order.{label}
+use Rattle.command.specs.Spell.{spelling}
+use Rattle.writer.specs.Writing.{frameOf}
 use Rattle.writer.specs.Laws.{label-told}
 use Rattle.writer.proofs.Delivering.{refused, framed, delivered}
 use borrow.Author.Needs.{needs}
@@ -17,7 +19,7 @@ write-label-spec = tie.close (tie.spec
     (omega (arith, c .opened .ensures .1), omega arith))
     (λ c κs. search needs) (λ c. search needs)
     (λ c. let start = c .before .before .before .before .before .before .before .before .before .before .args in
-    let body = labelBody (start .side) (now (start .codes)) in
+    let body = spelling (label (start .side) (now (start .codes))) in
     delivered (isLabel (now (start .codes))) _ body (now (start .room)) (sym (c .before .before .before .before .before .before .before .label-in-range .ensures) ∙ c .before .before .before .before .before .before .if1 .taken) (framed body (c .before .before .before .before .before .opened .ensures .0) (c .before .before .before .before .add-label .ensures) refl) (c .before .before .deliver .ensures))
     (λ c. let start = c .before .before .before .before .args in
-    refused (frameOf (labelBody (start .side) (now (start .codes)))) (now (start .room)) (isLabel (now (start .codes))) (sym (c .before .label-in-range .ensures) ∙ c .if1 .left)))
+    refused (frameOf (spelling (label (start .side) (now (start .codes))))) (now (start .room)) (isLabel (now (start .codes))) (sym (c .before .label-in-range .ensures) ∙ c .if1 .left)))

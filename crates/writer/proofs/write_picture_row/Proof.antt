@@ -3,7 +3,9 @@ use native.Mathlib.Omega.{arith}
 use mathlib.Core.Path.{refl, sym, _∙_}
 use denote.Ref.{now}
 use Rattle.writer_ranges.specs.Fitting.{isRow}
-use Rattle.writer.specs.Writing.{rowBody, frameOf}
+use Rattle.command.specs.Order.{draw}
+use Rattle.command.specs.Spell.{spelling}
+use Rattle.writer.specs.Writing.{frameOf}
 use Rattle.writer.specs.Laws.{row-told}
 use Rattle.writer.proofs.Delivering.{refused, framed, delivered}
 use borrow.Author.Needs.{needs}
@@ -17,7 +19,7 @@ write-picture-row-spec = tie.close (tie.spec
     (omega (arith, c .opened .ensures .1), told .low, told .most))
     (λ c κs. search needs) (λ c. search needs)
     (λ c. let start = c .before .before .before .before .before .before .before .before .before .before .args in
-    let body = rowBody (start .row) (now (start .columns)) in
+    let body = spelling (draw (start .row) (now (start .columns))) in
     delivered (isRow (start .row) (now (start .columns))) _ body (now (start .room)) (sym (c .before .before .before .before .before .before .before .row-in-range .ensures) ∙ c .before .before .before .before .before .before .if1 .taken) (framed body (c .before .before .before .before .before .opened .ensures .0) (c .before .before .before .before .add-row .ensures) refl) (c .before .before .deliver .ensures))
     (λ c. let start = c .before .before .before .before .args in
-    refused (frameOf (rowBody (start .row) (now (start .columns)))) (now (start .room)) (isRow (start .row) (now (start .columns))) (sym (c .before .row-in-range .ensures) ∙ c .if1 .left)))
+    refused (frameOf (spelling (draw (start .row) (now (start .columns))))) (now (start .room)) (isRow (start .row) (now (start .columns))) (sym (c .before .row-in-range .ensures) ∙ c .if1 .left)))
