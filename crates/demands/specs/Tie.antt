@@ -17,6 +17,7 @@ use Rattle.record.specs.Parts.{together, smallOf}
 use Rattle.numeral.specs.Numeral as Numerals
 use Rattle.picture.specs.Reading.{columnsRead}
 use Rattle.picture.specs.Writing.{dataWritten}
+use Rattle.line.specs.Lines.{emptyLine, added, findsRoom, roomWith}
 use Rattle.command.specs.InRange.{rowsNamed, firstOut, numbersOf, commandInRange, mostRows}
 use Rattle.frame_table.specs.Run.{foundIn}
 use Rattle.command.specs.Reading.{readBy, readOf, orderBy, opensPicture, pictureOf}
@@ -87,6 +88,14 @@ use Rattle.picture.proofs.read_data as ReadData
 use Rattle.picture.proofs.read_data.Reads as ReadDataReads
 use Rattle.picture_writer.proofs.write_data as WriteData
 use Rattle.picture_writer.proofs.write_data.Reads as WriteDataReads
+use Rattle.line.proofs.empty as EmptyLine
+use Rattle.line.proofs.empty.Reads as EmptyLineReads
+use Rattle.line.proofs.add as AddCodes
+use Rattle.line.proofs.add.Reads as AddCodesReads
+use Rattle.line.proofs.add_number as AddNumber
+use Rattle.line.proofs.add_number.Reads as AddNumberReads
+use Rattle.line.proofs.copy as CopyLine
+use Rattle.line.proofs.copy.Reads as CopyLineReads
 use Rattle.command_ranges.proofs.rows_named as RowsNamed
 use Rattle.command_ranges.proofs.rows_named.Reads as RowsNamedReads
 use Rattle.command_ranges.proofs.number_out as NumberOut
@@ -362,6 +371,24 @@ read-data-says κs a q e w = (refl, refl)
 -- picture_writer::write_data
 pub write-data-says : Says WriteData.ended WriteDataReads.requires WriteDataReads.ensures (λ κs a q e. q ≡ dataWritten (now (a .0)))
 write-data-says κs a q e w = (refl, refl)
+
+-- line::empty
+pub empty-line-says : Says EmptyLine.ended EmptyLineReads.requires EmptyLineReads.ensures (λ κs a q e. q ≡ emptyLine)
+empty-line-says κs a q e w = (refl, refl)
+
+-- line::add
+pub add-codes-says : Says AddCodes.ended AddCodesReads.requires AddCodesReads.ensures (λ κs a q e. q ≡ added (a .0) (now (a .1 .0)))
+add-codes-says κs a q e w = (refl, refl)
+
+-- line::add_number
+pub add-number-says : Says AddNumber.ended AddNumberReads.requires AddNumberReads.ensures (λ κs a q e. q ≡ added (a .0) (Numerals.decimal (a .1 .0)))
+add-number-says κs a q e w = (refl, refl)
+
+-- line::copy
+pub copy-line-says : SaysBoth CopyLine.ended CopyLineReads.requires CopyLineReads.ensures
+    (λ κs a q e. q ≡ findsRoom (a .0) (now (a .1 .0)))
+    (λ κs a q e. now (e .1 .0) ≡ roomWith (a .0) (now (a .1 .0)))
+copy-line-says κs a q e w = (refl, refl)
 
 -- command_ranges::rows_named
 pub rows-named-says : Says RowsNamed.ended RowsNamedReads.requires RowsNamedReads.ensures (λ κs a q e. q ≡ rowsNamed (a .0))

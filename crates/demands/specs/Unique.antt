@@ -45,6 +45,14 @@ use Rattle.picture.proofs.read_data as ReadData
 use Rattle.picture.proofs.read_data.Reads as ReadDataReads
 use Rattle.picture_writer.proofs.write_data as WriteData
 use Rattle.picture_writer.proofs.write_data.Reads as WriteDataReads
+use Rattle.line.proofs.empty as EmptyLine
+use Rattle.line.proofs.empty.Reads as EmptyLineReads
+use Rattle.line.proofs.add as AddCodes
+use Rattle.line.proofs.add.Reads as AddCodesReads
+use Rattle.line.proofs.add_number as AddNumber
+use Rattle.line.proofs.add_number.Reads as AddNumberReads
+use Rattle.line.proofs.copy as CopyLine
+use Rattle.line.proofs.copy.Reads as CopyLineReads
 use Rattle.command_ranges.proofs.rows_named as RowsNamed
 use Rattle.command_ranges.proofs.rows_named.Reads as RowsNamedReads
 use Rattle.command_ranges.proofs.number_out as NumberOut
@@ -304,6 +312,22 @@ read-data-one = equal ReadData.ended _
 -- picture_writer::write_data
 pub write-data-one : OneResult WriteData.ended WriteDataReads.Learnt
 write-data-one = equal WriteData.ended _
+
+-- line::empty
+pub empty-line-one : OneResult EmptyLine.ended EmptyLineReads.Learnt
+empty-line-one = equal EmptyLine.ended _
+
+-- line::add
+pub add-codes-one : OneResult AddCodes.ended AddCodesReads.Learnt
+add-codes-one = equal AddCodes.ended _
+
+-- line::add_number
+pub add-number-one : OneResult AddNumber.ended AddNumberReads.Learnt
+add-number-one = equal AddNumber.ended _
+
+-- line::copy
+pub copy-line-one : OneEnd CopyLine.ended (List ℕ) CopyLineReads.Learnt (λ κs e. now (e .1 .0))
+copy-line-one = equal-and-left CopyLine.ended _ _ _ _
 
 -- command_ranges::rows_named
 pub rows-named-one : OneResult RowsNamed.ended RowsNamedReads.Learnt

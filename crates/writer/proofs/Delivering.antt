@@ -1,40 +1,59 @@
 -- What is handed back and left in the room, by what the writer's tests said. Assumes nothing.
-use Prim.Native.Nat.{ℕ, _<_, _≤_}
+use Prim.Native.Nat.{ℕ, _+_, _≤_}
+use native.Mathlib.Omega.{arith}
 use mathlib.Core.Bool.{Bool, true, false}
 use mathlib.Core.List.{List, [], _∷_, _++_}
-use mathlib.Core.Path.{_≡_, _∙_, ap}
-use lib.ListN.{length, drop}
-use borrow.Author.Tests.{le-leb, lt-leb}
+use mathlib.Core.Path.{_≡_, _∙_, ap, sym}
+use lib.Dec.{leb}
+use lib.ListN.{length}
 use Rattle.lists.specs.Codes.{escape, carriageReturn, lineFeed}
 use Rattle.record.specs.Number.{numbered}
-use Rattle.writer.specs.declared.Line.{Line}
+use Rattle.line.specs.declared.Line.{Line}
+use Rattle.line.specs.Lines.{held, emptyLine, added, findsRoom, roomWith}
+use Rattle.line.specs.Laws.{Added, adding, then, held-added, held-from-empty, length-held, finds-room, room-with}
 use Rattle.writer.specs.declared.Written.{Written}
 use Rattle.writer.specs.Writing.{frameOf, reply, writtenOf, roomAfter}
-use Rattle.writer.specs.Lines.{held, Added}
 
 -- what is handed back and a room that are the right ones
 abbrev pub Right : Bool → List ℕ → List ℕ → Written → List ℕ → Type 0
 Right ok frame room written after = (written ≡ writtenOf ok frame room) × (after ≡ roomAfter ok frame room)
 
-module _ (frame room : List ℕ) where
-  pub refused : (ok : Bool) → ok ≡ false → Right ok frame room (reply (numbered 2) 0) room
-  unfolding writtenOf roomAfter
-  refused ok e = (rw e, rw e)
+pub refused : (frame room : List ℕ) (ok : Bool) → ok ≡ false → Right ok frame room (reply (numbered 2) 0) room
+unfolding writtenOf roomAfter
+refused frame room ok e = (rw e, rw e)
 
-  pub no-room : (n : ℕ) → n ≡ length frame → length room < n → Right true frame room (reply (numbered 3) 0) room
-  unfolding writtenOf roomAfter
-  no-room n e h = (rw (← e, lt-leb n (length room) h), rw (← e, lt-leb n (length room) h))
+-- a line to which CR LF was added
+pub ended : (line : Line) {next : Line} → length (line .bytes) ≡ 200 → line .len + 2 ≤ 200 → next ≡ added line (carriageReturn ∷ lineFeed ∷ [])
+    → (held next ≡ held line ++ carriageReturn ∷ lineFeed ∷ []) × (next .len ≤ 200)
+ended line places h e =
+    let few = adding 2 e (omega arith) .longer in
+    (ap held e ∙ held-added line (carriageReturn ∷ lineFeed ∷ []) places h, omega arith)
 
-  pub wrote : (n : ℕ) (front : List ℕ) → n ≡ length frame → front ≡ frame → n ≤ length room → Right true frame room (reply (numbered 0) n) (front ++ drop n room)
-  unfolding writtenOf roomAfter
-  wrote n front e f h = (rw (← e, le-leb n (length room) h), rw (← e, le-leb n (length room) h, f))
+-- a line that was copied or found no room
+module _ (line : Line) (room : List ℕ) (places : length (line .bytes) ≡ 200) (few : line .len ≤ 200) {found : Bool} {after : List ℕ}
+    (finds : found ≡ findsRoom line room) (left : after ≡ roomWith line room) where
+  fits : found ≡ leb (length (held line)) (length room)
+  fits = finds ∙ finds-room line room places few
+
+  stands : after ≡ roomAfter true (held line) room
+  unfolding roomAfter
+  stands = left ∙ room-with line room places few
+
+  pub no-room : found ≡ false → Right true (held line) room (reply (numbered 3) 0) after
+  unfolding writtenOf
+  no-room e = (rw (sym fits ∙ e), stands)
+
+  pub wrote : found ≡ true → Right true (held line) room (reply (numbered 0) (line .len)) after
+  unfolding writtenOf
+  wrote e = (rw (sym fits ∙ e, length-held line room places few), stands)
 
 -- what a line holds that began with ESC, with its CR LF
-pub framed : {start line : Line} {codes : List ℕ} {k : ℕ} (body : List ℕ) → held start ≡ escape ∷ [] → Added start codes k line → codes ≡ body
+pub framed : {start line : Line} {codes : List ℕ} {k : ℕ} (body : List ℕ) → Added emptyLine (escape ∷ []) 1 start → Added start codes k line → k ≤ 197 → codes ≡ body
     → held line ++ carriageReturn ∷ lineFeed ∷ [] ≡ frameOf body
 unfolding frameOf
-framed {codes = codes} body e p f =
-    ap (λ (x : List ℕ). x ++ carriageReturn ∷ lineFeed ∷ []) (p .holds ∙ ap (λ (x : List ℕ). x ++ codes) e ∙ ap (λ (x : List ℕ). escape ∷ x) f)
+framed {codes = codes} body p q h f =
+    let all = then p q (omega arith) in
+    ap (λ (x : List ℕ). x ++ carriageReturn ∷ lineFeed ∷ []) (ap held (all .same) ∙ held-from-empty (escape ∷ codes) (omega (arith, all .most)) ∙ ap (λ (x : List ℕ). escape ∷ x) f)
 
 -- a frame in range that was delivered
 pub delivered : (ok : Bool) (line body room : List ℕ) {written : Written} {after : List ℕ} → ok ≡ true → line ≡ frameOf body

@@ -1,5 +1,5 @@
 pub mod Writing
 pub mod Laws
-pub mod Lines
+pub mod Plans
 pub mod Cases
 pub mod ReadBack

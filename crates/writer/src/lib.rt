@@ -5,23 +5,28 @@ ghost use mathlib.Core.Path.{_≡_};
 ghost use mathlib.Core.Bool.{true};
 ghost use mathlib.Core.List.{[], _∷_, _++_};
 ghost use Prim.Native.Nat.{_+_, _≤_};
-ghost use lib.ListN.{length, drop};
+ghost use lib.ListN.{length};
 ghost use Rattle.lists.specs.Codes.{escape, carriageReturn, lineFeed};
-ghost use Rattle.numeral.specs.Numeral.{decimal};
+ghost use Rattle.line.specs.Lines.{held, emptyLine};
+ghost use Rattle.line.specs.Laws.{Added};
 ghost use Rattle.picture.specs.Writing.{encode};
 ghost use Rattle.command.specs.Order.{plain, label, draw};
 ghost use Rattle.command.specs.InRange.{commandInRange, mostRows};
 ghost use Rattle.command.specs.Spell.{spelling};
 ghost use Rattle.writer_ranges.specs.Fitting.{isLabel, isRow};
 ghost use Rattle.writer.specs.Writing.{frameOf, writtenOf, roomAfter};
-ghost use Rattle.writer.specs.Lines.{held, Added, planBody};
+ghost use Rattle.writer.specs.Plans.{planBody};
 use command::Command;
 use command::Side;
 use command_ranges::in_range;
+use line::Line;
+use line::add;
+use line::add_number;
+use line::copy;
+use line::empty;
 use lists::CARRIAGE_RETURN;
 use lists::ESCAPE;
 use lists::LINE_FEED;
-use numeral::digits_of;
 use picture_writer::write_data;
 use record::Number;
 use writer_ranges::label_in_range;
@@ -36,12 +41,6 @@ pub struct Written {
     pub count: usize,
 }
 
-// A frame as it grows. The longest is a picture row's: ESC, Gr, the row, a comma, 192 codes, z, CR LF.
-struct Line {
-    len: usize,
-    bytes: [u8; 200],
-}
-
 // How a command's frame is made up: signs alone; I, a letter and a number; the key times; a place on the display.
 enum Plan {
     TwoSigns(u8, u8),
@@ -53,43 +52,9 @@ enum Plan {
 
 // A line that holds ESC.
 fn opened() -> Line
-    ensures { λ r. ⌜ (held r ≡ escape ∷ []) × (r .len ≡ 1) ⌝ }
+    ensures { λ r. ⌜ Added emptyLine (escape ∷ []) 1 r × (r .len ≡ 1) ⌝ }
 {
-    let mut bytes = [0u8; 200];
-    bytes[0] = ESCAPE;
-    Line {
-        len: 1,
-        bytes: bytes,
-    }
-}
-
-// More codes at the end of a line.
-fn add(line: Line, codes: &[u8]) -> Line
-    requires { ⌜ line .len + length (now codes) ≤ 200 ⌝ }
-    ensures { λ r. ⌜ Added line (now (codes .entry)) (length (now (codes .entry))) r ⌝ }
-{
-    let start = line.len;
-    let mut bytes = line.bytes;
-    let mut i = 0;
-    while i < codes.len() {
-        bytes[start + i] = codes[i];
-        i += 1;
-    }
-    Line {
-        len: start + i,
-        bytes: bytes,
-    }
-}
-
-// A number without leading zeros.
-fn add_number(line: Line, n: u16) -> Line
-    requires { ⌜ line .len + 3 ≤ 200 ⌝ }
-    ensures { λ r. ⌜ Added line (decimal n) 3 r ⌝ }
-{
-    let digits = digits_of(n);
-    let len = digits.len as usize;
-    let bytes = digits.bytes;
-    add(line, &bytes[..len])
+    add(empty(), &[ESCAPE])
 }
 
 fn plan_of(c: Command) -> Plan
@@ -166,7 +131,7 @@ fn add_label(line: Line, side: Side, codes: &[u8]) -> Line
 
 // The data of picture columns.
 fn add_data(line: Line, columns: &[u8]) -> Line
-    requires { ⌜ (line .len + 192 ≤ 200) × (length (now columns) ≤ 96) ⌝ }
+    requires { ⌜ length (now columns) ≤ 96 ⌝ }
     ensures { λ r. ⌜ Added line (encode (now (columns .entry))) 192 r ⌝ }
 {
     let data = write_data(columns);
@@ -186,20 +151,6 @@ fn add_row(line: Line, row: u8, columns: &[u8]) -> Line
     )
 }
 
-// A line into the room.
-fn copy(line: Line, room: &mut [u8])
-    requires { ⌜ (line .len ≤ length (now room)) × (line .len ≤ 200) ⌝ }
-    ensures { λ _. ⌜ now (room .exit) ≡ held line ++ drop (line .len) (now (room .entry)) ⌝ }
-{
-    let n = line.len;
-    let bytes = line.bytes;
-    let mut i = 0;
-    while i < n {
-        room[i] = bytes[i];
-        i += 1;
-    }
-}
-
 // A line with its CR LF into the room, where there is room for all of it.
 fn deliver(line: Line, room: &mut [u8]) -> Written
     requires { ⌜ line .len + 2 ≤ 200 ⌝ }
@@ -208,16 +159,15 @@ fn deliver(line: Line, room: &mut [u8]) -> Written
 {
     let frame = add(line, &[CARRIAGE_RETURN, LINE_FEED]);
     let n = frame.len;
-    if room.len() < n {
+    if copy(frame, room) {
         return Written {
-            number: Number::NoRoom,
-            count: 0,
+            number: Number::Done,
+            count: n,
         };
     }
-    copy(frame, room);
     Written {
-        number: Number::Done,
-        count: n,
+        number: Number::NoRoom,
+        count: 0,
     }
 }
 
