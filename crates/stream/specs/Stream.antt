@@ -131,8 +131,8 @@ pub record Closes (settings : Settings) (text picture : List ℕ) (state : ℕ) 
   pub quiet : isSilence (obeyed .answer) ≡ true
       → step handset (record { core = core settings text picture; frame = collecting state body }) carriageReturn ≡ quietly (record { core = core (obeyed .settings) text′ picture′; frame = noFrame })
   pub loud : isSilence (obeyed .answer) ≡ false
-      → step handset (record { core = core settings text picture; frame = collecting state body }) carriageReturn ≡ saying (answerFrom settings (obeyed .answer)) (record { core = core settings text′ picture′; frame = noFrame })
-  pub keeps : isSilence (obeyed .answer) ≡ false → core settings text picture ≡ core settings text′ picture′
+      → step handset (record { core = core settings text picture; frame = collecting state body }) carriageReturn ≡ saying (answerFrom (obeyed .settings) (obeyed .answer)) (record { core = core (obeyed .settings) text′ picture′; frame = noFrame })
+  pub keeps : isSilence (obeyed .answer) ≡ false → core settings text picture ≡ core (obeyed .settings) text′ picture′
   pub range : CoreInRange (core settings text picture) → CoreInRange (core (obeyed .settings) text′ picture′)
 
 -- what the loop leaves

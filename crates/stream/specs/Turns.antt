@@ -123,13 +123,11 @@ module _ (p : Settings) (t g : List ℕ) (state : ℕ) (body : List ℕ) where
     same-core′ : isSilence (o .answer) ≡ false → obeyOrder (core p t g) (orderOf body) ≡ core p t g
     same-core′ x = answered-same (core p t g) (orderOf body) (ap isSilence (sym (q .answer)) ∙ x)
 
-    loud-keeps : isSilence (o .answer) ≡ false → core p t g ≡ core p t′ g′
-    loud-keeps x =
-        let z : core (o .settings) t′ g′ ≡ core p t g = q .same ∙ same-core′ x in
-        λ j. record { settings = p; text = sym z j .text; picture = sym z j .picture }
+    loud-keeps : isSilence (o .answer) ≡ false → core p t g ≡ core (o .settings) t′ g′
+    loud-keeps x = sym (q .same ∙ same-core′ x)
 
-    told : isSilence (o .answer) ≡ false → step handset in-frame carriageReturn ≡ saying (answerFrom p (o .answer)) (record { core = core p t′ g′; frame = noFrame })
-    told x = closing ∙ (λ j. record { state = record { core = (same-core′ x ∙ loud-keeps x) j; frame = noFrame }; answers = answerFrom p (o .answer) })
+    told : isSilence (o .answer) ≡ false → step handset in-frame carriageReturn ≡ saying (answerFrom (o .settings) (o .answer)) (record { core = core (o .settings) t′ g′; frame = noFrame })
+    told x = closing ∙ (λ j. record { state = record { core = sym (q .same) j; frame = noFrame }; answers = answerFrom (loud-keeps x j .settings) (o .answer) })
 
     pub closes-whole : Closes p t g state body o t′ g′
     closes-whole = record { quiet = obeyed; loud = told; keeps = loud-keeps; range = λ k. rw (q .same) (obey-keeps (core p t g) body k) }
@@ -165,11 +163,8 @@ module _ (p : Settings) (t g : List ℕ) (state len : ℕ) (fr : List ℕ) (b : 
     pub turn-quiet : isSilence (o .answer) ≡ true → step handset (standing p t g state len fr) b ≡ quietly (standing (o .settings) t′ g′ 0 0 fr)
     turn-quiet x = ended ∙ k .quiet x ∙ inSilence (core (o .settings) t′ g′) (sym (shows-noFrame 0 0 fr refl))
 
-    pub loud-return : isSilence (o .answer) ≡ false → step handset (standing p t g state len fr) b ≡ saying (answerFrom p (o .answer)) (standing p t′ g′ 0 0 fr)
-    loud-return x = ended ∙ k .loud x ∙ answered (answerFrom p (o .answer)) (core p t′ g′) (sym (shows-noFrame 0 0 fr refl))
-
-    pub range-loud : isSilence (o .answer) ≡ false → CoreInRange (core p t g) → CoreInRange (core p t′ g′)
-    range-loud x r = rw (← k .keeps x) r
+    pub loud-return : isSilence (o .answer) ≡ false → step handset (standing p t g state len fr) b ≡ saying (answerFrom (o .settings) (o .answer)) (standing (o .settings) t′ g′ 0 0 fr)
+    loud-return x = ended ∙ k .loud x ∙ answered (answerFrom (o .settings) (o .answer)) (core (o .settings) t′ g′) (sym (shows-noFrame 0 0 fr refl))
 
   -- any other byte in a frame
   pub turn-collect : Fits state len fr → state ≡ 1 → (b ≡ escape → ⊥) → (b ≡ carriageReturn → ⊥) → len < limit → step handset (standing p t g state len fr) b ≡ quietly (standing p t g state (len + 1) (set fr len b))

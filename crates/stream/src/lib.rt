@@ -231,9 +231,9 @@ fn read(
         if b == CARRIAGE_RETURN {
             let o = close(settings, text, picture, &frame[..len], state, class, next);
             let said = o.answer;
+            let obeyed = o.settings;
+            settings = obeyed;
             if answer::is_silence(said) {
-                let obeyed = o.settings;
-                settings = obeyed;
                 state = NO_FRAME;
                 len = 0;
                 i += 1;

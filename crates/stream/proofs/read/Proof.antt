@@ -8,7 +8,7 @@ use Rattle.parting.specs.Reading.{step}
 use Rattle.turns.specs.Loop.{go-start, go-end}
 use Rattle.answer.specs.declared.Answer.the-variants.{QuestionMark}
 use Rattle.stream.specs.Stream.{handset, standing, answerFrom}
-use Rattle.stream.specs.Turns.{Going, go-quiet, go-loud, go-halt, same-core, fits-none, fits-open, turn-open, turn-skip, loud-esc, turn-quiet, loud-return, range-loud, turn-over, turn-lost, in-place}
+use Rattle.stream.specs.Turns.{Going, go-quiet, go-loud, go-halt, same-core, fits-none, fits-open, turn-open, turn-skip, loud-esc, turn-quiet, loud-return, turn-over, turn-lost, in-place}
 use Rattle.answer.specs.Laws.{answer-not-empty, room-stays}
 use borrow.Author.Needs.{needs}
 use Rattle.stream.proofs.read.Statement.{statement}
@@ -53,21 +53,21 @@ read-spec = tie.close (tie.spec Inv-loop μ-loop
     (λ c. let v = c .before .before .before .before .before .before .before .before .before .before .before .before .loop in
     let k = c .before .before .before .close .ensures in
     go-quiet (v .inv) (let t = c .before .before .before .before .before .before .before .before .before .before .before .loop-test in omega arith) (k .range (v .inv .range)) (fits-none 0 (v .frame) (omega arith) (v .inv .fits .full))
-    (turn-quiet (v .settings) (v .text) (v .picture) (v .state) (v .len) (v .frame) _ (c .before .before .before .before .before .before .before .before .before .if1 .left) (c .before .before .before .before .before .before .before .if6 .taken) k (sym (c .before .before .is-silence .ensures) ∙ c .before .if7 .taken)))
+    (turn-quiet (v .settings) (v .text) (v .picture) (v .state) (v .len) (v .frame) _ (c .before .before .before .before .before .before .before .before .before .if1 .left) (c .before .before .before .before .before .before .before .if6 .taken) k (sym (c .before .is-silence .ensures) ∙ c .if7 .taken)))
     (λ c κs. search needs)
-    (λ c. let t = c .before .before .before .before .before .before .before .before .before .before .before .before .before .before .before .loop-test in let g = c .before .before .before .before .before .before .before .before .before .before .before .before .before .before .before .before .before .before .before .before .good .1 .1 .1 .1 .1 .1 .0 .0 in record { fits = omega arith })
+    (λ c. let t = c .before .before .before .before .before .before .before .before .before .before .before .before .before .before .before .before .loop-test in let g = c .before .before .before .before .before .before .before .before .before .before .before .before .before .before .before .before .before .before .before .before .before .good .1 .1 .1 .1 .1 .1 .0 .0 in record { fits = omega arith })
     (λ c. search needs)
-    (λ c. let v = c .before .before .before .before .before .before .before .before .before .before .before .before .before .before .before .before .loop in
-    let k = c .before .before .before .before .before .before .before .close .ensures in
+    (λ c. let v = c .before .before .before .before .before .before .before .before .before .before .before .before .before .before .before .before .before .loop in
+    let k = c .before .before .before .before .before .before .before .before .close .ensures in
     let loud = sym (c .before .before .before .before .before .before .is-silence .ensures) ∙ c .before .before .before .before .before .if7 .left in
-    go-loud (v .inv) (let t = c .before .before .before .before .before .before .before .before .before .before .before .before .before .before .before .loop-test in omega arith) (range-loud (v .settings) (v .text) (v .picture) (v .state) (v .len) (v .frame) _ (c .before .before .before .before .before .before .before .before .before .before .before .before .before .if1 .left) (c .before .before .before .before .before .before .before .before .before .before .before .if6 .taken) k loud (v .inv .range)) (fits-none 0 (v .frame) (omega arith) (v .inv .fits .full))
-    (loud-return (v .settings) (v .text) (v .picture) (v .state) (v .len) (v .frame) _ (c .before .before .before .before .before .before .before .before .before .before .before .before .before .if1 .left) (c .before .before .before .before .before .before .before .before .before .before .before .if6 .taken) k loud) (c .before .before .before .say2 .ensures .0) (c .before .before .before .say2 .ensures .1) (c .if8 .taken))
-    (λ c. c .before .before .before .before .before .before .before .before .before .before .before .before .before .before .before .before .loop .inv .fits .full ∙ sym (c .before .before .before .before .before .before .before .before .before .before .before .before .before .before .before .before .before .before .before .before .pre .0 .fits .full))
-    (λ c. let v = c .before .before .before .before .before .before .before .before .before .before .before .before .before .before .before .before .loop in ap length (c .before .before .before .say2 .ensures .1) ∙ room-stays (v .answers) (v .w) (answerFrom (v .settings) (c .before .before .before .before .before .before .before .close .result .answer)) ∙ v .inv .account .even)
-    (λ c. let v = c .before .before .before .before .before .before .before .before .before .before .before .before .before .before .before .before .loop in
-    let k = c .before .before .before .before .before .before .before .close .ensures in
+    go-loud (v .inv) (let t = c .before .before .before .before .before .before .before .before .before .before .before .before .before .before .before .before .loop-test in omega arith) (k .range (v .inv .range)) (fits-none 0 (v .frame) (omega arith) (v .inv .fits .full))
+    (loud-return (v .settings) (v .text) (v .picture) (v .state) (v .len) (v .frame) _ (c .before .before .before .before .before .before .before .before .before .before .before .before .before .before .if1 .left) (c .before .before .before .before .before .before .before .before .before .before .before .before .if6 .taken) k loud) (c .before .before .before .say2 .ensures .0) (c .before .before .before .say2 .ensures .1) (c .if8 .taken))
+    (λ c. c .before .before .before .before .before .before .before .before .before .before .before .before .before .before .before .before .before .loop .inv .fits .full ∙ sym (c .before .before .before .before .before .before .before .before .before .before .before .before .before .before .before .before .before .before .before .before .before .pre .0 .fits .full))
+    (λ c. let v = c .before .before .before .before .before .before .before .before .before .before .before .before .before .before .before .before .before .loop in ap length (c .before .before .before .say2 .ensures .1) ∙ room-stays (v .answers) (v .w) (answerFrom (c .before .before .before .before .before .before .before .before .close .result .settings) (c .before .before .before .before .before .before .before .before .close .result .answer)) ∙ v .inv .account .even)
+    (λ c. let v = c .before .before .before .before .before .before .before .before .before .before .before .before .before .before .before .before .before .loop in
+    let k = c .before .before .before .before .before .before .before .before .close .ensures in
     let loud = sym (c .before .before .before .before .before .before .is-silence .ensures) ∙ c .before .before .before .before .before .if7 .left in
-    record { account = same-core (k .keeps loud) (go-halt (v .inv) (let t = c .before .before .before .before .before .before .before .before .before .before .before .before .before .before .before .loop-test in omega arith) (loud-return (v .settings) (v .text) (v .picture) (v .state) (v .len) (v .frame) _ (c .before .before .before .before .before .before .before .before .before .before .before .before .before .if1 .left) (c .before .before .before .before .before .before .before .before .before .before .before .if6 .taken) k loud) (answer-not-empty (v .settings .contrast) (v .settings .hook) (c .before .before .before .before .before .before .before .close .result .answer) loud) (c .before .before .before .say2 .ensures .0) (c .before .before .before .say2 .ensures .1) (c .if8 .left)); fits = v .inv .fits })
+    record { account = same-core (k .keeps loud) (go-halt (v .inv) (let t = c .before .before .before .before .before .before .before .before .before .before .before .before .before .before .before .before .loop-test in omega arith) (loud-return (v .settings) (v .text) (v .picture) (v .state) (v .len) (v .frame) _ (c .before .before .before .before .before .before .before .before .before .before .before .before .before .before .if1 .left) (c .before .before .before .before .before .before .before .before .before .before .before .before .if6 .taken) k loud) (answer-not-empty _ _ (c .before .before .before .before .before .before .before .before .close .result .answer) loud) (c .before .before .before .say2 .ensures .0) (c .before .before .before .say2 .ensures .1) (c .if8 .left)); fits = v .inv .fits })
     (λ c. search needs) (λ c. search needs)
     (λ c. let v = c .before .before .before .before .before .before .loop in
     go-quiet (v .inv) (omega arith) (v .inv .range) (v .inv .fits) (turn-lost (v .settings) (v .text) (v .picture) (v .state) (v .len) (v .frame) _ (c .if9 .taken) (c .before .before .if4 .left) (c .before .if6 .left)))
