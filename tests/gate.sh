@@ -65,6 +65,16 @@ edit docs/exceptions.txt '$a\
 hook::lift nobody knows why'
 says "promises: an exception for a function that is not there" \
     'docs/exceptions.txt names hook::lift, and there is no such public function' .ci/promises "$work/copy"
+broken
+edit crates/explain/src/line.rt '/^pub fn changes(/,/^{/{/ensures/d}'
+says "promises: a program's public function without ensures" 'explain::changes promises nothing' .ci/promises "$work/copy"
+broken
+edit crates/explain/src/line.rt '/^pub fn changes(/,/^{/s/^{/    requires { ⌜ ⊥ ⌝ }\n{/'
+says "promises: a condition on a program's public function" 'explain::changes has a condition on its inputs' .ci/promises "$work/copy"
+broken
+edit docs/exceptions.txt '/^explain::tell_front/d'
+says "promises: a program's function that writes and is not listed" 'explain::tell_front has a condition on its inputs
+explain::tell_front promises nothing' .ci/promises "$work/copy"
 
 # ---- .ci/refusals ----
 

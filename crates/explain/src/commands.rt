@@ -1,5 +1,9 @@
 // Which fields a command sets, and what its numbers take.
 ghost use Prim.Native.Nat.{_≤_};
+ghost use mathlib.Core.Path.{_≡_};
+ghost use mathlib.Core.Bool.{cond};
+ghost use Rattle.command.specs.Ranges.{isOverlay};
+ghost use Rattle.explain.specs.Commands.{fieldsOf, labelOf, fieldOut};
 use crate::fields::Field;
 use crate::fields::Fields;
 use crate::fields::say_takes;
@@ -8,183 +12,104 @@ use crate::words::say_count;
 use command::Command;
 use command::Side;
 
-// The greatest number of a text mode: what is above is an overlay.
-const LAST_MODE: u16 = 10;
+// The overlays that a frame can name.
+const FIRST_OVERLAY: u16 = 11;
+
+const LAST_OVERLAY: u16 = 18;
+
+// One of two, by a test.
+fn either(test: bool, yes: Field, no: Field) -> Field
+    ensures { λ r. ⌜ r ≡ cond test yes no ⌝ }
+{
+    if test {
+        return yes;
+    }
+    no
+}
 
 // Frames that are obeyed.
 
-fn set_by_mode(n: u16) -> Fields {
-    if LAST_MODE < n {
-        return Fields {
-            first: Field::Overlay,
-            last: Field::Overlay,
-        };
-    }
-    Fields {
-        first: Field::Mode,
-        last: Field::Position,
+fn is_overlay(n: u16) -> bool
+    ensures { λ r. ⌜ r ≡ isOverlay n ⌝ }
+{
+    (FIRST_OVERLAY <= n) & (n <= LAST_OVERLAY)
+}
+
+fn first_of(c: Command) -> Field
+    ensures { λ r. ⌜ r ≡ fieldsOf c .first ⌝ }
+{
+    match c {
+        Command::DisplayOff => Field::Display,
+        Command::DisplayOn => Field::Display,
+        Command::CursorShown => Field::Cursor,
+        Command::CursorHidden => Field::Cursor,
+        Command::LabelsEmpty => Field::LeftLabel,
+        Command::LightOn => Field::Backlight,
+        Command::LightAutoStart => Field::Backlight,
+        Command::LightAuto => Field::Backlight,
+        Command::DefaultDuration => Field::Duration,
+        Command::KeypadSet => Field::Keypad,
+        Command::KeypadCleared => Field::Keypad,
+        Command::Clear => Field::Position,
+        Command::IconS(_) => Field::IconS,
+        Command::IconU(_) => Field::IconU,
+        Command::IconF(_) => Field::IconF,
+        Command::IconR(_) => Field::IconR,
+        Command::IconP(_) => Field::IconP,
+        Command::IconW(_) => Field::IconW,
+        Command::Private(_) => Field::Volume,
+        Command::Handsfree(_) => Field::Volume,
+        Command::HandsfreeOfNote(_) => Field::Volume,
+        Command::Buzzer(_) => Field::Buzzer,
+        Command::Contrast(_) => Field::Contrast,
+        Command::Inverse(_) => Field::Inverse,
+        Command::KeyTimes(_, _) => Field::Time1,
+        Command::Position(_, _) => Field::Position,
+        // These set no field, and are told by words of their own.
+        Command::ClearLine => Field::Nothing,
+        Command::ContrastAsked => Field::Nothing,
+        Command::HookAsked => Field::Nothing,
+        Command::VersionAsked => Field::Nothing,
+        // These go by their number. Mute on also shows the volume.
+        Command::Mode(n) => either(is_overlay(n), Field::Overlay, Field::Mode),
+        Command::Mute(n) => either(n == 0, Field::Mute, Field::Hidden),
+        Command::Light(n) => either(n == 0, Field::Backlight, Field::Duration),
     }
 }
 
-// Mute on also shows the volume.
-fn set_by_mute(n: u16) -> Fields {
-    if n == 0 {
-        return Fields {
-            first: Field::Mute,
-            last: Field::Mute,
-        };
-    }
-    Fields {
-        first: Field::Hidden,
-        last: Field::Mute,
-    }
-}
-
-fn set_by_light(n: u16) -> Fields {
-    if n == 0 {
-        return Fields {
-            first: Field::Backlight,
-            last: Field::SecondsLeft,
-        };
-    }
-    Fields {
-        first: Field::Duration,
-        last: Field::Duration,
+fn last_of(c: Command) -> Field
+    ensures { λ r. ⌜ r ≡ fieldsOf c .last ⌝ }
+{
+    match c {
+        Command::Mode(n) => either(is_overlay(n), Field::Overlay, Field::Position),
+        Command::Light(n) => either(n == 0, Field::SecondsLeft, Field::Duration),
+        Command::LabelsEmpty => Field::RightLabel,
+        Command::Private(_) => Field::Hidden,
+        Command::Handsfree(_) => Field::Hidden,
+        Command::HandsfreeOfNote(_) => Field::Hidden,
+        Command::Mute(_) => Field::Mute,
+        Command::KeyTimes(_, _) => Field::Time2,
+        Command::LightOn => Field::SecondsLeft,
+        Command::LightAutoStart => Field::SecondsLeft,
+        // One field alone.
+        _ => first_of(c),
     }
 }
 
 // The fields that a command sets.
-pub fn fields_of(c: Command) -> Fields {
-    match c {
-        Command::DisplayOff => Fields {
-            first: Field::Display,
-            last: Field::Display,
-        },
-        Command::DisplayOn => Fields {
-            first: Field::Display,
-            last: Field::Display,
-        },
-        Command::Mode(n) => set_by_mode(n),
-        Command::CursorShown => Fields {
-            first: Field::Cursor,
-            last: Field::Cursor,
-        },
-        Command::CursorHidden => Fields {
-            first: Field::Cursor,
-            last: Field::Cursor,
-        },
-        Command::LabelsEmpty => Fields {
-            first: Field::LeftLabel,
-            last: Field::RightLabel,
-        },
-        Command::IconS(_) => Fields {
-            first: Field::IconS,
-            last: Field::IconS,
-        },
-        Command::IconU(_) => Fields {
-            first: Field::IconU,
-            last: Field::IconU,
-        },
-        Command::IconF(_) => Fields {
-            first: Field::IconF,
-            last: Field::IconF,
-        },
-        Command::IconR(_) => Fields {
-            first: Field::IconR,
-            last: Field::IconR,
-        },
-        Command::IconP(_) => Fields {
-            first: Field::IconP,
-            last: Field::IconP,
-        },
-        Command::IconW(_) => Fields {
-            first: Field::IconW,
-            last: Field::IconW,
-        },
-        Command::Private(_) => Fields {
-            first: Field::Volume,
-            last: Field::Hidden,
-        },
-        Command::Handsfree(_) => Fields {
-            first: Field::Volume,
-            last: Field::Hidden,
-        },
-        Command::HandsfreeOfNote(_) => Fields {
-            first: Field::Volume,
-            last: Field::Hidden,
-        },
-        Command::Mute(n) => set_by_mute(n),
-        Command::KeyTimes(_, _) => Fields {
-            first: Field::Time1,
-            last: Field::Time2,
-        },
-        Command::Buzzer(_) => Fields {
-            first: Field::Buzzer,
-            last: Field::Buzzer,
-        },
-        Command::Light(n) => set_by_light(n),
-        Command::LightOn => Fields {
-            first: Field::Backlight,
-            last: Field::SecondsLeft,
-        },
-        Command::LightAutoStart => Fields {
-            first: Field::Backlight,
-            last: Field::SecondsLeft,
-        },
-        Command::LightAuto => Fields {
-            first: Field::Backlight,
-            last: Field::Backlight,
-        },
-        Command::DefaultDuration => Fields {
-            first: Field::Duration,
-            last: Field::Duration,
-        },
-        Command::KeypadSet => Fields {
-            first: Field::Keypad,
-            last: Field::Keypad,
-        },
-        Command::KeypadCleared => Fields {
-            first: Field::Keypad,
-            last: Field::Keypad,
-        },
-        Command::Contrast(_) => Fields {
-            first: Field::Contrast,
-            last: Field::Contrast,
-        },
-        Command::Inverse(_) => Fields {
-            first: Field::Inverse,
-            last: Field::Inverse,
-        },
-        Command::Clear => Fields {
-            first: Field::Position,
-            last: Field::Position,
-        },
-        Command::Position(_, _) => Fields {
-            first: Field::Position,
-            last: Field::Position,
-        },
-        // These set no field, and are told by words of their own.
-        Command::ClearLine => Fields {
-            first: Field::Nothing,
-            last: Field::Nothing,
-        },
-        Command::ContrastAsked => Fields {
-            first: Field::Nothing,
-            last: Field::Nothing,
-        },
-        Command::HookAsked => Fields {
-            first: Field::Nothing,
-            last: Field::Nothing,
-        },
-        Command::VersionAsked => Fields {
-            first: Field::Nothing,
-            last: Field::Nothing,
-        },
+pub fn fields_of(c: Command) -> Fields
+    ensures same { λ r. ⌜ r ≡ fieldsOf c ⌝ }
+{
+    Fields {
+        first: first_of(c),
+        last: last_of(c),
     }
 }
 
 // The field that a label's frame sets.
-pub fn label_of(side: Side) -> Fields {
+pub fn label_of(side: Side) -> Fields
+    ensures same { λ r. ⌜ r ≡ labelOf side ⌝ }
+{
     match side {
         Side::Left => Fields {
             first: Field::LeftLabel,
@@ -199,33 +124,17 @@ pub fn label_of(side: Side) -> Fields {
 
 // Frames that are passed over.
 
-// Which number of a cursor frame is out of range, and which of the key times: where it is the second, the first is in range and so another.
-fn of_position(row_is_out: bool) -> Field {
-    if row_is_out {
-        return Field::Row;
-    }
-    Field::Column
-}
-
-fn of_times(time1_is_out: bool) -> Field {
-    if time1_is_out {
-        return Field::Time1;
-    }
-    Field::Time2
-}
-
-// Which number of a command is out of range: its first one that is is `out`.
-pub fn field_out(c: Command, out: u16) -> Field {
+// Which number of a command is out of range: its first one that is is `out`. Where that is the second of two, the first is in range and
+// so another.
+pub fn field_out(c: Command, out: u16) -> Field
+    ensures same { λ r. ⌜ r ≡ fieldOut c out ⌝ }
+{
     match c {
-        Command::Mode(_) => Field::Mode,
-        Command::Position(row, _) => of_position(row == out),
-        Command::KeyTimes(time1, _) => of_times(time1 == out),
+        Command::Position(row, _) => either(row == out, Field::Row, Field::Column),
+        Command::KeyTimes(time1, _) => either(time1 == out, Field::Time1, Field::Time2),
         Command::Mute(_) => Field::Mute,
         Command::Inverse(_) => Field::Mark,
-        _ => {
-            let fields = fields_of(c);
-            fields.first
-        }
+        _ => first_of(c),
     }
 }
 

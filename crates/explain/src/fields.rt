@@ -1,7 +1,9 @@
 // The small fields of the record by name: what a field is called, what its value is called, what has changed. The words are read aloud
 // on the telephone, so a field has the same words in every line.
 ghost use Prim.Native.Nat.{_+_, _≤_, _<_};
+ghost use mathlib.Core.Path.{_≡_};
 ghost use lib.ListN.{length};
+ghost use Rattle.explain.specs.Sheet.{rowMarked, sheetOf};
 use crate::line::Part;
 use crate::line::changes;
 use crate::line::entry;
@@ -16,7 +18,6 @@ use crate::words::say_words;
 use lists::LINE_FEED;
 use record::LONGEST_LABEL;
 use record::Label;
-use record::Settings;
 use record::Small;
 
 // A field has a line of the table of words, in this order. Those that a frame sets together stand together, and the labels behind all
@@ -183,16 +184,14 @@ pub const ROW_AT: usize = 4;
 
 pub const COLUMN_AT: usize = 5;
 
-const LEFT_AT: usize = 46;
-
-const RIGHT_AT: usize = 54;
-
 const LABEL: usize = 8;
 
 const ROWS: usize = 5;
 
 // Which text row has the mark; past the last one if none has.
-fn marked(marks: [bool; ROWS]) -> u8 {
+fn marked(marks: [bool; ROWS]) -> u8
+    ensures { λ r. ⌜ r ≡ rowMarked marks ⌝ }
+{
     for row in 0..ROWS {
         if marks[row] {
             return row as u8;
@@ -201,20 +200,23 @@ fn marked(marks: [bool; ROWS]) -> u8 {
     ROWS as u8
 }
 
-// A label's length and codes.
-fn put_label(sheet: &mut Sheet, at: usize, label: Label)
-    requires { ⌜ at + 8 ≤ 62 ⌝ }
+// The codes of a label, of which there are seven.
+fn codes_of(label: Label) -> [u8; LONGEST_LABEL]
+    ensures { λ r. ⌜ (r ≡ label .codes) × (length r ≡ 7) ⌝ }
 {
-    let codes = label.codes;
-    sheet[at] = label.len;
-    for i in 0..LONGEST_LABEL {
-        let place = at + 1 + i;
-        sheet[place] = codes[i];
-    }
+    label.codes
 }
 
-// All but the labels, whose places are still 0. The mark is on this row, and past the last one if there is none.
-fn numbers_but_labels(p: Settings, mark: u8) -> Sheet {
+pub fn sheet_of(s: Small) -> Sheet
+    ensures same { λ r. ⌜ r ≡ sheetOf s ⌝ }
+{
+    let p = s.settings;
+    let marks = p.inverse;
+    let mark = marked(marks);
+    let left = p.left;
+    let right = p.right;
+    let left_codes = codes_of(left);
+    let right_codes = codes_of(right);
     [
         0,
         p.screen.mode,
@@ -262,34 +264,23 @@ fn numbers_but_labels(p: Settings, mark: u8) -> Sheet {
         p.contrast,
         (mark < ROWS as u8) as u8,
         mark,
-        0,
-        0,
-        0,
-        0,
-        0,
-        0,
-        0,
-        0,
-        0,
-        0,
-        0,
-        0,
-        0,
-        0,
-        0,
-        0,
+        left.len,
+        left_codes[0],
+        left_codes[1],
+        left_codes[2],
+        left_codes[3],
+        left_codes[4],
+        left_codes[5],
+        left_codes[6],
+        right.len,
+        right_codes[0],
+        right_codes[1],
+        right_codes[2],
+        right_codes[3],
+        right_codes[4],
+        right_codes[5],
+        right_codes[6],
     ]
-}
-
-pub fn sheet_of(s: Small) -> Sheet {
-    let p = s.settings;
-    let marks = p.inverse;
-    let left = p.left;
-    let right = p.right;
-    let mut sheet = numbers_but_labels(p, marked(marks));
-    put_label(&mut sheet, LEFT_AT, left);
-    put_label(&mut sheet, RIGHT_AT, right);
-    sheet
 }
 
 // Where the numbers of a field stand.

@@ -1,6 +1,8 @@
 // The parts of a line: its columns, words, numbers, and bytes in a form that can be read aloud.
 ghost use Prim.Native.Nat.{_≤_};
+ghost use mathlib.Core.Path.{_≡_};
 ghost use lib.ListN.{length};
+ghost use Rattle.explain.specs.Changes.{changesIn};
 use crate::words::ANSWERED;
 use crate::words::BLANKS;
 use crate::words::COLON;
@@ -215,14 +217,20 @@ pub fn say_if_overlong(length: u64) {
     }
 }
 
-// How many bytes have changed from one place up to another.
+// How many bytes have changed from one place up to another, of those places at which there is a byte before and after.
 pub fn changes(before: &[u8], after: &[u8], from: usize, to: usize) -> u64
-    requires { ⌜ (to ≤ length (now before)) × (to ≤ length (now after)) ⌝ }
+    ensures same { λ r. ⌜ r ≡ changesIn (now (before .entry)) (now (after .entry)) from to ⌝ }
 {
     let mut n = 0;
     for i in from..to {
+        if before.len() <= i {
+            return n;
+        }
+        if after.len() <= i {
+            return n;
+        }
         if before[i] != after[i] {
-            n = more(n, 1);
+            n += 1;
         }
     }
     n

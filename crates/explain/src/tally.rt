@@ -1,11 +1,13 @@
 // What is counted along a stream, and the line that sums up.
+ghost use mathlib.Core.Path.{_≡_};
+ghost use Prim.Native.Nat.{_-_};
+ghost use Rattle.explain.specs.Tally.{lengthOf, moreIf, tailPlace, tallyAfter};
 use crate::line::say_place;
 use crate::words;
 use crate::words::say_count;
 use crate::words::say_words;
 use parts::PartAt;
 use std::num::wrapping_add_u64 as more;
-use std::num::wrapping_sub_u64 as less;
 
 // What becomes of a part: its line in the tables of words.
 pub const STORED: usize = 0;
@@ -58,34 +60,67 @@ pub const NOTHING_COUNTED: Tally = Tally {
     tail_place: 0,
 };
 
+// How many bytes stand from one place up to another: none if that is no further.
+fn bytes_between(from: usize, to: usize) -> u64
+    ensures { λ r. ⌜ r ≡ to - from ⌝ }
+{
+    if to < from {
+        return 0;
+    }
+    (to - from) as u64
+}
+
 // How long a part is that is shown by its body, with the bytes that are held no longer.
-pub fn length_of(front: PartAt, dropped: u64) -> u64 {
-    let held = less(front.body_end as u64, front.body as u64);
-    more(held, dropped)
+pub fn length_of(front: PartAt, dropped: u64) -> u64
+    ensures same { λ r. ⌜ r ≡ lengthOf front dropped ⌝ }
+{
+    more(bytes_between(front.body, front.body_end), dropped)
+}
+
+// A count, with so many more if they are counted there.
+fn more_if(counts: bool, count: u64, n: u64) -> u64
+    ensures { λ r. ⌜ r ≡ moreIf counts count n ⌝ }
+{
+    if counts {
+        return more(count, n);
+    }
+    count
+}
+
+// An open frame is the tail.
+fn tail_place(tally: Tally, fate: usize) -> u64
+    ensures { λ r. ⌜ r ≡ tailPlace tally fate ⌝ }
+{
+    if fate == OPEN {
+        return tally.place;
+    }
+    tally.tail_place
 }
 
 // A part that began at a place of the window and was answered by so many bytes. The next one stands behind it.
-pub fn counted(mut tally: Tally, fate: usize, at: usize, front: PartAt, written: usize) -> Tally {
+pub fn counted(tally: Tally, fate: usize, at: usize, front: PartAt, written: usize) -> Tally
+    ensures same { λ r. ⌜ r ≡ tallyAfter tally fate at front written ⌝ }
+{
     let length = length_of(front, tally.dropped);
-    let whole = more(less(front.end as u64, at as u64), tally.dropped);
-    let answered = (0 < written) | (fate == BAD) | (fate == ABANDONED);
-    match fate {
-        STORED => tally.text = more(tally.text, length),
-        SKIPPED => tally.skipped = more(tally.skipped, length),
-        ABANDONED => tally.abandoned = more(tally.abandoned, 1),
-        BAD => tally.bad = more(tally.bad, 1),
-        PASSED_OVER => tally.passed_over = more(tally.passed_over, 1),
-        OBEYED => tally.obeyed = more(tally.obeyed, 1),
-        _ => {
-            tally.tail = true;
-            tally.tail_place = tally.place;
-        }
+    let whole = more(bytes_between(at, front.end), tally.dropped);
+    Tally {
+        place: more(tally.place, whole),
+        dropped: 0,
+        others: false,
+        text: more_if(fate == STORED, tally.text, length),
+        skipped: more_if(fate == SKIPPED, tally.skipped, length),
+        obeyed: more_if(fate == OBEYED, tally.obeyed, 1),
+        passed_over: more_if(fate == PASSED_OVER, tally.passed_over, 1),
+        bad: more_if(fate == BAD, tally.bad, 1),
+        abandoned: more_if(fate == ABANDONED, tally.abandoned, 1),
+        answers: more_if(
+            (0 < written) | (fate == BAD) | (fate == ABANDONED),
+            tally.answers,
+            1,
+        ),
+        tail: tally.tail | (fate == OPEN),
+        tail_place: tail_place(tally, fate),
     }
-    tally.answers = more(tally.answers, answered as u64);
-    tally.place = more(tally.place, whole);
-    tally.dropped = 0;
-    tally.others = false;
-    tally
 }
 
 // The line that sums up.

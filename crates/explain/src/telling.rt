@@ -1,6 +1,8 @@
 // What a part of the stream did: it is done to the record, told in a line, and counted.
 ghost use Prim.Native.Nat.{_≤_, _<_};
+ghost use mathlib.Core.Path.{_≡_};
 ghost use lib.ListN.{length};
+ghost use Rattle.explain.specs.Changes.{hasOthers};
 use crate::commands::field_out;
 use crate::commands::say_range;
 use crate::doings::say_obeyed;
@@ -92,11 +94,14 @@ fn say_part(fate: usize, place: u64, length: u64, mode: u8, body: &[u8])
 }
 
 // Whether any of these codes is no line end.
-pub fn has_others(codes: &[u8]) -> bool {
+pub fn has_others(codes: &[u8]) -> bool
+    ensures same { λ r. ⌜ r ≡ hasOthers (now (codes .entry)) ⌝ }
+{
     for i in 0..codes.len() {
-        if (codes[i] != CARRIAGE_RETURN) & (codes[i] != LINE_FEED) {
-            return true;
+        if (codes[i] == CARRIAGE_RETURN) | (codes[i] == LINE_FEED) {
+            continue;
         }
+        return true;
     }
     false
 }

@@ -1,5 +1,4 @@
 // What became of the text: codes that were stored in a line, and lines that were cleared.
-ghost use Prim.Native.Nat.{_≤_};
 use crate::fields::COLUMN_AT;
 use crate::fields::MODE_AT;
 use crate::fields::ROW_AT;
@@ -73,9 +72,7 @@ pub fn say_stored(was: &Sheet, is: &Sheet, length: u64) {
 // Cleared lines.
 
 // Where the codes of a line end: the large line has the rest.
-fn line_end(line: u8) -> usize
-    ensures { λ r. ⌜ r ≤ 104 ⌝ }
-{
+fn line_end(line: u8) -> usize {
     if line < LARGE_LINE {
         return (line as usize + 1) * ROW;
     }

@@ -1,0 +1,98 @@
+-- Which fields a command sets, and which of its numbers is out of range. Assumes nothing.
+use Prim.Native.Nat.{ℕ}
+use mathlib.Core.Bool.{cond}
+use lib.Dec.{eqb}
+use Rattle.command.specs.Ranges.{isOverlay}
+use Rattle.command.specs.declared.Command.{Command}
+use Rattle.command.specs.declared.Command.the-variants.{DisplayOff, DisplayOn, Mode, CursorShown, CursorHidden, Clear, Position, LabelsEmpty, IconS, IconU, IconF, IconR, IconP, IconW, Private, Handsfree, HandsfreeOfNote, Mute, KeyTimes, Buzzer, Light, LightOn, LightAutoStart, LightAuto, DefaultDuration, KeypadSet, KeypadCleared, Contrast, ContrastAsked, HookAsked, VersionAsked, ClearLine, Inverse}
+use Rattle.command.specs.declared.Side.{Side}
+use Rattle.command.specs.declared.Side.the-variants.{Left, Right}
+use Rattle.explain.specs.declared.fields.Field.{Field}
+use Rattle.explain.specs.declared.fields.Field.the-variants as Field
+use Rattle.explain.specs.declared.fields.Fields.{Fields}
+
+-- the fields from a first to a last one
+abbrev pub through : Field → Field → Fields
+through first last = record { first = first; last = last }
+
+abbrev pub only : Field → Fields
+only field = through field field
+
+-- the fields that a command sets. The last ones set none, and are told by words of their own
+abbrev pub fieldsOf : Command → Fields
+fieldsOf DisplayOff = only Field.Display
+fieldsOf DisplayOn = only Field.Display
+fieldsOf (Mode n) = cond (isOverlay n) (only Field.Overlay) (through Field.Mode Field.Position)
+fieldsOf CursorShown = only Field.Cursor
+fieldsOf CursorHidden = only Field.Cursor
+fieldsOf LabelsEmpty = through Field.LeftLabel Field.RightLabel
+fieldsOf (IconS n) = only Field.IconS
+fieldsOf (IconU n) = only Field.IconU
+fieldsOf (IconF n) = only Field.IconF
+fieldsOf (IconR n) = only Field.IconR
+fieldsOf (IconP n) = only Field.IconP
+fieldsOf (IconW n) = only Field.IconW
+fieldsOf (Private n) = through Field.Volume Field.Hidden
+fieldsOf (Handsfree n) = through Field.Volume Field.Hidden
+fieldsOf (HandsfreeOfNote n) = through Field.Volume Field.Hidden
+-- mute on also shows the volume
+fieldsOf (Mute n) = through (cond (eqb n 0) Field.Mute Field.Hidden) Field.Mute
+fieldsOf (KeyTimes time1 time2) = through Field.Time1 Field.Time2
+fieldsOf (Buzzer n) = only Field.Buzzer
+fieldsOf (Light n) = cond (eqb n 0) (through Field.Backlight Field.SecondsLeft) (only Field.Duration)
+fieldsOf LightOn = through Field.Backlight Field.SecondsLeft
+fieldsOf LightAutoStart = through Field.Backlight Field.SecondsLeft
+fieldsOf LightAuto = only Field.Backlight
+fieldsOf DefaultDuration = only Field.Duration
+fieldsOf KeypadSet = only Field.Keypad
+fieldsOf KeypadCleared = only Field.Keypad
+fieldsOf (Contrast n) = only Field.Contrast
+fieldsOf (Inverse n) = only Field.Inverse
+fieldsOf Clear = only Field.Position
+fieldsOf (Position row column) = only Field.Position
+fieldsOf ClearLine = only Field.Nothing
+fieldsOf ContrastAsked = only Field.Nothing
+fieldsOf HookAsked = only Field.Nothing
+fieldsOf VersionAsked = only Field.Nothing
+
+-- the field that a label's frame sets
+abbrev pub labelOf : Side → Fields
+labelOf Left = only Field.LeftLabel
+labelOf Right = only Field.RightLabel
+
+-- whose number is out of range, where the first one of a command that is so is `out`. Of two it is the first, if that is `out`; four
+-- commands have words of their own for it, and all others those of the first field that they set
+abbrev pub fieldOut : Command → ℕ → Field
+fieldOut (Position row column) out = cond (eqb row out) Field.Row Field.Column
+fieldOut (KeyTimes time1 time2) out = cond (eqb time1 out) Field.Time1 Field.Time2
+fieldOut (Mute n) out = Field.Mute
+fieldOut (Inverse n) out = Field.Mark
+fieldOut (Mode n) out = fieldsOf (Mode n) .first
+fieldOut (IconS n) out = fieldsOf (IconS n) .first
+fieldOut (IconU n) out = fieldsOf (IconU n) .first
+fieldOut (IconF n) out = fieldsOf (IconF n) .first
+fieldOut (IconR n) out = fieldsOf (IconR n) .first
+fieldOut (IconP n) out = fieldsOf (IconP n) .first
+fieldOut (IconW n) out = fieldsOf (IconW n) .first
+fieldOut (Private n) out = fieldsOf (Private n) .first
+fieldOut (Handsfree n) out = fieldsOf (Handsfree n) .first
+fieldOut (HandsfreeOfNote n) out = fieldsOf (HandsfreeOfNote n) .first
+fieldOut (Buzzer n) out = fieldsOf (Buzzer n) .first
+fieldOut (Light n) out = fieldsOf (Light n) .first
+fieldOut (Contrast n) out = fieldsOf (Contrast n) .first
+fieldOut DisplayOff out = fieldsOf DisplayOff .first
+fieldOut DisplayOn out = fieldsOf DisplayOn .first
+fieldOut CursorShown out = fieldsOf CursorShown .first
+fieldOut CursorHidden out = fieldsOf CursorHidden .first
+fieldOut Clear out = fieldsOf Clear .first
+fieldOut LabelsEmpty out = fieldsOf LabelsEmpty .first
+fieldOut LightOn out = fieldsOf LightOn .first
+fieldOut LightAutoStart out = fieldsOf LightAutoStart .first
+fieldOut LightAuto out = fieldsOf LightAuto .first
+fieldOut DefaultDuration out = fieldsOf DefaultDuration .first
+fieldOut KeypadSet out = fieldsOf KeypadSet .first
+fieldOut KeypadCleared out = fieldsOf KeypadCleared .first
+fieldOut ContrastAsked out = fieldsOf ContrastAsked .first
+fieldOut HookAsked out = fieldsOf HookAsked .first
+fieldOut VersionAsked out = fieldsOf VersionAsked .first
+fieldOut ClearLine out = fieldsOf ClearLine .first

@@ -1,0 +1,74 @@
+-- The settings as numbers, field after field. Assumes nothing.
+use Prim.Native.Nat.{ℕ, _+_}
+use mathlib.Core.Bool.{Bool, cond}
+use mathlib.Core.List.{List, [], _∷_, _++_}
+use lib.Dec.{ltb}
+use mir.Val.{boolByte}
+use Rattle.record.specs.declared.Label.{Label}
+use Rattle.record.specs.declared.Settings.{Settings}
+use Rattle.record.specs.declared.Small.{Small}
+
+-- the text row that has the mark; if none has, how many rows there are
+abbrev pub rowMarked : List Bool → ℕ
+rowMarked [] = 0
+rowMarked (mark ∷ below) = cond mark 0 (1 + rowMarked below)
+
+-- how many text rows are kept
+abbrev rows : ℕ
+rows = 5
+
+-- a field's numbers: which of its words is said, and the number that stands in them
+abbrev Numbers : Type 0
+Numbers = ℕ × ℕ
+
+-- a field whose words are its number
+abbrev number : ℕ → Numbers
+number n = (0, n)
+
+-- a field whose words have no number
+abbrev word : ℕ → Numbers
+word which = (which, 0)
+
+-- the second words if something is so, and else the first
+abbrev whether : Bool → ℕ
+whether is = boolByte is
+
+abbrev inLine : List Numbers → List ℕ
+inLine [] = []
+inLine (field ∷ fields) = field .0 ∷ field .1 ∷ inLine fields
+
+-- the numbers of all fields but the labels, in the order of the table of words, where the mark is on this row
+abbrev pub fieldNumbers : Settings → ℕ → List ℕ
+fieldNumbers p mark = inLine (
+    number (p .screen .mode)
+    ∷ (whether (ltb 0 (p .screen .overlay)), p .screen .overlay)
+    ∷ (p .screen .row, p .screen .column)
+    ∷ (p .volume .which, p .volume .level)
+    ∷ word (whether (p .volume .hidden))
+    ∷ word (whether (p .volume .mute))
+    ∷ number (p .times .time1 .0)
+    ∷ number (p .times .time2 .0)
+    ∷ word (p .backlight .mode)
+    ∷ number (p .backlight .left .0)
+    ∷ number (p .backlight .duration .0)
+    ∷ word (whether (p .backlight .keypad))
+    ∷ word (whether (p .screen .display))
+    ∷ word (whether (p .shown))
+    ∷ number (p .icons .s)
+    ∷ number (p .icons .u)
+    ∷ number (p .icons .f)
+    ∷ number (p .icons .r)
+    ∷ number (p .icons .p)
+    ∷ number (p .icons .w)
+    ∷ number (p .buzzer .0)
+    ∷ number (p .contrast)
+    ∷ (whether (ltb mark rows), mark)
+    ∷ [])
+
+-- a label has its length and its codes
+abbrev labelNumbers : Label → List ℕ
+labelNumbers label = label .len ∷ label .codes
+
+-- the settings as numbers: two a field, and those of the two labels behind them
+unfoldable pub sheetOf : Small → List ℕ
+sheetOf s = fieldNumbers (s .settings) (rowMarked (s .settings .inverse)) ++ labelNumbers (s .settings .left) ++ labelNumbers (s .settings .right)
