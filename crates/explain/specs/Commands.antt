@@ -15,6 +15,7 @@ use Rattle.explain.specs.declared.fields.Fields.{Fields}
 abbrev pub through : Field → Field → Fields
 through first last = record { first = first; last = last }
 
+-- one field alone
 abbrev pub only : Field → Fields
 only field = through field field
 

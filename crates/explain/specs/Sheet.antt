@@ -29,15 +29,17 @@ number n = (0, n)
 abbrev word : ℕ → Numbers
 word which = (which, 0)
 
--- the second words if something is so, and else the first
+-- the second words if something is so, which are number 1, and else the first, number 0
 abbrev whether : Bool → ℕ
 whether is = boolByte is
 
+-- the numbers of one field after those of the other
 abbrev inLine : List Numbers → List ℕ
 inLine [] = []
 inLine (field ∷ fields) = field .0 ∷ field .1 ∷ inLine fields
 
--- the numbers of all fields but the labels, in the order of the table of words, where the mark is on this row
+-- the numbers of all fields but the labels, in the order of the table of words, where the mark is on this row or, if there
+-- is none, past the last one
 abbrev pub fieldNumbers : Settings → ℕ → List ℕ
 fieldNumbers p mark = inLine (
     number (p .screen .mode)

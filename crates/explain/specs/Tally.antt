@@ -5,7 +5,7 @@ use lib.Dec.{eqb, ltb}
 use Rattle.parts.specs.declared.PartAt.{PartAt}
 use Rattle.explain.specs.declared.tally.Tally.{Tally}
 
--- what becomes of a part: its line in the tables of words
+-- what becomes of a part: its line in the tables of words. Unfinished is a frame that is still open where the stream ends
 abbrev pub stored : ℕ
 stored = 0
 
@@ -27,11 +27,11 @@ passedOver = 5
 abbrev pub obeyed : ℕ
 obeyed = 6
 
--- a sum of counts, in 64 bits
+-- a sum of counts, of which 64 bits are kept: no stream is so long that more are needed
 abbrev pub sum : ℕ → ℕ → ℕ
 sum m n = (m + n) % 2 ^ 64
 
--- a part's length by its body, with the bytes that are held no longer
+-- a part's length by its body, with the bytes that are held no longer; a body that ends before it begins has none
 abbrev pub lengthOf : PartAt → ℕ → ℕ
 lengthOf front dropped = sum (front .«body_end» - front .body) dropped
 
@@ -39,7 +39,7 @@ lengthOf front dropped = sum (front .«body_end» - front .body) dropped
 abbrev pub moreIf : Bool → ℕ → ℕ → ℕ
 moreIf counts count n = cond counts (sum count n) count
 
--- an open frame is the tail
+-- where the tail stands: at a part that is unfinished, and else where it stood before
 abbrev pub tailPlace : Tally → ℕ → ℕ
 tailPlace t fate = cond (eqb fate unfinished) (t .place) (t .«tail_place»)
 
