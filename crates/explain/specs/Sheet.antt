@@ -4,6 +4,7 @@ use mathlib.Core.Bool.{Bool, cond}
 use mathlib.Core.List.{List, [], _∷_, _++_}
 use lib.Dec.{ltb}
 use mir.Val.{boolByte}
+use Rattle.command.specs.InRange.{mostRows}
 use Rattle.record.specs.declared.Label.{Label}
 use Rattle.record.specs.declared.Settings.{Settings}
 use Rattle.record.specs.declared.Small.{Small}
@@ -12,10 +13,6 @@ use Rattle.record.specs.declared.Small.{Small}
 abbrev pub rowMarked : List Bool → ℕ
 rowMarked [] = 0
 rowMarked (mark ∷ below) = cond mark 0 (1 + rowMarked below)
-
--- how many text rows are kept
-abbrev rows : ℕ
-rows = 5
 
 -- a field's numbers: which of its words is said, and the number that stands in them
 abbrev Numbers : Type 0
@@ -64,7 +61,7 @@ fieldNumbers p mark = inLine (
     ∷ number (p .icons .w)
     ∷ number (p .buzzer .0)
     ∷ number (p .contrast)
-    ∷ (whether (ltb mark rows), mark)
+    ∷ (whether (ltb mark mostRows), mark)
     ∷ [])
 
 -- a label has its length and its codes
