@@ -6,16 +6,14 @@ ghost use lib.ListN.{length};
 ghost use Rattle.explain.specs.Sheet.{rowMarked, sheetOf};
 use crate::line::Part;
 use crate::line::changes;
-use crate::line::entry;
+use crate::line::say_cell;
 use crate::line::say_codes;
 use crate::line::say_comma;
-use crate::line::say_entry;
 use crate::line::wide;
 use crate::words::CLOSING;
 use crate::words::OPENING;
 use crate::words::TO;
 use crate::words::say_words;
-use lists::LINE_FEED;
 use record::LONGEST_LABEL;
 use record::Label;
 use record::Small;
@@ -114,14 +112,6 @@ const NAME: usize = 0;
 const TAKES: usize = 1;
 
 const VALUES: usize = 2;
-
-// Some words of a line.
-fn say_cell(table: &[u8], n: usize, which: usize, number: u64) {
-    let line = entry(table, n, LINE_FEED);
-    let start = line.start;
-    let end = line.end;
-    say_entry(&table[start..end], which, number);
-}
 
 // An overlay and a mark are named with their value, since there may be none.
 fn say_of(line: usize, which: usize, number: u64) {

@@ -63,7 +63,7 @@ pub fn say_number(n: u64) {
 }
 
 // The n-th entry of a table, from 0, where each has this sign behind it. A number past the last one has none.
-pub fn entry(table: &[u8], n: usize, sign: u8) -> Part
+fn entry(table: &[u8], n: usize, sign: u8) -> Part
     ensures { λ r. ⌜ (r .start ≤ r .end) × (r .end ≤ length (now (table .entry))) ⌝ }
 {
     let mut line = 0;
@@ -99,9 +99,18 @@ pub fn say_entry(table: &[u8], n: usize, number: u64) {
     say(&table[start..end]);
 }
 
+// Some words of the n-th line of a table.
+pub fn say_cell(table: &[u8], n: usize, which: usize, number: u64) {
+    let line = entry(table, n, LINE_FEED);
+    let start = line.start;
+    let end = line.end;
+    say_entry(&table[start..end], which, number);
+}
+
 // A byte as a number that can be said.
 pub fn wide(x: u8) -> u64
-    ensures { λ r. ⌜ r ≤ 255 ⌝ }
+    ensures same { λ r. ⌜ r ≡ x ⌝ }
+    ensures small { λ r. ⌜ r ≤ 255 ⌝ }
 {
     x as u64
 }
