@@ -1,6 +1,6 @@
 // The commands, and which of them a frame spells. A frame is the bytes between ESC and CR.
 // The grammar is in specs/Grammar.antt, which knows nothing of this reader. The ranges of specs/InRange.antt are asked in the
-// crate `command_ranges`, and frames that draw are read in the crate `picture_frame`: each is judged by the definitions here.
+// crate `command_form`, and frames that draw are read in the crate `picture_frame`: each is judged by the definitions here.
 ghost use mathlib.Core.Path.{_≡_};
 ghost use Rattle.command.specs.Pick.{byteAt, withNumber, displayOf, lightOf, contrastOf, afterI, cursorSign, afterBracket, commandOf};
 ghost use Rattle.frame_table.specs.Reader as reader;

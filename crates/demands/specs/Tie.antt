@@ -96,12 +96,14 @@ use Rattle.line.proofs.add_number as AddNumber
 use Rattle.line.proofs.add_number.Reads as AddNumberReads
 use Rattle.line.proofs.copy as CopyLine
 use Rattle.line.proofs.copy.Reads as CopyLineReads
-use Rattle.command_ranges.proofs.rows_named as RowsNamed
-use Rattle.command_ranges.proofs.rows_named.Reads as RowsNamedReads
-use Rattle.command_ranges.proofs.number_out as NumberOut
-use Rattle.command_ranges.proofs.number_out.Reads as NumberOutReads
-use Rattle.command_ranges.proofs.in_range as CommandInRange
-use Rattle.command_ranges.proofs.in_range.Reads as CommandInRangeReads
+use Rattle.command_form.proofs.rows_named as RowsNamed
+use Rattle.command_form.proofs.rows_named.Reads as RowsNamedReads
+use Rattle.command_form.proofs.number_out as NumberOut
+use Rattle.command_form.proofs.number_out.Reads as NumberOutReads
+use Rattle.command_form.proofs.in_range as CommandInRange
+use Rattle.command_form.proofs.in_range.Reads as CommandInRangeReads
+use Rattle.command_form.proofs.body as CommandBody
+use Rattle.command_form.proofs.body.Reads as CommandBodyReads
 use Rattle.frame_table.proofs.run as RunTable
 use Rattle.frame_table.proofs.run.Reads as RunTableReads
 use Rattle.command.proofs.read_lent as ReadLent
@@ -390,17 +392,21 @@ pub copy-line-says : SaysBoth CopyLine.ended CopyLineReads.requires CopyLineRead
     (λ κs a q e. now (e .1 .0) ≡ roomWith (a .0) (now (a .1 .0)))
 copy-line-says κs a q e w = (refl, refl)
 
--- command_ranges::rows_named
+-- command_form::rows_named
 pub rows-named-says : Says RowsNamed.ended RowsNamedReads.requires RowsNamedReads.ensures (λ κs a q e. q ≡ rowsNamed (a .0))
 rows-named-says κs a q e w = (refl, refl)
 
--- command_ranges::number_out
+-- command_form::number_out
 pub number-out-says : Says NumberOut.ended NumberOutReads.requires NumberOutReads.ensures (λ κs a q e. q ≡ firstOut (numbersOf (a .1 .0) (a .0)))
 number-out-says κs a q e w = (refl, refl)
 
--- command_ranges::in_range
+-- command_form::in_range
 pub command-in-range-says : Says CommandInRange.ended CommandInRangeReads.requires CommandInRangeReads.ensures (λ κs a q e. q ≡ commandInRange (a .1 .0) (a .0))
 command-in-range-says κs a q e w = (refl, refl)
+
+-- command_form::body
+pub command-body-says : Says CommandBody.ended CommandBodyReads.requires CommandBodyReads.ensures (λ κs a q e. q ≡ added emptyLine (spelling (plain (a .0))))
+command-body-says κs a q e w = (refl, refl)
 
 -- frame_table::run
 pub run-table-says : Says RunTable.ended RunTableReads.requires RunTableReads.ensures (λ κs a q e. q ≡ foundIn (now (a .0)) (now (a .1 .0)) (a .1 .1 .0) (now (a .1 .1 .1 .0)))

@@ -53,12 +53,14 @@ use Rattle.line.proofs.add_number as AddNumber
 use Rattle.line.proofs.add_number.Reads as AddNumberReads
 use Rattle.line.proofs.copy as CopyLine
 use Rattle.line.proofs.copy.Reads as CopyLineReads
-use Rattle.command_ranges.proofs.rows_named as RowsNamed
-use Rattle.command_ranges.proofs.rows_named.Reads as RowsNamedReads
-use Rattle.command_ranges.proofs.number_out as NumberOut
-use Rattle.command_ranges.proofs.number_out.Reads as NumberOutReads
-use Rattle.command_ranges.proofs.in_range as CommandInRange
-use Rattle.command_ranges.proofs.in_range.Reads as CommandInRangeReads
+use Rattle.command_form.proofs.rows_named as RowsNamed
+use Rattle.command_form.proofs.rows_named.Reads as RowsNamedReads
+use Rattle.command_form.proofs.number_out as NumberOut
+use Rattle.command_form.proofs.number_out.Reads as NumberOutReads
+use Rattle.command_form.proofs.in_range as CommandInRange
+use Rattle.command_form.proofs.in_range.Reads as CommandInRangeReads
+use Rattle.command_form.proofs.body as CommandBody
+use Rattle.command_form.proofs.body.Reads as CommandBodyReads
 use Rattle.frame_table.proofs.run as RunTable
 use Rattle.frame_table.proofs.run.Reads as RunTableReads
 use Rattle.command.proofs.read_lent as ReadLent
@@ -329,17 +331,21 @@ add-number-one = equal AddNumber.ended _
 pub copy-line-one : OneEnd CopyLine.ended (List ℕ) CopyLineReads.Learnt (λ κs e. now (e .1 .0))
 copy-line-one = equal-and-left CopyLine.ended _ _ _ _
 
--- command_ranges::rows_named
+-- command_form::rows_named
 pub rows-named-one : OneResult RowsNamed.ended RowsNamedReads.Learnt
 rows-named-one = equal RowsNamed.ended _
 
--- command_ranges::number_out
+-- command_form::number_out
 pub number-out-one : OneResult NumberOut.ended NumberOutReads.Learnt
 number-out-one = equal NumberOut.ended _
 
--- command_ranges::in_range
+-- command_form::in_range
 pub command-in-range-one : OneResult CommandInRange.ended CommandInRangeReads.Learnt
 command-in-range-one = equal CommandInRange.ended _
+
+-- command_form::body
+pub command-body-one : OneResult CommandBody.ended CommandBodyReads.Learnt
+command-body-one = equal CommandBody.ended _
 
 -- frame_table::run
 pub run-table-one : OneResult RunTable.ended RunTableReads.Learnt

@@ -301,8 +301,8 @@ fn answer_for(c: Command) -> Answer
 fn obey_command(p: Settings, text: &mut Text, c: Command) -> Settings
     ensures same { λ r. ⌜ ((picture : List ℕ) → core r (now (text .exit)) picture ≡ carryOut (plain c) (core p (now (text .entry)) picture)) ⌝ }
 {
-    let rows = command_ranges::rows_named(p.screen.mode);
-    if command_ranges::in_range(c, rows) {
+    let rows = command_form::rows_named(p.screen.mode);
+    if command_form::in_range(c, rows) {
         return changed(p, text, c);
     }
     p

@@ -142,7 +142,7 @@ pub fn field_out(c: Command, out: u16) -> Field
 fn say_rows(some: Field, none: Field, from: u8, mode: u8)
     requires { ⌜ from ≤ 1 ⌝ }
 {
-    let rows = command_ranges::rows_named(mode);
+    let rows = command_form::rows_named(mode);
     if rows == 0 {
         say_takes(none, 0);
     } else {

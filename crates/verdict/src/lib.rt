@@ -51,8 +51,8 @@ pub fn judge(mode: u8, frame: &[u8]) -> Verdict
     match reading {
         Reading::Bad => Verdict::Bad,
         Reading::Plain(c) => {
-            let rows = command_ranges::rows_named(mode);
-            by_number(command_ranges::number_out(c, rows))
+            let rows = command_form::rows_named(mode);
+            by_number(command_form::number_out(c, rows))
         }
         Reading::Label(side) => Verdict::Obeyed,
     }

@@ -48,12 +48,12 @@ module _ (line : Line) (room : List ℕ) (places : length (line .bytes) ≡ 200)
   wrote e = (rw (sym fits ∙ e, length-held line room places few), stands)
 
 -- what a line holds that began with ESC, with its CR LF
-pub framed : {start line : Line} {codes : List ℕ} {k : ℕ} (body : List ℕ) → Added emptyLine (escape ∷ []) 1 start → Added start codes k line → k ≤ 197 → codes ≡ body
+pub framed : {start line : Line} {k : ℕ} (body : List ℕ) → Added emptyLine (escape ∷ []) 1 start → Added start body k line → k ≤ 197
     → held line ++ carriageReturn ∷ lineFeed ∷ [] ≡ frameOf body
 unfolding frameOf
-framed {codes = codes} body p q h f =
+framed body p q h =
     let all = then p q (omega arith) in
-    ap (λ (x : List ℕ). x ++ carriageReturn ∷ lineFeed ∷ []) (ap held (all .same) ∙ held-from-empty (escape ∷ codes) (omega (arith, all .most)) ∙ ap (λ (x : List ℕ). escape ∷ x) f)
+    ap (λ (x : List ℕ). x ++ carriageReturn ∷ lineFeed ∷ []) (ap held (all .same) ∙ held-from-empty (escape ∷ body) (omega (arith, all .most)))
 
 -- a frame in range that was delivered
 pub delivered : (ok : Bool) (line body room : List ℕ) {written : Written} {after : List ℕ} → ok ≡ true → line ≡ frameOf body

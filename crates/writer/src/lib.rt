@@ -15,13 +15,12 @@ ghost use Rattle.command.specs.InRange.{commandInRange, mostRows};
 ghost use Rattle.command.specs.Spell.{spelling};
 ghost use Rattle.writer_ranges.specs.Fitting.{isLabel, isRow};
 ghost use Rattle.writer.specs.Writing.{frameOf, writtenOf, roomAfter};
-ghost use Rattle.writer.specs.Plans.{planBody};
 use command::Command;
 use command::Side;
-use command_ranges::in_range;
+use command_form::body;
+use command_form::in_range;
 use line::Line;
 use line::add;
-use line::add_number;
 use line::copy;
 use line::empty;
 use lists::CARRIAGE_RETURN;
@@ -41,15 +40,6 @@ pub struct Written {
     pub count: usize,
 }
 
-// How a command's frame is made up: signs alone; I, a letter and a number; the key times; a place on the display.
-enum Plan {
-    TwoSigns(u8, u8),
-    ThreeSigns(u8, u8, u8),
-    Number(u8, u16),
-    TwoTimes(u16, u16),
-    Place(u16, u16),
-}
-
 // A line that holds ESC.
 fn opened() -> Line
     ensures { λ r. ⌜ Added emptyLine (escape ∷ []) 1 r × (r .len ≡ 1) ⌝ }
@@ -57,65 +47,15 @@ fn opened() -> Line
     add(empty(), &[ESCAPE])
 }
 
-fn plan_of(c: Command) -> Plan
-    ensures { λ r. ⌜ planBody r ≡ spelling (plain c) ⌝ }
-{
-    match c {
-        Command::DisplayOff => Plan::ThreeSigns(b'I', b'D', b'D'),
-        Command::DisplayOn => Plan::ThreeSigns(b'I', b'D', b'E'),
-        Command::Mode(n) => Plan::Number(b'D', n),
-        Command::CursorShown => Plan::TwoSigns(b'&', b'C'),
-        Command::CursorHidden => Plan::TwoSigns(b'&', b'D'),
-        Command::Clear => Plan::TwoSigns(b'&', b'#'),
-        Command::Position(row, column) => Plan::Place(row, column),
-        Command::LabelsEmpty => Plan::ThreeSigns(b'I', b'K', b'0'),
-        Command::IconS(n) => Plan::Number(b'S', n),
-        Command::IconU(n) => Plan::Number(b'U', n),
-        Command::IconF(n) => Plan::Number(b'F', n),
-        Command::IconR(n) => Plan::Number(b'R', n),
-        Command::IconP(n) => Plan::Number(b'P', n),
-        Command::IconW(n) => Plan::Number(b'W', n),
-        Command::Private(n) => Plan::Number(b'L', n),
-        Command::Handsfree(n) => Plan::Number(b'J', n),
-        Command::HandsfreeOfNote(n) => Plan::Number(b'I', n),
-        Command::Mute(n) => Plan::Number(b'M', n),
-        Command::KeyTimes(time1, time2) => Plan::TwoTimes(time1, time2),
-        Command::Buzzer(n) => Plan::Number(b'B', n),
-        Command::Light(n) => Plan::Number(b'E', n),
-        Command::LightOn => Plan::ThreeSigns(b'I', b'E', b'E'),
-        Command::LightAutoStart => Plan::ThreeSigns(b'I', b'E', b'A'),
-        Command::LightAuto => Plan::ThreeSigns(b'I', b'E', b'S'),
-        Command::DefaultDuration => Plan::ThreeSigns(b'I', b'E', b'R'),
-        Command::KeypadSet => Plan::ThreeSigns(b'I', b'E', b'e'),
-        Command::KeypadCleared => Plan::ThreeSigns(b'I', b'E', b'r'),
-        Command::Contrast(n) => Plan::Number(b'A', n),
-        Command::ContrastAsked => Plan::TwoSigns(b'I', b'A'),
-        Command::HookAsked => Plan::TwoSigns(b'I', b'H'),
-        Command::VersionAsked => Plan::TwoSigns(b'&', b'V'),
-        Command::ClearLine => Plan::TwoSigns(b'[', b'K'),
-        Command::Inverse(n) => Plan::Number(b'Z', n),
-    }
-}
-
 // The body of a command's frame.
-fn add_plan(line: Line, plan: Plan) -> Line
-    requires { ⌜ line .len ≤ 1 ⌝ }
-    ensures { λ r. ⌜ Added line (planBody plan) 9 r ⌝ }
+fn add_body(line: Line, c: Command) -> Line
+    requires { ⌜ commandInRange mostRows c ≡ true ⌝ }
+    ensures { λ r. ⌜ Added line (spelling (plain c)) 197 r ⌝ }
 {
-    match plan {
-        Plan::TwoSigns(a, b) => add(line, &[a, b]),
-        Plan::ThreeSigns(a, b, c) => add(line, &[a, b, c]),
-        Plan::Number(letter, n) => add_number(add(line, &[b'I', letter]), n),
-        Plan::TwoTimes(time1, time2) => {
-            add_number(add(add_number(add(line, b"IT"), time1), b";"), time2)
-        }
-        Plan::Place(row, column) => {
-            add(
-                add_number(add(add_number(add(line, b"["), row), b";"), column),
-                b"H",
-            )
-        }
-    }
+    let codes = body(c);
+    let len = codes.len;
+    let bytes = codes.bytes;
+    add(line, &bytes[..len])
 }
 
 // The body of a label's frame.
@@ -177,7 +117,7 @@ pub fn write_command(c: Command, room: &mut [u8]) -> Written
     ensures left { λ _. ⌜ now (room .exit) ≡ roomAfter (commandInRange mostRows c) (frameOf (spelling (plain c))) (now (room .entry)) ⌝ }
 {
     if in_range(c, MOST_ROWS) {
-        return deliver(add_plan(opened(), plan_of(c)), room);
+        return deliver(add_body(opened(), c), room);
     }
     Written {
         number: Number::CommandOutOfRange,
