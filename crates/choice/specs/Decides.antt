@@ -13,9 +13,10 @@ use lib.Dec.{eqb}
 use lib.ListN.{length, length-append}
 use Rattle.lists.specs.Tests.{either-way}
 use Rattle.command.specs.Order.{Order, plain, label, draw}
+use Rattle.command.specs.Kind.{sameKind}
 use Rattle.command.specs.Reading.{orderOf}
 use Rattle.command.specs.declared.Command.{Command}
-use Rattle.command.specs.declared.Command.the-variants.{DisplayOff, DisplayOn, Mode, CursorShown, CursorHidden, Clear, Position, LabelsEmpty, IconS, IconU, IconF, IconR, IconP, IconW, Private, Handsfree, HandsfreeOfNote, Mute, KeyTimes, Buzzer, Light, LightOn, LightAutoStart, LightAuto, DefaultDuration, KeypadSet, KeypadCleared, Contrast, ContrastAsked, HookAsked, VersionAsked, ClearLine, Inverse}
+use Rattle.command.specs.declared.Command.the-variants.{Mode, LabelsEmpty}
 use Rattle.command.specs.declared.Side.{Side}
 use Rattle.command.specs.declared.Side.the-variants.{Left, Right}
 use Rattle.parting.specs.Rules.{Part, text, skipped, closed, abandoned, bytesOf, Parted, done, unfinished, then, Parting, ends, waits, goes-on, Placed, places, tailPlace}
@@ -152,39 +153,9 @@ other = passes refl refl (λ s. refl) (inr (λ s. refl))
 
 -- so does each part, by its sign
 command-role : (c : Command) → Role (commandSign c)
-command-role DisplayOff = other
-command-role DisplayOn = other
-command-role (Mode n) = checks refl (λ s. refl) (λ s. refl)
-command-role CursorShown = other
-command-role CursorHidden = other
-command-role Clear = other
-command-role (Position row column) = other
-command-role LabelsEmpty = passes refl refl (λ s. refl) (inr (λ s. refl))
-command-role (IconS n) = other
-command-role (IconU n) = other
-command-role (IconF n) = other
-command-role (IconR n) = other
-command-role (IconP n) = other
-command-role (IconW n) = other
-command-role (Private n) = other
-command-role (Handsfree n) = other
-command-role (HandsfreeOfNote n) = other
-command-role (Mute n) = other
-command-role (KeyTimes time1 time2) = other
-command-role (Buzzer n) = other
-command-role (Light n) = other
-command-role LightOn = other
-command-role LightAutoStart = other
-command-role LightAuto = other
-command-role DefaultDuration = other
-command-role KeypadSet = other
-command-role KeypadCleared = other
-command-role (Contrast n) = other
-command-role ContrastAsked = other
-command-role HookAsked = other
-command-role VersionAsked = other
-command-role ClearLine = other
-command-role (Inverse n) = other
+command-role c =
+    either-way Role (sameKind c (Mode 0)) (λ e. checks refl (λ s. refl) (λ s. refl))
+    (λ e. either-way Role (sameKind c LabelsEmpty) (λ f. passes refl refl (λ s. refl) (inr (λ s. refl))) (λ f. other))
 
 label-role : (side : Side) (codes : Bool) → Role (labelSign side codes)
 label-role Left codes = passes refl refl (λ s. refl) (inr (λ s. refl))

@@ -7,9 +7,10 @@ use lib.Dec.{eqb, ltb}
 use lib.ListN.{length}
 use Rattle.record.specs.Range.{modeInRange}
 use Rattle.command.specs.Order.{Order, plain, label, draw}
+use Rattle.command.specs.Kind.{firstNumber, sameKind}
 use Rattle.command.specs.Reading.{orderOf}
 use Rattle.command.specs.declared.Command.{Command}
-use Rattle.command.specs.declared.Command.the-variants.{DisplayOff, DisplayOn, Mode, CursorShown, CursorHidden, Clear, Position, LabelsEmpty, IconS, IconU, IconF, IconR, IconP, IconW, Private, Handsfree, HandsfreeOfNote, Mute, KeyTimes, Buzzer, Light, LightOn, LightAutoStart, LightAuto, DefaultDuration, KeypadSet, KeypadCleared, Contrast, ContrastAsked, HookAsked, VersionAsked, ClearLine, Inverse}
+use Rattle.command.specs.declared.Command.the-variants.{Mode, LabelsEmpty}
 use Rattle.command.specs.declared.Side.{Side}
 use Rattle.command.specs.declared.Side.the-variants.{Left, Right}
 use Rattle.parting.specs.Rules.{Part, text, skipped, closed, abandoned, Parted, done, unfinished, then}
@@ -22,39 +23,7 @@ hasCodes t = ltb 0 (length t)
 
 -- IDn, in range or not, and IK0; no other command is spoken of, IDD and IDE neither
 abbrev pub commandSign : Command → Sign
-commandSign DisplayOff = Other
-commandSign DisplayOn = Other
-commandSign (Mode n) = Screen n
-commandSign CursorShown = Other
-commandSign CursorHidden = Other
-commandSign Clear = Other
-commandSign (Position row column) = Other
-commandSign LabelsEmpty = BothEmpty
-commandSign (IconS n) = Other
-commandSign (IconU n) = Other
-commandSign (IconF n) = Other
-commandSign (IconR n) = Other
-commandSign (IconP n) = Other
-commandSign (IconW n) = Other
-commandSign (Private n) = Other
-commandSign (Handsfree n) = Other
-commandSign (HandsfreeOfNote n) = Other
-commandSign (Mute n) = Other
-commandSign (KeyTimes time1 time2) = Other
-commandSign (Buzzer n) = Other
-commandSign (Light n) = Other
-commandSign LightOn = Other
-commandSign LightAutoStart = Other
-commandSign LightAuto = Other
-commandSign DefaultDuration = Other
-commandSign KeypadSet = Other
-commandSign KeypadCleared = Other
-commandSign (Contrast n) = Other
-commandSign ContrastAsked = Other
-commandSign HookAsked = Other
-commandSign VersionAsked = Other
-commandSign ClearLine = Other
-commandSign (Inverse n) = Other
+commandSign c = cond (sameKind c (Mode 0)) (Screen (firstNumber c)) (cond (sameKind c LabelsEmpty) BothEmpty Other)
 
 abbrev pub labelSign : Side → Bool → Sign
 labelSign Left codes = LeftSet codes

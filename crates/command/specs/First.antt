@@ -78,11 +78,11 @@ kinds =
     ∷ []
 
 -- the kind at a place makes this command
-of : {c : Command} (place m n : ℕ) → made kinds place m n ≡ some c → Kind kinds c
+abbrev of : {c : Command} (place m n : ℕ) → made kinds place m n ≡ some c → Kind kinds c
 of place m n same = record { place = place; m = m; n = n; same = same }
 
 -- there is no other command
-pub kind : (c : Command) → Kind kinds c
+abbrev pub kind : (c : Command) → Kind kinds c
 kind DisplayOff = of 0 0 0 refl
 kind DisplayOn = of 1 0 0 refl
 kind (Mode m) = of 2 m 0 refl

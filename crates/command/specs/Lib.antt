@@ -6,6 +6,7 @@ pub mod Judged
 pub mod Pick
 pub mod Table
 pub mod First
+pub mod Kind
 pub mod Reading
 pub mod Complete
 pub mod Sound

@@ -1,5 +1,6 @@
 -- What a frame does to the core, and the promise of the function that does it. Assumes nothing.
 use Prim.Native.Nat.{ℕ}
+use mathlib.Core.Bool.{cond}
 use mathlib.Core.List.{List}
 use mathlib.Core.Option.{Option, none, some}
 use mathlib.Core.Path.{_≡_}
@@ -8,8 +9,9 @@ use Rattle.answer.specs.declared.Answer.{Answer}
 use Rattle.answer.specs.declared.Answer.the-variants.{Silence, QuestionMark}
 use Rattle.answer.specs.declared.Answer.the-variants as Answers
 use Rattle.command.specs.Order.{Order, plain, label, draw}
+use Rattle.command.specs.Kind.{sameKind}
 use Rattle.command.specs.declared.Command.{Command}
-use Rattle.command.specs.declared.Command.the-variants.{DisplayOff, DisplayOn, Mode, CursorShown, CursorHidden, Clear, Position, LabelsEmpty, IconS, IconU, IconF, IconR, IconP, IconW, Private, Handsfree, HandsfreeOfNote, Mute, KeyTimes, Buzzer, Light, LightOn, LightAutoStart, LightAuto, DefaultDuration, KeypadSet, KeypadCleared, Contrast, ContrastAsked, HookAsked, VersionAsked, ClearLine, Inverse}
+use Rattle.command.specs.declared.Command.the-variants.{ContrastAsked, HookAsked, VersionAsked}
 use Rattle.effect.specs.declared.Obeyed.{Obeyed}
 use Rattle.effect.specs.Core.{Core}
 use Rattle.effect.specs.Effect.{carryOut}
@@ -21,39 +23,11 @@ obeyOrder c (some order) = carryOut order c
 
 -- what a frame is answered: '?' if it is bad; a question its answer; any other frame nothing, in range or not
 abbrev pub answerFor : Command → Answer
-answerFor DisplayOff = Silence
-answerFor DisplayOn = Silence
-answerFor (Mode n) = Silence
-answerFor CursorShown = Silence
-answerFor CursorHidden = Silence
-answerFor Clear = Silence
-answerFor (Position row column) = Silence
-answerFor LabelsEmpty = Silence
-answerFor (IconS n) = Silence
-answerFor (IconU n) = Silence
-answerFor (IconF n) = Silence
-answerFor (IconR n) = Silence
-answerFor (IconP n) = Silence
-answerFor (IconW n) = Silence
-answerFor (Private n) = Silence
-answerFor (Handsfree n) = Silence
-answerFor (HandsfreeOfNote n) = Silence
-answerFor (Mute n) = Silence
-answerFor (KeyTimes time1 time2) = Silence
-answerFor (Buzzer n) = Silence
-answerFor (Light n) = Silence
-answerFor LightOn = Silence
-answerFor LightAutoStart = Silence
-answerFor LightAuto = Silence
-answerFor DefaultDuration = Silence
-answerFor KeypadSet = Silence
-answerFor KeypadCleared = Silence
-answerFor (Contrast n) = Silence
-answerFor ContrastAsked = Answers.Contrast
-answerFor HookAsked = Answers.Hook
-answerFor VersionAsked = Answers.Version
-answerFor ClearLine = Silence
-answerFor (Inverse n) = Silence
+answerFor c =
+    cond (sameKind c ContrastAsked) Answers.Contrast
+    (cond (sameKind c HookAsked) Answers.Hook
+    (cond (sameKind c VersionAsked) Answers.Version
+    Silence))
 
 abbrev pub answerTo : Option Order → Answer
 answerTo none = QuestionMark

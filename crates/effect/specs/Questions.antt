@@ -11,8 +11,9 @@ use Rattle.answer.specs.declared.Answer.the-variants as Answers
 use Prim.Native.Nat.{ℕ}
 use Rattle.command.specs.InRange.{inRangeInMode}
 use Rattle.command.specs.Order.{Order, plain, label, draw}
+use Rattle.command.specs.Kind.{sameKind, that-one}
 use Rattle.command.specs.declared.Command.{Command}
-use Rattle.command.specs.declared.Command.the-variants.{DisplayOff, DisplayOn, Mode, CursorShown, CursorHidden, Clear, Position, LabelsEmpty, IconS, IconU, IconF, IconR, IconP, IconW, Private, Handsfree, HandsfreeOfNote, Mute, KeyTimes, Buzzer, Light, LightOn, LightAutoStart, LightAuto, DefaultDuration, KeypadSet, KeypadCleared, Contrast, ContrastAsked, HookAsked, VersionAsked, ClearLine, Inverse}
+use Rattle.command.specs.declared.Command.the-variants.{ContrastAsked, HookAsked, VersionAsked}
 use Rattle.effect.specs.Core.{Core}
 use Rattle.effect.specs.Effect.{carryOut}
 use Rattle.effect.specs.Obey.{obeyOrder, answerFor, answerTo}
@@ -23,39 +24,11 @@ OneQuestion command = (command ≡ ContrastAsked) ⊎ (command ≡ HookAsked) �
 
 -- Only these are answered.
 questions : (command : Command) → isSilence (answerFor command) ≡ false → OneQuestion command
-questions DisplayOff h = absurd (true≢false h)
-questions DisplayOn h = absurd (true≢false h)
-questions (Mode n) h = absurd (true≢false h)
-questions CursorShown h = absurd (true≢false h)
-questions CursorHidden h = absurd (true≢false h)
-questions Clear h = absurd (true≢false h)
-questions (Position row column) h = absurd (true≢false h)
-questions LabelsEmpty h = absurd (true≢false h)
-questions (IconS n) h = absurd (true≢false h)
-questions (IconU n) h = absurd (true≢false h)
-questions (IconF n) h = absurd (true≢false h)
-questions (IconR n) h = absurd (true≢false h)
-questions (IconP n) h = absurd (true≢false h)
-questions (IconW n) h = absurd (true≢false h)
-questions (Private n) h = absurd (true≢false h)
-questions (Handsfree n) h = absurd (true≢false h)
-questions (HandsfreeOfNote n) h = absurd (true≢false h)
-questions (Mute n) h = absurd (true≢false h)
-questions (KeyTimes time1 time2) h = absurd (true≢false h)
-questions (Buzzer n) h = absurd (true≢false h)
-questions (Light n) h = absurd (true≢false h)
-questions LightOn h = absurd (true≢false h)
-questions LightAutoStart h = absurd (true≢false h)
-questions LightAuto h = absurd (true≢false h)
-questions DefaultDuration h = absurd (true≢false h)
-questions KeypadSet h = absurd (true≢false h)
-questions KeypadCleared h = absurd (true≢false h)
-questions (Contrast n) h = absurd (true≢false h)
-questions ContrastAsked h = inl refl
-questions HookAsked h = inr (inl refl)
-questions VersionAsked h = inr (inr refl)
-questions ClearLine h = absurd (true≢false h)
-questions (Inverse n) h = absurd (true≢false h)
+questions command h =
+    by-test (sameKind command ContrastAsked) (λ e. inl (that-one command ContrastAsked (λ m n. refl) e))
+    (λ a. by-test (sameKind command HookAsked) (λ e. inr (inl (that-one command HookAsked (λ m n. refl) e)))
+    (λ b. by-test (sameKind command VersionAsked) (λ e. inr (inr (that-one command VersionAsked (λ m n. refl) e)))
+    (λ d. absurd (true≢false (simp (a, b, d) at h)))))
 
 -- A QUESTION CHANGES NOTHING,
 pub question-same : (command : Command) (c : Core) → isSilence (answerFor command) ≡ false → carryOut (plain command) c ≡ c
