@@ -2,6 +2,7 @@
 use Prim.Native.Nat.{ℕ}
 use mathlib.Core.Bool.{cond}
 use lib.Dec.{eqb}
+use Rattle.command.specs.Kind.{firstNumber, sameKind}
 use Rattle.command.specs.Ranges.{isOverlay}
 use Rattle.command.specs.declared.Command.{Command}
 use Rattle.command.specs.declared.Command.the-variants.{DisplayOff, DisplayOn, Mode, CursorShown, CursorHidden, Clear, Position, LabelsEmpty, IconS, IconU, IconF, IconR, IconP, IconW, Private, Handsfree, HandsfreeOfNote, Mute, KeyTimes, Buzzer, Light, LightOn, LightAutoStart, LightAuto, DefaultDuration, KeypadSet, KeypadCleared, Contrast, ContrastAsked, HookAsked, VersionAsked, ClearLine, Inverse}
@@ -64,36 +65,9 @@ labelOf Right = only Field.RightLabel
 -- whose number is out of range, where the first one of a command that is so is `out`. Of two it is the first, if that is `out`; four
 -- commands have words of their own for it, and all others those of the first field that they set
 abbrev pub fieldOut : Command → ℕ → Field
-fieldOut (Position row column) out = cond (eqb row out) Field.Row Field.Column
-fieldOut (KeyTimes time1 time2) out = cond (eqb time1 out) Field.Time1 Field.Time2
-fieldOut (Mute n) out = Field.Mute
-fieldOut (Inverse n) out = Field.Mark
-fieldOut (Mode n) out = fieldsOf (Mode n) .first
-fieldOut (IconS n) out = fieldsOf (IconS n) .first
-fieldOut (IconU n) out = fieldsOf (IconU n) .first
-fieldOut (IconF n) out = fieldsOf (IconF n) .first
-fieldOut (IconR n) out = fieldsOf (IconR n) .first
-fieldOut (IconP n) out = fieldsOf (IconP n) .first
-fieldOut (IconW n) out = fieldsOf (IconW n) .first
-fieldOut (Private n) out = fieldsOf (Private n) .first
-fieldOut (Handsfree n) out = fieldsOf (Handsfree n) .first
-fieldOut (HandsfreeOfNote n) out = fieldsOf (HandsfreeOfNote n) .first
-fieldOut (Buzzer n) out = fieldsOf (Buzzer n) .first
-fieldOut (Light n) out = fieldsOf (Light n) .first
-fieldOut (Contrast n) out = fieldsOf (Contrast n) .first
-fieldOut DisplayOff out = fieldsOf DisplayOff .first
-fieldOut DisplayOn out = fieldsOf DisplayOn .first
-fieldOut CursorShown out = fieldsOf CursorShown .first
-fieldOut CursorHidden out = fieldsOf CursorHidden .first
-fieldOut Clear out = fieldsOf Clear .first
-fieldOut LabelsEmpty out = fieldsOf LabelsEmpty .first
-fieldOut LightOn out = fieldsOf LightOn .first
-fieldOut LightAutoStart out = fieldsOf LightAutoStart .first
-fieldOut LightAuto out = fieldsOf LightAuto .first
-fieldOut DefaultDuration out = fieldsOf DefaultDuration .first
-fieldOut KeypadSet out = fieldsOf KeypadSet .first
-fieldOut KeypadCleared out = fieldsOf KeypadCleared .first
-fieldOut ContrastAsked out = fieldsOf ContrastAsked .first
-fieldOut HookAsked out = fieldsOf HookAsked .first
-fieldOut VersionAsked out = fieldsOf VersionAsked .first
-fieldOut ClearLine out = fieldsOf ClearLine .first
+fieldOut c out =
+    cond (sameKind c (Position 0 0)) (cond (eqb (firstNumber c) out) Field.Row Field.Column)
+    (cond (sameKind c (KeyTimes 0 0)) (cond (eqb (firstNumber c) out) Field.Time1 Field.Time2)
+    (cond (sameKind c (Mute 0)) Field.Mute
+    (cond (sameKind c (Inverse 0)) Field.Mark
+    (fieldsOf c .first))))
