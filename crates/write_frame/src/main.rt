@@ -7,6 +7,7 @@ ghost use Prim.Native.Nat.{_≤_};
 ghost use lib.ListN.{length};
 use command::Command;
 use command::Side;
+use handset_numbers::command_of;
 use libc::STDERR_FILENO;
 use lists::BLANK;
 use lists::CARRIAGE_RETURN;
@@ -24,8 +25,37 @@ const NOWHERE: usize = 0xFFFF_FFFF_FFFF_FFFF;
 // Past every number of three digits.
 const NO_NUMBER: u16 = 1000;
 
-// The sign of no phrase.
+// Stands in the table of phrases for a number that is wanted.
+const NUMBER_SIGN: u8 = b'#';
+
+// Stands there before the words of a range.
+const COLON: u8 = b':';
+
+// The lines of the table are counted from 1.
 const NO_PHRASE: u8 = 0;
+
+// Its first lines: what is no command, or says one in other words.
+const LEFT: u8 = 1;
+
+const RIGHT: u8 = 2;
+
+const TEXT: u8 = 3;
+
+const FRAME: u8 = 4;
+
+const PICTURE: u8 = 5;
+
+const HELP: u8 = 6;
+
+const ICON: u8 = 7;
+
+const LIGHT_OFF: u8 = 8;
+
+// The line of command 0; the others follow by their numbers.
+const FIRST_COMMAND: u8 = 9;
+
+// The number of the command that light off says with a 0.
+const LIGHT: u8 = 20;
 
 const LAST_ROW: u16 = record::LAST_ROW as u16;
 
@@ -43,16 +73,11 @@ enum Outcome {
     BadText,
 }
 
-// A phrase, by its sign in the table of phrases, and where the line that begins with it goes on.
+// A phrase, by its line of the table; where the table goes on behind its words, and where the line does that begins with them.
 struct Found {
     phrase: u8,
+    behind: usize,
     at: usize,
-}
-
-// A part of a text.
-struct Part {
-    start: usize,
-    end: usize,
 }
 
 // A word as a number, and where it ends.
@@ -138,15 +163,15 @@ fn send_frame(body: &[u8]) -> Outcome {
 
 // The words of a line.
 
-// The first place from here on that has a blank, or the first that has none.
-fn seek(s: &[u8], from: usize, blank: bool) -> usize
+// The first place from here on that has this sign, or the first that has another.
+fn seek(s: &[u8], from: usize, sign: u8, has: bool) -> usize
     requires { ⌜ from ≤ length (now s) ⌝ }
     ensures { λ r. ⌜ (from ≤ r) × (r ≤ length (now (s .entry))) ⌝ }
 {
     let mut i = from;
     while i < s.len() {
-        let here = s[i] == BLANK;
-        if here == blank {
+        let here = s[i] == sign;
+        if here == has {
             return i;
         }
         i += 1;
@@ -159,7 +184,7 @@ fn behind_sign(line: &[u8], at: usize, sign: u8) -> usize {
     if at < line.len() {
         if line[at] == sign {
             if sign == BLANK {
-                return seek(line, at, false);
+                return seek(line, at, BLANK, false);
             }
             return at + 1;
         }
@@ -167,49 +192,52 @@ fn behind_sign(line: &[u8], at: usize, sign: u8) -> usize {
     NOWHERE
 }
 
-// The place behind the one blank that ends a word; NOWHERE where the word goes on.
-fn behind_word(line: &[u8], at: usize) -> usize {
+// The place behind the one blank that ends a word; 0 where the word goes on, and at NOWHERE.
+fn behind_word(line: &[u8], at: usize) -> usize
+    ensures { λ r. ⌜ r ≤ length (now (line .entry)) ⌝ }
+{
+    if at == line.len() {
+        return at;
+    }
     if at < line.len() {
         if line[at] == BLANK {
             return at + 1;
         }
-        return NOWHERE;
     }
-    at
+    0
 }
 
-// The first of these phrases that a line has from this place on. Its sign and a blank stand before each phrase, a line feed ends it.
+// The longest phrase of the table that a line has from this place on. At NOWHERE the rest of a line of the table is passed by.
 fn find(phrases: &[u8], line: &[u8], start: usize) -> Found
-    ensures { λ r. ⌜ r .at ≤ length (now (line .entry)) ⌝ }
+    ensures { λ r. ⌜ (r .behind ≤ length (now (phrases .entry))) × (r .at ≤ length (now (line .entry))) ⌝ }
 {
-    let mut phrase = NO_PHRASE;
+    let mut found = NO_PHRASE;
+    let mut behind = 0;
+    let mut longest = 0;
+    let mut phrase = 1;
     let mut at = start;
     for i in 0..phrases.len() {
         let sign = phrases[i];
-        if phrase == NO_PHRASE {
-            phrase = sign;
+        if (sign != NUMBER_SIGN) & (sign != COLON) & (sign != LINE_FEED) {
+            at = behind_sign(line, at, sign);
             continue;
         }
-        if (sign == BLANK) & (at == start) {
-            continue;
+        let tail = behind_word(line, at);
+        if longest < tail {
+            found = phrase;
+            behind = i;
+            longest = tail;
         }
+        at = NOWHERE;
         if sign == LINE_FEED {
-            let tail = behind_word(line, at);
-            if tail <= line.len() {
-                return Found {
-                    phrase: phrase,
-                    at: tail,
-                };
-            }
-            phrase = NO_PHRASE;
+            phrase = std::num::wrapping_add_u8(phrase, 1);
             at = start;
-            continue;
         }
-        at = behind_sign(line, at, sign);
     }
     Found {
-        phrase: NO_PHRASE,
-        at: 0,
+        phrase: found,
+        behind: behind,
+        at: longest,
     }
 }
 
@@ -224,8 +252,8 @@ fn next_number(words: &[u8], from: usize, wanted: bool) -> Given
             end: from,
         };
     }
-    let start = seek(words, from, false);
-    let end = seek(words, start, true);
+    let start = seek(words, from, BLANK, false);
+    let end = seek(words, start, BLANK, true);
     let numeral = read_number(&words[start..end]);
     match numeral {
         Numeral::None => Given {
@@ -241,189 +269,26 @@ fn next_number(words: &[u8], from: usize, wanted: bool) -> Given
 
 // Commands.
 
-// The table of phrases, each with its sign before it: the note's letter where it has one. Of phrases that begin with the same
-// words the longest comes first.
-fn find_phrase(line: &[u8], start: usize) -> Found
-    ensures { λ r. ⌜ r .at ≤ length (now (line .entry)) ⌝ }
+// How many numbers a phrase wants, by what the table has behind its words.
+fn wanted(behind: &[u8]) -> usize
+    ensures { λ r. ⌜ r ≤ length (now (behind .entry)) ⌝ }
 {
-    find(
-        b"< left\n\
-        > right\n\
-        = text\n\
-        ! frame\n\
-        : picture\n\
-        ? help\n\
-        x display off\n\
-        X display on\n\
-        C cursor show\n\
-        c cursor hide\n\
-        l clear line\n\
-        # clear\n\
-        0 labels empty\n\
-        E light on\n\
-        e light off\n\
-        a light auto keep\n\
-        A light auto\n\
-        d light default\n\
-        K keypad on\n\
-        k keypad off\n\
-        D mode\n\
-        S icon S\n\
-        U icon U\n\
-        F icon F\n\
-        R icon R\n\
-        P icon P\n\
-        W icon W\n\
-        i icon\n\
-        L private\n\
-        I handsfree note\n\
-        J handsfree\n\
-        M mute\n\
-        B buzzer\n\
-        n light\n\
-        H at\n\
-        T times\n\
-        t contrast\n\
-        q ask contrast\n\
-        h ask hook\n\
-        V ask version\n\
-        Z inverse\n",
-        line,
-        start,
-    )
+    seek(behind, 0, NUMBER_SIGN, false)
 }
 
-// The line of a table that begins with this sign: what stands behind the sign, with its line feed.
-fn entry(table: &[u8], sign: u8) -> Part
-    ensures { λ r. ⌜ (r .start ≤ r .end) × (r .end ≤ length (now (table .entry))) ⌝ }
-{
-    let mut start = 0;
-    for i in 0..table.len() {
-        if table[i] != LINE_FEED {
-            continue;
-        }
-        if table[start] == sign {
-            return Part {
-                start: start + 1,
-                end: i + 1,
-            };
-        }
-        start = i + 1;
-    }
-    Part { start: 0, end: 0 }
-}
-
-fn tell_entry(table: &[u8], sign: u8) {
-    let part = entry(table, sign);
-    let start = part.start;
-    let end = part.end;
-    tell(&table[start..end]);
-}
-
-// The ranges of the phrases, by the same signs.
-fn tell_range(phrase: u8) {
-    tell_entry(
-        b"< a label has at most 7 codes, none below 0x20\n\
-        > a label has at most 7 codes, none below 0x20\n\
-        : picture rows are 0-6, and columns of row 6 are 00-1F\n\
-        D mode is 0 1 5 6 10 or 11 to 18\n\
-        S icon S is 0-1\n\
-        U icon U is 0 1 or 255\n\
-        F icon F is 0-6\n\
-        R icon R is 0-1\n\
-        P icon P is 0-19\n\
-        W icon W is 0-3\n\
-        L private is 0-10\n\
-        I handsfree is 0-10\n\
-        J handsfree is 0-10\n\
-        M mute is 0-1\n\
-        B buzzer is 0-255\n\
-        n light is 0-255\n\
-        H at is a row 0-4 and a column 0-15\n\
-        T times are 4-50 and 0 or 4-50\n\
-        t contrast is 1-20\n\
-        Z inverse is 0-5\n",
-        phrase,
-    );
-}
-
-// How many numbers a phrase of the table wants.
-fn wanted(phrase: u8) -> u8 {
-    match phrase {
-        b'D' => 1,
-        b'S' => 1,
-        b'U' => 1,
-        b'F' => 1,
-        b'R' => 1,
-        b'P' => 1,
-        b'W' => 1,
-        b'L' => 1,
-        b'I' => 1,
-        b'J' => 1,
-        b'M' => 1,
-        b'B' => 1,
-        b'n' => 1,
-        b't' => 1,
-        b'Z' => 1,
-        b'H' => 2,
-        b'T' => 2,
-        _ => 0,
-    }
-}
-
-// The command of a phrase of the table and its numbers.
-fn command_of(phrase: u8, n: u16, m: u16) -> Command {
-    match phrase {
-        b'x' => Command::DisplayOff,
-        b'X' => Command::DisplayOn,
-        b'C' => Command::CursorShown,
-        b'c' => Command::CursorHidden,
-        b'#' => Command::Clear,
-        b'0' => Command::LabelsEmpty,
-        b'E' => Command::LightOn,
-        b'e' => Command::Light(0),
-        b'a' => Command::LightAuto,
-        b'A' => Command::LightAutoStart,
-        b'd' => Command::DefaultDuration,
-        b'K' => Command::KeypadSet,
-        b'k' => Command::KeypadCleared,
-        b'D' => Command::Mode(n),
-        b'S' => Command::IconS(n),
-        b'U' => Command::IconU(n),
-        b'F' => Command::IconF(n),
-        b'R' => Command::IconR(n),
-        b'P' => Command::IconP(n),
-        b'W' => Command::IconW(n),
-        b'L' => Command::Private(n),
-        b'I' => Command::HandsfreeOfNote(n),
-        b'J' => Command::Handsfree(n),
-        b'M' => Command::Mute(n),
-        b'B' => Command::Buzzer(n),
-        b'n' => Command::Light(n),
-        b't' => Command::Contrast(n),
-        b'q' => Command::ContrastAsked,
-        b'h' => Command::HookAsked,
-        b'V' => Command::VersionAsked,
-        b'l' => Command::ClearLine,
-        b'Z' => Command::Inverse(n),
-        b'H' => Command::Position(n, m),
-        _ => Command::KeyTimes(n, m),
-    }
-}
-
-fn obey_command(phrase: u8, words: &[u8]) -> Outcome {
-    let most = wanted(phrase);
+// A command by its number, and the words behind its phrase: as many numbers as are wanted, and nothing else.
+fn obey_command(kind: u8, most: usize, words: &[u8]) -> Outcome {
     let first = next_number(words, 0, 0 < most);
     let second = next_number(words, first.end, 1 < most);
     let n = first.number;
     let m = second.number;
-    if seek(words, second.end, false) < words.len() {
+    if seek(words, second.end, BLANK, false) < words.len() {
         return Outcome::BadNumbers;
     }
     if (n == NO_NUMBER) | (m == NO_NUMBER) {
         return Outcome::BadNumbers;
     }
-    send_command(command_of(phrase, n, m))
+    send_command(command_of(kind, n, m))
 }
 
 // Picture rows.
@@ -536,29 +401,36 @@ fn help() -> Outcome {
     Outcome::Taken
 }
 
-// A phrase of the table with all that stands behind it.
-fn obey_phrase(phrase: u8, rest: &[u8]) -> Outcome {
+// A phrase of the table, how many numbers it wants, and all that stands behind it.
+fn obey_phrase(phrase: u8, most: usize, rest: &[u8]) -> Outcome {
+    if FIRST_COMMAND <= phrase {
+        return obey_command(phrase - FIRST_COMMAND, most, rest);
+    }
     match phrase {
-        NO_PHRASE => Outcome::NoSuchCommand,
-        b'i' => Outcome::NoSuchIcon,
-        b'<' => send_label(Side::Left, rest),
-        b'>' => send_label(Side::Right, rest),
-        b'=' => send_text(rest),
-        b'!' => send_frame(rest),
-        b':' => obey_picture(rest),
-        b'?' => help(),
-        _ => obey_command(phrase, rest),
+        LEFT => send_label(Side::Left, rest),
+        RIGHT => send_label(Side::Right, rest),
+        TEXT => send_text(rest),
+        FRAME => send_frame(rest),
+        PICTURE => obey_picture(rest),
+        HELP => help(),
+        ICON => Outcome::NoSuchIcon,
+        LIGHT_OFF => obey_command(LIGHT, most, rest),
+        _ => Outcome::NoSuchCommand,
     }
 }
 
-fn refuse_range(phrase: u8, number: u64) {
-    refuse(number, b": out of range:");
-    tell_range(phrase);
+// The table has the range behind the words of a phrase, with a colon before it.
+fn refuse_range(behind: &[u8], number: u64) {
+    let start = wanted(behind);
+    let end = seek(behind, start, LINE_FEED, true);
+    refuse(number, b": out of range");
+    tell(&behind[start..end]);
+    tell(b"\n");
 }
 
 // A phrase that wants no number wants no word at all behind it.
-fn refuse_numbers(wanted: u8, number: u64) {
-    match wanted {
+fn refuse_numbers(most: usize, number: u64) {
+    match most {
         1 => refuse(
             number,
             b": one number of one to three digits is wanted, and no leading zero\n",
@@ -571,13 +443,13 @@ fn refuse_numbers(wanted: u8, number: u64) {
     }
 }
 
-fn tell_outcome(outcome: Outcome, phrase: u8, number: u64) {
+fn tell_outcome(outcome: Outcome, behind: &[u8], number: u64) {
     match outcome {
         Outcome::Taken => {}
         Outcome::NoSuchCommand => refuse(number, b": no such command; the line help lists them\n"),
         Outcome::NoSuchIcon => refuse(number, b": icons are S U F R P W, in capital letters\n"),
-        Outcome::BadNumbers => refuse_numbers(wanted(phrase), number),
-        Outcome::OutOfRange => refuse_range(phrase, number),
+        Outcome::BadNumbers => refuse_numbers(wanted(behind), number),
+        Outcome::OutOfRange => refuse_range(behind, number),
         Outcome::BadColumns => refuse(
             number,
             b": wanted are a row and 1 to 96 columns, two digits 0-9 A-F each\n",
@@ -586,18 +458,71 @@ fn tell_outcome(outcome: Outcome, phrase: u8, number: u64) {
     }
 }
 
+fn obey_words(phrases: &[u8], line: &[u8], start: usize, number: u64) {
+    let found = find(phrases, line, start);
+    let at = found.at;
+    let from = found.behind;
+    let behind = &phrases[from..];
+    let outcome = obey_phrase(found.phrase, wanted(behind), &line[at..]);
+    tell_outcome(outcome, behind, number);
+}
+
+// The table of phrases. Behind a phrase stand a # for each number that is wanted and, where something can be out of range, a colon and
+// what is in range. The commands come in the order of their numbers. Of phrases that begin with the same words the longest is meant.
 fn obey(line: &[u8], number: u64) {
-    let start = seek(line, 0, false);
+    let start = seek(line, 0, BLANK, false);
     if line.len() <= start {
         return;
     }
     if line[start] == b'#' {
         return;
     }
-    let found = find_phrase(line, start);
-    let at = found.at;
-    let phrase = found.phrase;
-    tell_outcome(obey_phrase(phrase, &line[at..]), phrase, number);
+    obey_words(
+        b"left: a label has at most 7 codes, none below 0x20\n\
+        right: a label has at most 7 codes, none below 0x20\n\
+        text\n\
+        frame\n\
+        picture: picture rows are 0-6, and columns of row 6 are 00-1F\n\
+        help\n\
+        icon\n\
+        light off\n\
+        display off\n\
+        display on\n\
+        mode#: mode is 0 1 5 6 10 or 11 to 18\n\
+        cursor show\n\
+        cursor hide\n\
+        clear\n\
+        at##: at is a row 0-4 and a column 0-15\n\
+        labels empty\n\
+        icon S#: icon S is 0-1\n\
+        icon U#: icon U is 0 1 or 255\n\
+        icon F#: icon F is 0-6\n\
+        icon R#: icon R is 0-1\n\
+        icon P#: icon P is 0-19\n\
+        icon W#: icon W is 0-3\n\
+        private#: private is 0-10\n\
+        handsfree#: handsfree is 0-10\n\
+        handsfree note#: handsfree is 0-10\n\
+        mute#: mute is 0-1\n\
+        times##: times are 4-50 and 0 or 4-50\n\
+        buzzer#: buzzer is 0-255\n\
+        light#: light is 0-255\n\
+        light on\n\
+        light auto\n\
+        light auto keep\n\
+        light default\n\
+        keypad on\n\
+        keypad off\n\
+        contrast#: contrast is 1-20\n\
+        ask contrast\n\
+        ask hook\n\
+        ask version\n\
+        clear line\n\
+        inverse#: inverse is 0-5\n",
+        line,
+        start,
+        number,
+    );
 }
 
 // How long a line is without the CR that may end it.
