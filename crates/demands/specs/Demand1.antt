@@ -18,7 +18,7 @@ use Rattle.record.specs.Range.{inRange, backlightInRange}
 use Rattle.command.specs.Order.{Order}
 use Rattle.command.specs.Grammar.{Spells}
 use Rattle.command.specs.InRange.{inRangeInMode}
-use Rattle.effect.specs.Core.{Core, coreOf}
+use Rattle.record.specs.Core.{Core, coreOf}
 use Rattle.parting.specs.Rules.{Body, closed, abandoned, keep, limit}
 use Rattle.parting.specs.Meaning.{with, close, act}
 use Rattle.stream.specs.Stream.{handset, recordOf, fedOf, answersAfter}

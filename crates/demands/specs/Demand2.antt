@@ -25,10 +25,11 @@ use Rattle.command.specs.Spell.{spelling}
 use Rattle.command.specs.InRange.{commandInRange, mostRows, inRangeInMode}
 use Rattle.command.specs.Agree.{one-order}
 use Rattle.command.specs.OneSpelling.{NoData, one-frame, no-data}
-use Rattle.effect.specs.Core.{Core, coreOf}
+use Rattle.record.specs.Core.{Core, coreOf}
 use Rattle.effect.specs.Effect.{effect, carryOut, storeText}
-use Rattle.effect.specs.Fields.{Field, text, largeLine, read, sets}
-use Rattle.effect.specs.Untouched.{stays, other-rows-stay, past-data-stays, rows-stay, line-stays, fields-are-all}
+use Rattle.record.specs.Fields.{Field, text, largeLine, read, fields-are-all}
+use Rattle.effect.specs.Touched.{sets}
+use Rattle.effect.specs.Untouched.{stays, apart, other-rows-stay, past-data-stays, rows-stay, line-stays}
 use Rattle.parting.specs.Rules.{closed}
 use Rattle.parting.specs.Meaning.{act}
 use Rattle.stream.specs.Stream.{handset}

@@ -18,7 +18,7 @@ use Rattle.command.specs.Order.{Order}
 use Rattle.command.specs.Grammar.{Spells}
 use Rattle.command.specs.InRange.{inRangeInMode}
 use Rattle.command.specs.Agree.{agree, bad-frame}
-use Rattle.effect.specs.Core.{Core, coreOf}
+use Rattle.record.specs.Core.{Core, coreOf}
 use Rattle.effect.specs.Effect.{effect, carryOut}
 use Rattle.answer.specs.Answers.{answerBytes}
 use Rattle.effect.specs.Obey.{obeyOrder, answerTo}

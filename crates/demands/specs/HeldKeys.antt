@@ -2,7 +2,7 @@
 -- Time2 alone. Any two records in range that do so are told apart by no stream in which no key times are set. Assumes nothing.
 use Prim.Native.Nat.{ℕ, _≤_}
 use mathlib.Core.Path.{_≡_, refl, sym, ap, _∙_, subst}
-use mathlib.Core.Bool.{true, false, cond, true≢false}
+use mathlib.Core.Bool.{true, false}
 use mathlib.Core.List.{List, [], _∷_, _++_}
 use mathlib.Core.Option.{Option, none, some}
 use lib.Dec.{ltb}
@@ -14,15 +14,16 @@ use Rattle.record.specs.declared.Frame.{Frame as KeptFrame}
 use Rattle.record.specs.PowerOn.{powerOn, formerPowerOn}
 use Rattle.record.specs.Range.{inRange, rowEndOf}
 use Rattle.record.specs.With.{withSettings, withTimes, withTime2}
-use Rattle.command.specs.Order.{Order, plain, label, draw}
+use Rattle.command.specs.Order.{Order}
 use Rattle.command.specs.Grammar.{Spells}
 use Rattle.command.specs.InRange.{inRangeInMode}
 use Rattle.command.specs.Reading.{orderOf}
 use Rattle.command.specs.Agree.{agree}
-use Rattle.command.specs.declared.Command.the-variants.{DisplayOff, DisplayOn, Mode, CursorShown, CursorHidden, Clear, Position, LabelsEmpty, IconS, IconU, IconF, IconR, IconP, IconW, Private, Handsfree, HandsfreeOfNote, Mute, KeyTimes, Buzzer, Light, LightOn, LightAutoStart, LightAuto, DefaultDuration, KeypadSet, KeypadCleared, Contrast, ContrastAsked, HookAsked, VersionAsked, ClearLine, Inverse}
-use Rattle.command.specs.declared.Side.the-variants.{Left, Right}
-use Rattle.effect.specs.Core.{Core, coreOf, onSettings}
-use Rattle.effect.specs.Effect.{effect, carryOut, storeText}
+use Rattle.record.specs.Core.{Core, coreOf}
+use Rattle.record.specs.Fields.{time2, put}
+use Rattle.effect.specs.Effect.{carryOut, storeText}
+use Rattle.effect.specs.Touched.{touches}
+use Rattle.effect.specs.Untouched.{apart}
 use Rattle.answer.specs.Answers.{answerBytes}
 use Rattle.effect.specs.Obey.{obeyOrder, answerTo}
 use Rattle.parting.specs.Rules.{Parted, Parting, Stands}
@@ -37,12 +38,9 @@ use Rattle.demands.specs.Frames.{all-taken}
 abbrev pub otherTime2 : ℕ → Record → Record
 otherTime2 n r = withSettings r (withTimes (r .settings) (withTime2 (r .settings .times) n))
 
-abbrev coreOtherTime2 : ℕ → Core → Core
-coreOtherTime2 n c = onSettings c (withTimes (c .settings) (withTime2 (c .settings .times) n))
-
--- a frame that sets no key times: where it is an IT frame, its times are out of range
+-- a frame that sets no key times: an order that it spells and that touches Time2, as IT does alone, is out of range
 abbrev pub SetsNoTimes : List ℕ → Type 0
-SetsNoTimes frame = (mode time1 time2 : ℕ) → Spells (plain (KeyTimes time1 time2)) frame → inRangeInMode mode (plain (KeyTimes time1 time2)) ≡ false
+SetsNoTimes frame = (o : Order) → Spells o frame → touches o time2 ≡ true → (mode : ℕ) → inRangeInMode mode o ≡ false
 
 -- THE STATEMENT: from a record in range and the same with another Time2, a stream in whose parting no closed frame sets key times, and
 -- room for all answers: the same bytes are used, the same answers written, and the records still differ in that Time2 alone.
@@ -56,67 +54,26 @@ pub record HeldKeys : Type 0 where
 -- The proof ---------------------------------------------------------------------------------------------------------
 
 module _ (n : ℕ) where
-  -- No order reads Time2, and IT alone sets it.
-  effect-alike : (o : Order) (c : Core) → ((time1 time2 : ℕ) → o ≡ plain (KeyTimes time1 time2) → ⊥) → effect o (coreOtherTime2 n c) ≡ coreOtherTime2 n (effect o c)
-  effect-alike (plain DisplayOff) c h = refl
-  effect-alike (plain DisplayOn) c h = refl
-  effect-alike (plain (Mode m)) c h = refl
-  effect-alike (plain CursorShown) c h = refl
-  effect-alike (plain CursorHidden) c h = refl
-  effect-alike (plain Clear) c h = refl
-  effect-alike (plain (Position row column)) c h = refl
-  effect-alike (plain LabelsEmpty) c h = refl
-  effect-alike (label Left t) c h = refl
-  effect-alike (label Right t) c h = refl
-  effect-alike (plain (IconS m)) c h = refl
-  effect-alike (plain (IconU m)) c h = refl
-  effect-alike (plain (IconF m)) c h = refl
-  effect-alike (plain (IconR m)) c h = refl
-  effect-alike (plain (IconP m)) c h = refl
-  effect-alike (plain (IconW m)) c h = refl
-  effect-alike (plain (Private m)) c h = refl
-  effect-alike (plain (Handsfree m)) c h = refl
-  effect-alike (plain (HandsfreeOfNote m)) c h = refl
-  effect-alike (plain (Mute m)) c h = refl
-  effect-alike (plain (KeyTimes time1 time2)) c h = absurd (h time1 time2 refl)
-  effect-alike (plain (Buzzer m)) c h = refl
-  effect-alike (plain (Light m)) c h = refl
-  effect-alike (plain LightOn) c h = refl
-  effect-alike (plain LightAutoStart) c h = refl
-  effect-alike (plain LightAuto) c h = refl
-  effect-alike (plain DefaultDuration) c h = refl
-  effect-alike (plain KeypadSet) c h = refl
-  effect-alike (plain KeypadCleared) c h = refl
-  effect-alike (plain (Contrast m)) c h = refl
-  effect-alike (plain ContrastAsked) c h = refl
-  effect-alike (plain HookAsked) c h = refl
-  effect-alike (plain VersionAsked) c h = refl
-  effect-alike (plain ClearLine) c h = refl
-  effect-alike (plain (Inverse m)) c h = refl
-  effect-alike (draw row columns) c h = refl
+  abbrev coreOtherTime2 : Core → Core
+  coreOtherTime2 c = put time2 (n ∷ []) c
 
-  carried-alike : (o : Order) (c : Core) (frame : List ℕ) → SetsNoTimes frame → Spells o frame → carryOut o (coreOtherTime2 n c) ≡ coreOtherTime2 n (carryOut o c)
+  -- An order that does not touch Time2 goes the same way whatever it is; one that does is passed over.
+  carried-alike : (o : Order) (c : Core) (frame : List ℕ) → SetsNoTimes frame → Spells o frame → carryOut o (coreOtherTime2 c) ≡ coreOtherTime2 (carryOut o c)
   unfolding carryOut
-  carried-alike o c frame sets s =
-      by-test (inRangeInMode (c .settings .screen .mode) o)
-      (λ inside.
-      rw inside
-      (effect-alike o c (λ time1 time2 e.
-      true≢false (sym inside ∙ ap (inRangeInMode (c .settings .screen .mode)) e ∙ sets (c .settings .screen .mode) time1 time2 (subst (λ (x : Order). Spells x frame) e s)))))
-      (λ outside. rw outside)
+  carried-alike o c frame sets s = by-test (touches o time2) (λ e. rw (sets o s e (c .settings .screen .mode))) (λ e. apart o time2 (n ∷ []) c e)
 
   abbrev Agree : Core → Core → Type 0
-  Agree one other = other ≡ coreOtherTime2 n one
+  Agree one other = other ≡ coreOtherTime2 one
 
-  stored-alike : (c : Core) (b : ℕ) → storeText (coreOtherTime2 n c) b ≡ coreOtherTime2 n (storeText c b)
+  stored-alike : (c : Core) (b : ℕ) → storeText (coreOtherTime2 c) b ≡ coreOtherTime2 (storeText c b)
   unfolding storeText
   stored-alike c b = by-test (ltb (c .settings .screen .column) (rowEndOf (c .settings .screen .mode))) (λ e. rw e) (λ e. rw e)
 
-  obeyed-alike : (c : Core) (frame : List ℕ) → SetsNoTimes frame → obeyFrame (coreOtherTime2 n c) frame ≡ record { core = coreOtherTime2 n (obeyFrame c frame .core); answers = obeyFrame c frame .answers }
+  obeyed-alike : (c : Core) (frame : List ℕ) → SetsNoTimes frame → obeyFrame (coreOtherTime2 c) frame ≡ record { core = coreOtherTime2 (obeyFrame c frame .core); answers = obeyFrame c frame .answers }
   obeyed-alike c frame sets = go (orderOf frame) refl
     where
       go : (found : Option Order) → orderOf frame ≡ found
-          → obeyFrame (coreOtherTime2 n c) frame ≡ record { core = coreOtherTime2 n (obeyFrame c frame .core); answers = obeyFrame c frame .answers }
+          → obeyFrame (coreOtherTime2 c) frame ≡ record { core = coreOtherTime2 (obeyFrame c frame .core); answers = obeyFrame c frame .answers }
       go none e = rw e
       go (some o) e = rw e (λ j. record { core = carried-alike o c frame sets (agree o frame .0 e) j; answers = answerBytes (answerTo (some o)) (c .settings .contrast) (c .settings .hook) })
 

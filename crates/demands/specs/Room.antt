@@ -33,7 +33,7 @@ use Rattle.command.specs.Table.{classes, nextStates}
 use Rattle.command.specs.Reading.{readBy, readOf, opensPicture, orderOf}
 use Rattle.command.specs.Agree.{agree, bad-frame}
 use Rattle.command.specs.declared.Command.the-variants.{ContrastAsked, HookAsked, VersionAsked}
-use Rattle.effect.specs.Core.{Core, coreOf}
+use Rattle.record.specs.Core.{Core, coreOf}
 use Rattle.effect.specs.Obey.{answerTo}
 use Rattle.effect.specs.Questions.{three-questions, silence-of}
 use Rattle.turns.specs.Taking.{Taken, answering}

@@ -10,7 +10,7 @@ use Rattle.verdict.specs.declared.Verdict.{Verdict}
 use Rattle.verdict.specs.declared.Verdict.the-variants.{Bad, PassedOver, Obeyed}
 use Rattle.verdict.specs.Verdict.{verdictOf}
 use Rattle.verdict.specs.Laws.{Tells, tells}
-use Rattle.effect.specs.Core.{Core}
+use Rattle.record.specs.Core.{Core}
 use Rattle.effect.specs.Effect.{effect}
 use Rattle.parting.specs.Rules.{closed}
 use Rattle.parting.specs.Meaning.{act}

@@ -13,7 +13,7 @@ use Rattle.command.specs.Reading.{readBy, opensPicture, pictureOf, orderBy}
 use Rattle.command.specs.Found.{drawn-found}
 use Rattle.command.specs.declared.PictureFrame.{PictureFrame}
 use Rattle.effect.specs.declared.Obeyed.{Obeyed}
-use Rattle.effect.specs.Core.{Core, onPicture}
+use Rattle.record.specs.Core.{Core, onPicture}
 use Rattle.effect.specs.Effect.{drawn, carryOut}
 use Rattle.effect.specs.Obey.{obeyOrder, answerTo, Obeys}
 

@@ -14,10 +14,10 @@ use Rattle.frame_table.specs.Reader as reader
 use Rattle.command.specs.Table.{classes, nextStates}
 use Rattle.command.specs.Pick.{withNumber, displayOf, lightOf, contrastOf, afterI, cursorSign, afterBracket, commandOf}
 use Rattle.command.specs.Reading.{isText, labelRead, readBy, readOf, opensPicture, rowAndData, drawnRow, pictureOf, orderOf}
-use Rattle.effect.specs.Core.{Core, coreOf}
+use Rattle.record.specs.Core.{Core, coreOf}
 use Rattle.effect.specs.Effect.{blanks, drawn, carryOut, storeText}
 use Rattle.effect.specs.Obey.{obeyOrder}
-use Rattle.effect.specs.Fields.{bit}
+use Rattle.record.specs.Fields.{bit}
 
 -- frames, one after the other
 abbrev pub obeying : Core → List (List ℕ) → Core

@@ -34,7 +34,7 @@ use Rattle.command.specs.Sound.{sound}
 use Rattle.command.specs.Facts.{LabelText, PictureRow, read-label, read-row}
 use Rattle.command.specs.declared.Command.the-variants.{DisplayOff, DisplayOn, Mode, CursorShown, CursorHidden, Clear, Position, LabelsEmpty, IconS, IconU, IconF, IconR, IconP, IconW, Private, Handsfree, HandsfreeOfNote, Mute, KeyTimes, Buzzer, Light, LightOn, LightAutoStart, LightAuto, DefaultDuration, KeypadSet, KeypadCleared, Contrast, ContrastAsked, HookAsked, VersionAsked, ClearLine, Inverse}
 use Rattle.command.specs.declared.Side.the-variants.{Left, Right}
-use Rattle.effect.specs.Core.{Core, coreOf, onSettings, onText, onPicture, onScreen, onIcons, onVolume, onBacklight}
+use Rattle.record.specs.Core.{Core, coreOf, onSettings, onText, onPicture, onScreen, onIcons, onVolume, onBacklight}
 use Rattle.effect_modes.specs.Modes.{at, inMode, atLevel}
 use Rattle.effect.specs.Effect.{blanks, labelOf, muted, lightAt, lineCleared, marksOf, keptIn, drawn, effect, carryOut, storeText}
 use Rattle.effect.specs.Obey.{obeyOrder}

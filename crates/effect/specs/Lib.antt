@@ -1,9 +1,8 @@
-pub mod Core
 pub mod Effect
 pub mod Obey
 pub mod Questions
 pub mod Sets
 pub mod Keeps
 pub mod Cases
-pub mod Fields
+pub mod Touched
 pub mod Untouched

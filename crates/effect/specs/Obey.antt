@@ -13,7 +13,7 @@ use Rattle.command.specs.Kind.{sameKind}
 use Rattle.command.specs.declared.Command.{Command}
 use Rattle.command.specs.declared.Command.the-variants.{ContrastAsked, HookAsked, VersionAsked}
 use Rattle.effect.specs.declared.Obeyed.{Obeyed}
-use Rattle.effect.specs.Core.{Core}
+use Rattle.record.specs.Core.{Core}
 use Rattle.effect.specs.Effect.{carryOut}
 
 -- a frame outside the grammar changes nothing; a frame of the grammar has its order carried out

@@ -14,7 +14,7 @@ use Rattle.command.specs.Order.{Order, plain, label, draw}
 use Rattle.command.specs.Kind.{sameKind, that-one}
 use Rattle.command.specs.declared.Command.{Command}
 use Rattle.command.specs.declared.Command.the-variants.{ContrastAsked, HookAsked, VersionAsked}
-use Rattle.effect.specs.Core.{Core}
+use Rattle.record.specs.Core.{Core}
 use Rattle.effect.specs.Effect.{carryOut}
 use Rattle.effect.specs.Obey.{obeyOrder, answerFor, answerTo}
 

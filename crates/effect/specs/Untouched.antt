@@ -1,4 +1,5 @@
--- No order has an effect besides those that the table of Fields.antt names. Assumes nothing.
+-- WHAT AN ORDER DOES NOT TOUCH: it sets no field but those that the table of Touched.antt names, and what stands in a field that it
+-- neither sets nor reads makes no difference to it. Assumes nothing.
 use Prim.Native.Nat.{ℕ, _+_, _*_, _<_, _≤_}
 use native.Mathlib.Omega.{arith}
 use mathlib.Core.Bool.{Bool, true, false, cond}
@@ -6,97 +7,107 @@ use mathlib.Core.List.{List, [], _∷_, _++_, map}
 use mathlib.Core.Logic.{_≢_}
 use mathlib.Core.Path.{_≡_, refl, ap, sym, _∙_}
 use lib.Dec.{eqb, leb, ltb}
-use lib.ListN.{length, getD, drop, length-map, take-append-drop}
+use lib.ListN.{length, getD, length-map}
 use Rattle.lists.specs.Tests.{by-test, either-way}
 use lib.Seq.{take-set-le, drop-set-lt}
 use borrow.Author.Tests.{ltb-true}
 use Rattle.lists.specs.Both.{both}
 use Rattle.record.specs.Range.{large, rowsOf, rowEndOf, lineStart, cursorInRange}
-use Rattle.record.specs.declared.Label.{Label}
+use Rattle.record.specs.Core.{Core}
+use Rattle.record.specs.Fields.{Field, text, largeLine, number, read, put, allFields, at-place}
 use Rattle.command.specs.Order.{Order, plain, label, draw}
 use Rattle.command.specs.InRange.{isOverlay, inRangeInMode}
 use Rattle.command.specs.declared.Command.the-variants.{DisplayOff, DisplayOn, Mode, CursorShown, CursorHidden, Clear, Position, LabelsEmpty, IconS, IconU, IconF, IconR, IconP, IconW, Private, Handsfree, HandsfreeOfNote, Mute, KeyTimes, Buzzer, Light, LightOn, LightAutoStart, LightAuto, DefaultDuration, KeypadSet, KeypadCleared, Contrast, ContrastAsked, HookAsked, VersionAsked, ClearLine, Inverse}
 use Rattle.command.specs.declared.Side.the-variants.{Left, Right}
-use Rattle.effect.specs.Core.{Core}
-use Rattle.effect.specs.Effect.{keptIn, drawn, effect, carryOut, storeText}
+use Rattle.effect.specs.Effect.{keptIn, drawn, lineCleared, effect, carryOut, storeText}
 use Rattle.effect.specs.Sets.{sets-outside}
-use Rattle.effect.specs.Fields.{Field, display, mode, overlay, row, column, text, largeLine, shown, leftLabel, rightLabel, iconS, iconU, iconF, iconR, iconP, iconW, which, level, mute, hidden, time1, time2, buzzer, light, duration, secondsLeft, keypad, picture, contrast, hook, inverse, number, bit, read, sets}
+use Rattle.effect.specs.Touched.{sets, touches}
 
-allFields : List Field
-allFields =
-    display ∷ mode ∷ overlay ∷ row ∷ column ∷ text ∷ largeLine ∷ shown ∷
-    leftLabel ∷ rightLabel ∷
-    iconS ∷ iconU ∷ iconF ∷ iconR ∷ iconP ∷ iconW ∷
-    which ∷ level ∷ mute ∷ hidden ∷
-    time1 ∷ time2 ∷ buzzer ∷
-    light ∷ duration ∷ secondsLeft ∷ keypad ∷
-    picture ∷
-    contrast ∷ hook ∷ inverse ∷ []
+-- A field beside an order: what stands in it, unless the order may set it; and, unless the order touches it, whether the order is in
+-- range and what it does.
+pub record Beside : Type 0 where
+  pub stands : List ℕ
+  pub inside : Bool
+  pub does : Core
 
--- What a list made from all fields has for a field stands at the place of its number.
-at-place : {A : Type 0} (g : Field → A) (d : A) (f : Field) → getD (map g allFields) (number f) d ≡ g f
-unfolding allFields
-at-place g d =
-    elim [ display ↦ refl | mode ↦ refl | overlay ↦ refl | row ↦ refl | column ↦ refl | text ↦ refl | largeLine ↦ refl | shown ↦ refl | leftLabel ↦ refl | rightLabel ↦ refl | iconS ↦ refl | iconU ↦ refl | iconF ↦ refl | iconR ↦ refl | iconP ↦ refl | iconW ↦ refl | which ↦ refl | level ↦ refl | mute ↦ refl | hidden ↦ refl | time1 ↦ refl | time2 ↦ refl | buzzer ↦ refl | light ↦ refl | duration ↦ refl | secondsLeft ↦ refl | keypad ↦ refl | picture ↦ refl | contrast ↦ refl | hook ↦ refl | inverse ↦ refl ]
+-- with other content put into the field after the order, and before it
+abbrev putAfter : Order → List ℕ → Core → Field → Beside
+putAfter o v c f =
+    record {
+      stands = cond (sets o f) [] (read f c);
+      inside = cond (touches o f) true (inRangeInMode (c .settings .screen .mode) o);
+      does = cond (touches o f) c (put f v (effect o c));
+    }
 
--- No two fields have one number.
-pub one-field : (f g : Field) → number f ≡ number g → f ≡ g
-one-field f g e =
-    let at = at-place (λ (x : Field). x) display in
-    sym (at f) ∙ ap (λ (n : ℕ). getD (map (λ (x : Field). x) allFields) n display) e ∙ at g
+abbrev putBefore : Order → List ℕ → Core → Field → Beside
+putBefore o v c f =
+    record {
+      stands = cond (sets o f) [] (read f (effect o c));
+      inside = cond (touches o f) true (inRangeInMode (put f v c .settings .screen .mode) o);
+      does = cond (touches o f) c (effect o (put f v c));
+    }
 
--- what stands in a field, unless the order may set it
-abbrev besides : Order → Core → Field → List ℕ
-besides o c f = cond (sets o f) [] (read f c)
+-- THE TABLE, for all fields at once: it makes no difference.
+beside : (o : Order) (v : List ℕ) (c : Core) → map (putBefore o v c) allFields ≡ map (putAfter o v c) allFields
+unfolding allFields lineCleared
+beside (plain DisplayOff) v c = refl
+beside (plain DisplayOn) v c = refl
+beside (plain (Mode n)) v c = by-test (isOverlay n) (λ e. rw e) (λ e. rw e)
+beside (plain CursorShown) v c = refl
+beside (plain CursorHidden) v c = refl
+beside (plain Clear) v c = refl
+beside (plain (Position r k)) v c = refl
+beside (plain LabelsEmpty) v c = refl
+beside (label Left t) v c = refl
+beside (label Right t) v c = refl
+beside (plain (IconS n)) v c = refl
+beside (plain (IconU n)) v c = refl
+beside (plain (IconF n)) v c = refl
+beside (plain (IconR n)) v c = refl
+beside (plain (IconP n)) v c = refl
+beside (plain (IconW n)) v c = refl
+beside (plain (Private n)) v c = by-test (eqb n 0) (λ e. rw e) (λ e. rw e)
+beside (plain (Handsfree n)) v c = by-test (eqb n 0) (λ e. rw e) (λ e. rw e)
+beside (plain (HandsfreeOfNote n)) v c = by-test (eqb n 0) (λ e. rw e) (λ e. rw e)
+beside (plain (Mute n)) v c = by-test (eqb n 0) (λ e. rw e) (λ e. rw e)
+beside (plain (KeyTimes t u)) v c = refl
+beside (plain (Buzzer n)) v c = refl
+beside (plain (Light n)) v c = by-test (eqb n 0) (λ e. rw e) (λ e. rw e)
+beside (plain LightOn) v c = refl
+beside (plain LightAutoStart) v c = refl
+beside (plain LightAuto) v c = refl
+beside (plain DefaultDuration) v c = refl
+beside (plain KeypadSet) v c = refl
+beside (plain KeypadCleared) v c = refl
+beside (plain (Contrast n)) v c = refl
+beside (plain ContrastAsked) v c = refl
+beside (plain HookAsked) v c = refl
+beside (plain VersionAsked) v c = refl
+beside (plain ClearLine) v c = refl
+beside (plain (Inverse n)) v c = refl
+beside (draw r columns) v c = refl
 
-effect-stays : (o : Order) (c : Core) → map (besides o (effect o c)) allFields ≡ map (besides o c) allFields
-unfolding allFields
-effect-stays (plain DisplayOff) c = refl
-effect-stays (plain DisplayOn) c = refl
-effect-stays (plain (Mode n)) c = by-test (isOverlay n) (λ e. rw e) (λ e. rw e)
-effect-stays (plain CursorShown) c = refl
-effect-stays (plain CursorHidden) c = refl
-effect-stays (plain Clear) c = refl
-effect-stays (plain (Position r k)) c = refl
-effect-stays (plain LabelsEmpty) c = refl
-effect-stays (label Left t) c = refl
-effect-stays (label Right t) c = refl
-effect-stays (plain (IconS n)) c = refl
-effect-stays (plain (IconU n)) c = refl
-effect-stays (plain (IconF n)) c = refl
-effect-stays (plain (IconR n)) c = refl
-effect-stays (plain (IconP n)) c = refl
-effect-stays (plain (IconW n)) c = refl
-effect-stays (plain (Private n)) c = by-test (eqb n 0) (λ e. rw e) (λ e. rw e)
-effect-stays (plain (Handsfree n)) c = by-test (eqb n 0) (λ e. rw e) (λ e. rw e)
-effect-stays (plain (HandsfreeOfNote n)) c = by-test (eqb n 0) (λ e. rw e) (λ e. rw e)
-effect-stays (plain (Mute n)) c = by-test (eqb n 0) (λ e. rw e) (λ e. rw e)
-effect-stays (plain (KeyTimes t u)) c = refl
-effect-stays (plain (Buzzer n)) c = refl
-effect-stays (plain (Light n)) c = by-test (eqb n 0) (λ e. rw e) (λ e. rw e)
-effect-stays (plain LightOn) c = refl
-effect-stays (plain LightAutoStart) c = refl
-effect-stays (plain LightAuto) c = refl
-effect-stays (plain DefaultDuration) c = refl
-effect-stays (plain KeypadSet) c = refl
-effect-stays (plain KeypadCleared) c = refl
-effect-stays (plain (Contrast n)) c = refl
-effect-stays (plain ContrastAsked) c = refl
-effect-stays (plain HookAsked) c = refl
-effect-stays (plain VersionAsked) c = refl
-effect-stays (plain ClearLine) c = refl
-effect-stays (plain (Inverse n)) c = refl
-effect-stays (draw r columns) c = refl
-
-effect-at : (o : Order) (f : Field) (c : Core) → besides o (effect o c) f ≡ besides o c f
-effect-at o f c =
-    sym (at-place (besides o (effect o c)) [] f) ∙ ap (λ (l : List (List ℕ)). getD l (number f) []) (effect-stays o c) ∙ at-place (besides o c) [] f
+beside-at : (o : Order) (v : List ℕ) (c : Core) (f : Field) → putBefore o v c f ≡ putAfter o v c f
+beside-at o v c f =
+    let none : Beside = record { stands = []; inside = true; does = c } in
+    sym (at-place (putBefore o v c) none f) ∙ ap (λ (l : List Beside). getD l (number f) none) (beside o v c) ∙ at-place (putAfter o v c) none f
 
 -- A field that an order may not set is as it was.
 pub stays : (o : Order) (f : Field) (c : Core) → sets o f ≡ false → read f (carryOut o c) ≡ read f c
 unfolding carryOut
 stays o f c h =
-    either-way (λ (d : Core). read f d ≡ read f c) (inRangeInMode (c .settings .screen .mode) o) (λ e. rw h at (effect-at o f c)) (λ e. refl)
+    either-way (λ (d : Core). read f d ≡ read f c) (inRangeInMode (c .settings .screen .mode) o)
+    (λ e. rw h at (ap (λ (b : Beside). b .stands) (beside-at o [] c f))) (λ e. refl)
+
+-- An order goes the same way whatever stands in a field that it does not touch.
+pub apart : (o : Order) (f : Field) (v : List ℕ) (c : Core) → touches o f ≡ false → carryOut o (put f v c) ≡ put f v (carryOut o c)
+unfolding carryOut
+apart o f v c h =
+    let inside : inRangeInMode (put f v c .settings .screen .mode) o ≡ inRangeInMode (c .settings .screen .mode) o =
+    rw h at (ap (λ (b : Beside). b .inside) (beside-at o v c f))
+    in
+    by-test (inRangeInMode (c .settings .screen .mode) o)
+    (λ e. rw (inside, e) (rw h at (ap (λ (b : Beside). b .does) (beside-at o v c f)))) (λ e. rw (inside, e))
 
 -- A picture frame sets as many places of the picture as it has columns, from column 0 of its row on. A place outside them, past the
 -- last if not before the first, is as it was.
@@ -138,44 +149,3 @@ line-stays c b k h =
     cases : (b : Bool) (n : ℕ) → ltb n (cond b 4 5) ≡ true → n < 5
     cases true n r = omega (arith, ltb-true n 4 r)
     cases false n r = ltb-true n 5 r
-
--- a core made of what stands in its fields
-made : (Field → List ℕ) → Core
-made found =
-    let one : Field → ℕ = λ f. getD (found f) 0 0 in
-    let flag : Field → Bool = λ f. eqb (getD (found f) 0 0) 1 in
-    let codes : Field → Label = λ f. record { len = getD (found f) 0 0; codes = drop 1 (found f) } in
-    record {
-      settings = record {
-        screen = record { display = flag display; mode = one mode; overlay = one overlay; row = one row; column = one column };
-        shown = flag shown;
-        left = codes leftLabel;
-        right = codes rightLabel;
-        icons = record { s = one iconS; u = one iconU; f = one iconF; r = one iconR; p = one iconP; w = one iconW };
-        volume = record { which = one which; level = one level; mute = flag mute; hidden = flag hidden };
-        times = record { time1 = record { 0 = one time1 }; time2 = record { 0 = one time2 } };
-        buzzer = record { 0 = one buzzer };
-        backlight = record { mode = one light; duration = record { 0 = one duration }; left = record { 0 = one secondsLeft }; keypad = flag keypad };
-        contrast = one contrast;
-        hook = flag hook;
-        inverse = map (λ (n : ℕ). eqb n 1) (found inverse);
-      };
-      text = found text ++ found largeLine;
-      picture = found picture;
-    }
-
-flag-read : (b : Bool) → eqb (bit b) 1 ≡ b
-flag-read true = refl
-flag-read false = refl
-
-flags-read : (marks : List Bool) → map (λ (n : ℕ). eqb n 1) (map bit marks) ≡ marks
-flags-read [] = refl
-flags-read (mark ∷ more) = λ j. flag-read mark j ∷ flags-read more j
-
-made-again : (c : Core) → made (λ f. read f c) ≡ c
-unfolding made
-made-again c = simp (flag-read, flags-read, take-append-drop)
-
--- The fields are all that a core has: two cores with the same in every field are one.
-pub fields-are-all : (c d : Core) → ((f : Field) → read f c ≡ read f d) → c ≡ d
-fields-are-all c d same = sym (made-again c) ∙ (λ j. made (λ f. same f j)) ∙ made-again d

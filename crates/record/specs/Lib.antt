@@ -4,3 +4,5 @@ pub mod PowerOn
 pub mod With
 pub mod Parts
 pub mod Laws
+pub mod Core
+pub mod Fields

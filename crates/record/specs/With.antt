@@ -137,5 +137,8 @@ withKeypad b new = record { mode = b .mode; duration = b .duration; left = b .le
 
 -- Times ---------------------------------------------------------------------------------------------------------
 
+abbrev pub withTime1 : Times → ℕ → Times
+withTime1 t new = record { time1 = record { 0 = new }; time2 = t .time2 }
+
 abbrev pub withTime2 : Times → ℕ → Times
 withTime2 t new = record { time1 = t .time1; time2 = record { 0 = new } }

@@ -25,7 +25,7 @@ use Rattle.parting.specs.Calls.{Call, offered}
 use Rattle.parting.specs.Kept.{Sound, Keeps, run-keeps}
 use Rattle.parting.specs.Exactly.{ExactlyOne, exactly-one}
 use Rattle.parting.specs.Demand.{Demand3, demand3, stands-for-some}
-use Rattle.effect.specs.Core.{Core, coreOf}
+use Rattle.record.specs.Core.{Core, coreOf}
 use Rattle.effect.specs.Keeps.{CoreInRange, core-of-record, record-of-core, obey-keeps, store-keeps}
 use Rattle.record.specs.declared.Small.{Small}
 use Rattle.stream.specs.declared.AfterBytes.{AfterBytes}

@@ -19,7 +19,7 @@ use Rattle.parting.specs.Meaning.{Answered, Meaning, State, Taken}
 use Rattle.parting.specs.Reading.{step}
 use Rattle.parting.specs.Room.{Ran, run}
 use Rattle.turns.specs.Loop.{Account, still}
-use Rattle.effect.specs.Core.{Core, coreOf}
+use Rattle.record.specs.Core.{Core, coreOf}
 use Rattle.effect.specs.Effect.{storeText}
 use Rattle.command.specs.Reading.{orderOf}
 use Rattle.effect.specs.declared.Obeyed.{Obeyed}

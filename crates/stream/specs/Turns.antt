@@ -27,7 +27,7 @@ use Rattle.turns.specs.Loop
 use Rattle.turns.specs.Loop.{Account, still}
 use Rattle.turns.specs.Begins.{begins-with}
 use Rattle.effect.specs.declared.Obeyed.{Obeyed}
-use Rattle.effect.specs.Core.{Core}
+use Rattle.record.specs.Core.{Core}
 use Rattle.effect.specs.Effect.{storeText}
 use Rattle.command.specs.Reading.{orderOf}
 use Rattle.answer.specs.Answers.{answerBytes, isSilence, fits, countAfter, bufferAfter}

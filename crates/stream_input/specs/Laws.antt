@@ -22,7 +22,7 @@ use Rattle.parting.specs.Rules.{Frame, noFrame, openFrame, overlong}
 use Rattle.parting.specs.Meaning.{State, Taken}
 use Rattle.parting.specs.Reading.{step, stepFrom, reading, step-closes}
 use Rattle.parting.specs.Room.{run}
-use Rattle.effect.specs.Core.{Core}
+use Rattle.record.specs.Core.{Core}
 use Rattle.effect.specs.Obey.{answerTo}
 use Rattle.command.specs.declared.Command.the-variants.{VersionAsked}
 use Rattle.command.specs.Order.{plain}

@@ -10,7 +10,7 @@ use Rattle.command.specs.Reading.{orderOf}
 use Rattle.answer.specs.declared.Answer.{Answer}
 use Rattle.answer.specs.Answers.{isSilence, heads}
 use Rattle.answer.specs.Laws.{heads-append, answer-head}
-use Rattle.effect.specs.Core.{Core}
+use Rattle.record.specs.Core.{Core}
 use Rattle.effect.specs.Obey.{answerTo}
 use Rattle.parting.specs.Rules.{Part, text, skipped, closed, abandoned, Parted, done, unfinished, then, Parting, Stands, inLimit}
 use Rattle.parting.specs.Meaning.{Taken, close, act, taking}
