@@ -29,7 +29,7 @@ use Rattle.record.specs.Core.{Core, coreOf}
 use Rattle.effect.specs.Effect.{effect, carryOut, storeText}
 use Rattle.record.specs.Fields.{Field, text, largeLine, read, fields-are-all}
 use Rattle.effect.specs.Touched.{sets}
-use Rattle.effect.specs.Untouched.{stays, apart, other-rows-stay, past-data-stays, rows-stay, line-stays}
+use Rattle.effect.specs.Untouched.{stays, other-rows-stay, past-data-stays, rows-stay, line-stays}
 use Rattle.parting.specs.Rules.{closed}
 use Rattle.parting.specs.Meaning.{act}
 use Rattle.stream.specs.Stream.{handset}

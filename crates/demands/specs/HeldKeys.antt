@@ -92,10 +92,10 @@ module _ (n : ℕ) where
     took : (q : Record) → inRange q ≡ true → q .frame ≡ r .frame → length (taking handset (coreOf q) parted .answers) ≤ length lent → fedBack q bytes lent ≡ partsTaken q parted (length bytes) lent
     took q in-range same fits = all-taken q in-range (subst (λ (f : KeptFrame). Stands (frameIn (f .state) (f .len) (f .bytes)) before) (sym same) stands) bytes lent p fits
 
-    apart : EachClosed SetsNoTimes parted → length (takenFrom r parted .answers) ≤ length lent
+    time2-apart : EachClosed SetsNoTimes parted → length (takenFrom r parted .answers) ≤ length lent
         → (let back = fedBack r bytes lent in
         fedBack (otherTime2 n r) bytes lent ≡ record { after = otherTime2 n (back .after); used = back .used; written = back .written; buffer = back .buffer })
-    apart each fits =
+    time2-apart each fits =
         let both : TakenAlike Agree (taking handset (coreOf r) parted) (taking handset (coreOf (otherTime2 n r)) parted) =
         alike handset Agree SetsNoTimes keeps (coreOf r) (coreOf (otherTime2 n r)) parted each refl
         in
@@ -104,4 +104,4 @@ module _ (n : ℕ) where
         ∙ ap (λ (b : HandedBack). record { after = otherTime2 n (b .after); used = b .used; written = b .written; buffer = b .buffer }) (sym (took r good refl fits))
 
 pub held-keys : HeldKeys
-held-keys = record { former-differs = refl; time2-alone = λ r n good good′ before stands bytes lent p each fits. apart n r good good′ stands bytes lent p each fits }
+held-keys = record { former-differs = refl; time2-alone = λ r n good good′ before stands bytes lent p each fits. time2-apart n r good good′ stands bytes lent p each fits }
