@@ -98,9 +98,9 @@ all-taken r good stands bytes lent p fits =
 abbrev pub wholeFrame : List ℕ → List ℕ
 wholeFrame frame = escape ∷ (frame ++ carriageReturn ∷ [])
 
--- the record with other text, picture and settings; its held key and its frame stay
+-- the record with another core; its held key and its frame stay
 abbrev pub withCore : Record → Core → Record
-withCore r c = record { settings = c .settings; text = c .text; picture = c .picture; held = r .held; frame = r .frame }
+withCore r c = record { settings = c .settings; text = c .text; picture = c .picture; held = r .held; frame = r .frame; edition = c .edition }
 
 -- all bytes used, and this done and answered
 abbrev pub usedWhole : Record → List ℕ → List ℕ → Answered Core → HandedBack
@@ -137,7 +137,7 @@ module _ (r : Record) (good : inRange r ≡ true) (none : r .frame .state ≡ 0)
       ∙ ap (λ (t : Taken (State Core)). ranBack (r .held) (record { state = t .state; used = length (wholeFrame frame); answers = t .answers }) lent) reads
       ∙ ap
       (λ (kept : KeptFrame). record {
-        after = record { settings = does .core .settings; text = does .core .text; picture = does .core .picture; held = r .held; frame = kept };
+        after = record { settings = does .core .settings; text = does .core .text; picture = does .core .picture; held = r .held; frame = kept; edition = does .core .edition };
         used = length (wholeFrame frame);
         written = length (does .answers);
         buffer = writtenOver (does .answers) lent;

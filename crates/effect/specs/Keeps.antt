@@ -23,7 +23,7 @@ use Rattle.record.specs.declared.Backlight.{Backlight}
 use Rattle.record.specs.declared.Label.{Label}
 use Rattle.record.specs.declared.Held.{Held}
 use Rattle.record.specs.declared.Frame.{Frame}
-use Rattle.record.specs.Laws.{SettingsRanges, Ranges, screen-set, shown-set, labels-set, icons-set, volume-set, times-set, buzzer-set, backlight-set, contrast-set, inverse-set}
+use Rattle.record.specs.Laws.{SettingsRanges, EditionRanges, Ranges, screen-set, shown-set, labels-set, icons-set, volume-set, times-set, buzzer-set, backlight-set, contrast-set, inverse-set}
 use Rattle.record.specs.Range.{large, rowsOf, rowEndOf, lineStart, rowStartOf, isCode, isLowColumn, isUnused, modeInRange, overlayInRange, cursorInRange, textInRange, labelInRange, pictureInRange, iconSInRange, iconUInRange, iconFInRange, iconRInRange, iconPInRange, iconWInRange, iconsInRange, whichInRange, levelInRange, volumeInRange, timesInRange, buzzerInRange, durationInRange, backlightInRange, contrastInRange, inverseInRange, heldInRange, frameInRange}
 use Rattle.record.specs.With.{withLeft, withRight, withShown, withIconS, withIconU, withIconF, withIconR, withIconP, withIconW, withContrast, withInverse}
 use Rattle.command.specs.Order.{Order, plain, label, draw}
@@ -45,22 +45,23 @@ pub record CoreInRange (c : Core) : Type 0 where
   pub settings : SettingsRanges (c .settings)
   pub text : textInRange (c .text) ≡ true
   pub picture : pictureInRange (c .picture) ≡ true
+  pub edition : EditionRanges (c .edition)
 
 -- A record in range has its core in range; a core, a held key and a frame in range make a record in range.
 pub core-of-record : (r : Record) → Ranges r → CoreInRange (coreOf r)
-core-of-record r k = record { settings = k .settings; text = k .text; picture = k .picture }
+core-of-record r k = record { settings = k .settings; text = k .text; picture = k .picture; edition = k .edition }
 
 abbrev pub recordOf : Core → Held → Frame → Record
-recordOf c held frame = record { settings = c .settings; text = c .text; picture = c .picture; held = held; frame = frame }
+recordOf c held frame = record { settings = c .settings; text = c .text; picture = c .picture; held = held; frame = frame; edition = c .edition }
 
 pub record-of-core : (c : Core) (held : Held) (frame : Frame) → CoreInRange c → heldInRange held ≡ true → frameInRange frame ≡ true → Ranges (recordOf c held frame)
-record-of-core c held frame k h f = record { settings = k .settings; text = k .text; picture = k .picture; held = h; frame = f }
+record-of-core c held frame k h f = record { settings = k .settings; text = k .text; picture = k .picture; held = h; frame = f; edition = k .edition }
 
 -- One part changed ------------------------------------------------------------------------------------------------
 
 module _ (c : Core) (k : CoreInRange c) where
   on-settings : {p : Settings} → SettingsRanges p → CoreInRange (onSettings c p)
-  on-settings h = record { settings = h; text = k .text; picture = k .picture }
+  on-settings h = record { settings = h; text = k .text; picture = k .picture; edition = k .edition }
 
   on-screen : (s : Screen) → modeInRange (s .mode) ≡ true → overlayInRange (s .overlay) ≡ true → cursorInRange s ≡ true → CoreInRange (onScreen c s)
   on-screen s m o p = on-settings (screen-set (k .settings) s (record { mode = m; overlay = o; cursor = p }))
@@ -75,10 +76,10 @@ module _ (c : Core) (k : CoreInRange c) where
   on-backlight b h = on-settings (backlight-set (k .settings) b h)
 
   on-text : (t : List ℕ) → textInRange t ≡ true → CoreInRange (onText c t)
-  on-text t h = record { settings = k .settings; text = h; picture = k .picture }
+  on-text t h = record { settings = k .settings; text = h; picture = k .picture; edition = k .edition }
 
   on-picture : (g : List ℕ) → pictureInRange g ≡ true → CoreInRange (onPicture c g)
-  on-picture g h = record { settings = k .settings; text = k .text; picture = h }
+  on-picture g h = record { settings = k .settings; text = k .text; picture = h; edition = k .edition }
 
 -- The parts -------------------------------------------------------------------------------------------------------
 

@@ -5,6 +5,7 @@ use mathlib.Core.List.{List}
 use mathlib.Core.Option.{Option, none, some}
 use mathlib.Core.Path.{_≡_}
 use Rattle.record.specs.declared.Settings.{Settings}
+use Rattle.record.specs.declared.Edition.{Edition}
 use Rattle.answer.specs.declared.Answer.{Answer}
 use Rattle.answer.specs.declared.Answer.the-variants.{Silence, QuestionMark}
 use Rattle.answer.specs.declared.Answer.the-variants as Answers
@@ -35,8 +36,8 @@ answerTo (some (plain c)) = answerFor c
 answerTo (some (label side codes)) = Silence
 answerTo (some (draw row columns)) = Silence
 
-abbrev pub core : Settings → List ℕ → List ℕ → Core
-core settings text picture = record { settings = settings; text = text; picture = picture }
+abbrev pub core : Settings → List ℕ → List ℕ → Edition → Core
+core settings text picture edition = record { settings = settings; text = text; picture = picture; edition = edition }
 
 -- the promise: `found` is the order that the frame spells by the tables that are lent, `before` the core at entry and `after` the one at
 -- exit, made of the settings handed back and the two arrays

@@ -8,6 +8,7 @@ ghost use lib.ListN.{length, set, take, drop, replicate};
 ghost use lib.Seq.{sets};
 ghost use Rattle.lists.specs.Codes.{blank};
 ghost use Rattle.lists.specs.Padded.{padded};
+ghost use Rattle.record.specs.declared.Edition.{Edition};
 ghost use Rattle.command.specs.Order.{plain, label};
 ghost use Rattle.command.specs.Reading.{orderBy};
 ghost use Rattle.command.specs.InRange.{isPictureRow, rowsNamed, commandInRange};
@@ -185,7 +186,7 @@ fn draw(picture: &mut Picture, row: u8, columns: Columns)
 // What a command in range does; its numbers are bytes.
 fn changed(mut p: Settings, text: &mut Text, c: Command) -> Settings
     requires { ⌜ commandInRange (rowsNamed (p .screen .mode)) c ≡ true ⌝ }
-    ensures same { λ r. ⌜ ((picture : List ℕ) → core r (now (text .exit)) picture ≡ effect (plain c) (core p (now (text .entry)) picture)) ⌝ }
+    ensures same { λ r. ⌜ ((picture : List ℕ) (e : Edition) → core r (now (text .exit)) picture e ≡ effect (plain c) (core p (now (text .entry)) picture e)) ⌝ }
 {
     match c {
         Command::DisplayOff => p.screen.display = false,
@@ -299,7 +300,7 @@ fn answer_for(c: Command) -> Answer
 
 // A command of the grammar: with a number out of range it is passed over.
 fn obey_command(p: Settings, text: &mut Text, c: Command) -> Settings
-    ensures same { λ r. ⌜ ((picture : List ℕ) → core r (now (text .exit)) picture ≡ carryOut (plain c) (core p (now (text .entry)) picture)) ⌝ }
+    ensures same { λ r. ⌜ ((picture : List ℕ) (e : Edition) → core r (now (text .exit)) picture e ≡ carryOut (plain c) (core p (now (text .entry)) picture e)) ⌝ }
 {
     let rows = command_form::rows_named(p.screen.mode);
     if command_form::in_range(c, rows) {
@@ -310,7 +311,7 @@ fn obey_command(p: Settings, text: &mut Text, c: Command) -> Settings
 
 fn obey_label(mut p: Settings, side: Side, f: &[u8]) -> Settings
     requires { ⌜ length (drop 3 (now f)) ≤ 7 ⌝ }
-    ensures same { λ r. ⌜ ((text picture : List ℕ) → core r text picture ≡ effect (label side (drop 3 (now (f .entry)))) (core p text picture)) ⌝ }
+    ensures same { λ r. ⌜ ((text picture : List ℕ) (e : Edition) → core r text picture e ≡ effect (label side (drop 3 (now (f .entry)))) (core p text picture e)) ⌝ }
 {
     let label = label_of(f);
     match side {
@@ -330,7 +331,7 @@ pub fn obey(
     class: &Classes,
     next: &NextStates,
 ) -> Obeyed
-    ensures obeys { λ o. ⌜ Obeys (orderBy (now (class .entry)) (now (next .entry)) (now (frame .entry))) (core settings (now (text .entry)) (now (picture .entry))) o (core (o .settings) (now (text .exit)) (now (picture .exit))) ⌝ }
+    ensures obeys { λ o. ⌜ ((e : Edition) → Obeys (orderBy (now (class .entry)) (now (next .entry)) (now (frame .entry))) (core settings (now (text .entry)) (now (picture .entry)) e) o (core (o .settings) (now (text .exit)) (now (picture .exit)) e)) ⌝ }
 {
     if picture_frame::opens_picture(frame) {
         let drawn = picture_frame::read_picture(frame);

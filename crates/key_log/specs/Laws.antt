@@ -79,7 +79,7 @@ module _ (r : Record) (ticks edges : List ℕ) (room : ℕ) where
   unfolding step
   arrays-stay =
       log-keeps (λ (s : Record). withKeysOf r (smallOf s) ≡ s)
-      (λ s e same. λ j. record { settings = step s e .state .settings; text = same j .text; picture = same j .picture; held = step s e .state .held; frame = same j .frame })
+      (λ s e same. λ j. record { settings = step s e .state .settings; text = same j .text; picture = same j .picture; held = step s e .state .held; frame = same j .frame; edition = same j .edition })
       r ticks edges room refl
 
   -- So what comes back of lent arrays, put together with them, is the call's record.

@@ -66,7 +66,7 @@ abbrev pub doneWith : Small → Held → Backlight → ℕ → ℕ → LoggedLen
 doneWith small held light used written =
     record {
       number = numbered 0;
-      small = record { settings = withBacklight (small .settings) light; held = held; state = small .state; len = small .len };
+      small = record { settings = withBacklight (small .settings) light; held = held; state = small .state; len = small .len; edition = small .edition };
       used = used;
       written = written;
     }

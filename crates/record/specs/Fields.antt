@@ -6,9 +6,10 @@ use mathlib.Core.Path.{_≡_, refl, ap, sym, _∙_}
 use lib.Dec.{eqb}
 use lib.ListN.{getD, drop, take-append-drop}
 use Rattle.record.specs.declared.Label.{Label}
+use Rattle.record.specs.declared.Keys.{Keys}
 use Rattle.record.specs.Range.{textOf, lineOf}
-use Rattle.record.specs.With.{withShown, withLeft, withRight, withTimes, withTime1, withTime2, withBuzzer, withDisplay, withMode, withOverlay, withRow, withColumn, withIconS, withIconU, withIconF, withIconR, withIconP, withIconW, withWhich, withLevel, withMute, withHidden, withLight, withDuration, withSecondsLeft, withKeypad, withContrast, withHook, withInverse}
-use Rattle.record.specs.Core.{Core, onSettings, onText, onPicture, onScreen, onIcons, onVolume, onBacklight}
+use Rattle.record.specs.With.{withShown, withLeft, withRight, withTimes, withTime1, withTime2, withBuzzer, withDisplay, withMode, withOverlay, withRow, withColumn, withIconS, withIconU, withIconF, withIconR, withIconP, withIconW, withWhich, withLevel, withMute, withHidden, withLight, withDuration, withSecondsLeft, withKeypad, withContrast, withHook, withInverse, withSister, withBrightness, withSpeaker, withPwm, withPtt, withKeys}
+use Rattle.record.specs.Core.{Core, onSettings, onText, onPicture, onScreen, onIcons, onVolume, onBacklight, onEdition}
 
 pub data Field : Type 0 where
   -- display, text mode, overlay, cursor position, text, large line, cursor shown or not
@@ -26,11 +27,13 @@ pub data Field : Type 0 where
   picture : Field
   -- contrast, hook, inverse marks
   contrast hook inverse : Field
+  -- which edition it is; the sister's brightness, speaker volume, PWM, PTT and keys
+  sister brightness speaker pwm ptt keys : Field
 
 -- each field has a number of its own
 abbrev pub number : Field → ℕ
 number =
-    elim [ display ↦ 0 | mode ↦ 1 | overlay ↦ 2 | row ↦ 3 | column ↦ 4 | text ↦ 5 | largeLine ↦ 6 | shown ↦ 7 | leftLabel ↦ 8 | rightLabel ↦ 9 | iconS ↦ 10 | iconU ↦ 11 | iconF ↦ 12 | iconR ↦ 13 | iconP ↦ 14 | iconW ↦ 15 | which ↦ 16 | level ↦ 17 | mute ↦ 18 | hidden ↦ 19 | time1 ↦ 20 | time2 ↦ 21 | buzzer ↦ 22 | light ↦ 23 | duration ↦ 24 | secondsLeft ↦ 25 | keypad ↦ 26 | picture ↦ 27 | contrast ↦ 28 | hook ↦ 29 | inverse ↦ 30 ]
+    elim [ display ↦ 0 | mode ↦ 1 | overlay ↦ 2 | row ↦ 3 | column ↦ 4 | text ↦ 5 | largeLine ↦ 6 | shown ↦ 7 | leftLabel ↦ 8 | rightLabel ↦ 9 | iconS ↦ 10 | iconU ↦ 11 | iconF ↦ 12 | iconR ↦ 13 | iconP ↦ 14 | iconW ↦ 15 | which ↦ 16 | level ↦ 17 | mute ↦ 18 | hidden ↦ 19 | time1 ↦ 20 | time2 ↦ 21 | buzzer ↦ 22 | light ↦ 23 | duration ↦ 24 | secondsLeft ↦ 25 | keypad ↦ 26 | picture ↦ 27 | contrast ↦ 28 | hook ↦ 29 | inverse ↦ 30 | sister ↦ 31 | brightness ↦ 32 | speaker ↦ 33 | pwm ↦ 34 | ptt ↦ 35 | keys ↦ 36 ]
 
 -- What stands in a field ------------------------------------------------------------------------------------------
 
@@ -74,10 +77,16 @@ read picture c = c .picture
 read contrast c = c .settings .contrast ∷ []
 read hook c = bit (c .settings .hook) ∷ []
 read inverse c = map bit (c .settings .inverse)
+read sister c = bit (c .edition .sister) ∷ []
+read brightness c = c .edition .brightness ∷ []
+read speaker c = c .edition .speaker ∷ []
+read pwm c = bit (c .edition .pwm) ∷ []
+read ptt c = bit (c .edition .ptt) ∷ []
+read keys c = c .edition .keys .stage ∷ c .edition .keys .key ∷ c .edition .keys .tick .0 ∷ c .edition .keys .down ∷ []
 
 -- Another content ---------------------------------------------------------------------------------------------------
 
--- what stands in a field, as it is kept: a number, a flag, flags, a label
+-- what stands in a field, as it is kept: a number, a flag, flags, a label, keys
 abbrev pub first : List ℕ → ℕ
 first v = getD v 0 0
 
@@ -89,6 +98,9 @@ flags v = map (λ (n : ℕ). eqb n 1) v
 
 abbrev pub labelIn : List ℕ → Label
 labelIn v = record { len = first v; codes = drop 1 v }
+
+abbrev pub keysIn : List ℕ → Keys
+keysIn v = record { stage = first v; key = getD v 1 0; tick = record { 0 = getD v 2 0 }; down = getD v 3 0 }
 
 -- a core with this in a field
 abbrev pub put : Field → List ℕ → Core → Core
@@ -123,6 +135,12 @@ put picture v c = onPicture c v
 put contrast v c = onSettings c (withContrast (c .settings) (first v))
 put hook v c = onSettings c (withHook (c .settings) (flag v))
 put inverse v c = onSettings c (withInverse (c .settings) (flags v))
+put sister v c = onEdition c (withSister (c .edition) (flag v))
+put brightness v c = onEdition c (withBrightness (c .edition) (first v))
+put speaker v c = onEdition c (withSpeaker (c .edition) (first v))
+put pwm v c = onEdition c (withPwm (c .edition) (flag v))
+put ptt v c = onEdition c (withPtt (c .edition) (flag v))
+put keys v c = onEdition c (withKeys (c .edition) (keysIn v))
 
 -- Lists of fields ---------------------------------------------------------------------------------------------------
 
@@ -140,13 +158,14 @@ allFields =
     time1 ∷ time2 ∷ buzzer ∷
     light ∷ duration ∷ secondsLeft ∷ keypad ∷
     picture ∷
-    contrast ∷ hook ∷ inverse ∷ []
+    contrast ∷ hook ∷ inverse ∷
+    sister ∷ brightness ∷ speaker ∷ pwm ∷ ptt ∷ keys ∷ []
 
 -- What a list made from all fields has for a field stands at the place of its number.
 pub at-place : {A : Type 0} (g : Field → A) (d : A) (f : Field) → getD (map g allFields) (number f) d ≡ g f
 unfolding allFields
 at-place g d =
-    elim [ display ↦ refl | mode ↦ refl | overlay ↦ refl | row ↦ refl | column ↦ refl | text ↦ refl | largeLine ↦ refl | shown ↦ refl | leftLabel ↦ refl | rightLabel ↦ refl | iconS ↦ refl | iconU ↦ refl | iconF ↦ refl | iconR ↦ refl | iconP ↦ refl | iconW ↦ refl | which ↦ refl | level ↦ refl | mute ↦ refl | hidden ↦ refl | time1 ↦ refl | time2 ↦ refl | buzzer ↦ refl | light ↦ refl | duration ↦ refl | secondsLeft ↦ refl | keypad ↦ refl | picture ↦ refl | contrast ↦ refl | hook ↦ refl | inverse ↦ refl ]
+    elim [ display ↦ refl | mode ↦ refl | overlay ↦ refl | row ↦ refl | column ↦ refl | text ↦ refl | largeLine ↦ refl | shown ↦ refl | leftLabel ↦ refl | rightLabel ↦ refl | iconS ↦ refl | iconU ↦ refl | iconF ↦ refl | iconR ↦ refl | iconP ↦ refl | iconW ↦ refl | which ↦ refl | level ↦ refl | mute ↦ refl | hidden ↦ refl | time1 ↦ refl | time2 ↦ refl | buzzer ↦ refl | light ↦ refl | duration ↦ refl | secondsLeft ↦ refl | keypad ↦ refl | picture ↦ refl | contrast ↦ refl | hook ↦ refl | inverse ↦ refl | sister ↦ refl | brightness ↦ refl | speaker ↦ refl | pwm ↦ refl | ptt ↦ refl | keys ↦ refl ]
 
 -- No two fields have one number.
 pub one-field : (f g : Field) → number f ≡ number g → f ≡ g
@@ -177,6 +196,7 @@ made found =
       };
       text = found text ++ found largeLine;
       picture = found picture;
+      edition = record { sister = yes sister; brightness = one brightness; speaker = one speaker; pwm = yes pwm; ptt = yes ptt; keys = keysIn (found keys) };
     }
 
 flag-read : (b : Bool) → eqb (bit b) 1 ≡ b

@@ -2,7 +2,7 @@
 -- record is within its ranges. Assumes nothing.
 use Prim.Native.Nat.{ℕ}
 use mathlib.Core.Path.{_≡_, refl, sym, _∙_}
-use mathlib.Core.Bool.{Bool, true}
+use mathlib.Core.Bool.{Bool, true, false, not}
 use mathlib.Core.List.{List}
 use Rattle.lists.specs.Both.{both, and-both}
 use Rattle.record.specs.declared.Record.{Record}
@@ -14,14 +14,20 @@ use Rattle.record.specs.declared.Volume.{Volume}
 use Rattle.record.specs.declared.Times.{Times}
 use Rattle.record.specs.declared.Hundredths.{Hundredths}
 use Rattle.record.specs.declared.Backlight.{Backlight}
-use Rattle.record.specs.PowerOn.{powerOn, formerPowerOn}
-use Rattle.record.specs.Range.{modeInRange, overlayInRange, cursorInRange, screenInRange, textInRange, labelInRange, pictureInRange, iconsInRange, volumeInRange, timesInRange, buzzerInRange, backlightInRange, contrastInRange, inverseInRange, heldInRange, frameInRange, plainInRange, settingsInRange, inRange}
+use Rattle.record.specs.declared.Edition.{Edition}
+use Rattle.record.specs.PowerOn.{powerOn, formerPowerOn, sisterPowerOn}
+use Rattle.record.specs.Range.{modeInRange, overlayInRange, cursorInRange, screenInRange, textInRange, labelInRange, pictureInRange, iconsInRange, volumeInRange, timesInRange, buzzerInRange, backlightInRange, contrastInRange, inverseInRange, heldInRange, frameInRange, plainInRange, settingsInRange, editionUnused, sisterInRange, inRange}
 use Rattle.record.specs.With.{withScreen, withShown, withLeft, withRight, withIcons, withVolume, withTimes, withBuzzer, withBacklight, withContrast, withInverse}
 
 -- The power-on record is within its ranges, and so is the one of the former defaults.
 pub power-on-in-range : (inRange powerOn ≡ true) × (inRange formerPowerOn ≡ true)
 unfolding inRange textInRange labelInRange pictureInRange inverseInRange frameInRange
 power-on-in-range = (refl, refl)
+
+-- The sister's is within hers.
+pub sister-power-on-in-range : sisterInRange sisterPowerOn ≡ true
+unfolding textInRange labelInRange pictureInRange inverseInRange frameInRange
+sister-power-on-in-range = refl
 
 -- The table as facts: a line for each row, at the place in the record of what it speaks of.
 pub record ScreenRanges (s : Screen) : Type 0 where
@@ -41,12 +47,18 @@ pub record SettingsRanges (p : Settings) : Type 0 where
   pub contrast : contrastInRange (p .contrast) ≡ true
   pub inverse : inverseInRange (p .inverse) ≡ true
 
+-- the first edition's, with nothing of the sister's used
+pub record EditionRanges (e : Edition) : Type 0 where
+  pub unused : editionUnused e ≡ true
+  pub first : e .sister ≡ false
+
 pub record Ranges (r : Record) : Type 0 where
   pub settings : SettingsRanges (r .settings)
   pub text : textInRange (r .text) ≡ true
   pub picture : pictureInRange (r .picture) ≡ true
   pub held : heldInRange (r .held) ≡ true
   pub frame : frameInRange (r .frame) ≡ true
+  pub edition : EditionRanges (r .edition)
 
 -- A record in range has each field in range, and the other way round.
 screen-ranges : (s : Screen) → screenInRange s ≡ true → ScreenRanges s
@@ -79,14 +91,20 @@ settings-ranges p h =
       inverse = inverse .1;
     }
 
+not-so : (b : Bool) → not b ≡ true → b ≡ false
+not-so true h = sym h
+not-so false h = refl
+
 pub ranges : (r : Record) → inRange r ≡ true → Ranges r
 unfolding inRange
 ranges r h =
-    let frame = both h in
+    let first = both h in
+    let unused = both (first .0) in
+    let frame = both (unused .0) in
     let held = both (frame .0) in
     let picture = both (held .0) in
     let text = both (picture .0) in
-    record { settings = settings-ranges (r .settings) (text .0); text = text .1; picture = picture .1; held = held .1; frame = frame .1 }
+    record { settings = settings-ranges (r .settings) (text .0); text = text .1; picture = picture .1; held = held .1; frame = frame .1; edition = record { unused = unused .1; first = not-so (r .edition .sister) (first .1) } }
 
 screen-in-range : (s : Screen) → ScreenRanges s → screenInRange s ≡ true
 screen-in-range s k = and-both (and-both (k .mode) (k .overlay)) (k .cursor)
@@ -101,7 +119,8 @@ settings-in-range p k =
 
 pub in-range : (r : Record) → Ranges r → inRange r ≡ true
 unfolding inRange
-in-range r k = and-both (and-both (and-both (and-both (settings-in-range (r .settings) (k .settings)) (k .text)) (k .picture)) (k .held)) (k .frame)
+in-range r k =
+    and-both (and-both (and-both (and-both (and-both (and-both (settings-in-range (r .settings) (k .settings)) (k .text)) (k .picture)) (k .held)) (k .frame)) (k .edition .unused)) (rw (k .edition .first))
 
 -- Where one part is changed for one in range all else stays in range: the new part's test says what that of the former said.
 module _ {p : Settings} (k : SettingsRanges p) where

@@ -7,7 +7,7 @@ use Rattle.record.specs.declared.Small.{Small}
 -- put together of the small fields, the text, the picture and the frame's bytes
 abbrev pub together : Small → List ℕ → List ℕ → List ℕ → Record
 together small text picture bytes =
-    record { settings = small .settings; text = text; picture = picture; held = small .held; frame = record { state = small .state; len = small .len; bytes = bytes } }
+    record { settings = small .settings; text = text; picture = picture; held = small .held; frame = record { state = small .state; len = small .len; bytes = bytes }; edition = small .edition }
 
 abbrev pub smallOf : Record → Small
-smallOf r = record { settings = r .settings; held = r .held; state = r .frame .state; len = r .frame .len }
+smallOf r = record { settings = r .settings; held = r .held; state = r .frame .state; len = r .frame .len; edition = r .edition }

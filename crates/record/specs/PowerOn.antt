@@ -4,7 +4,12 @@ use lib.ListN.{replicate}
 use Rattle.lists.specs.Codes.{blank}
 use Rattle.record.specs.declared.Record.{Record}
 use Rattle.record.specs.declared.Times.{Times}
-use Rattle.record.specs.Range.{off}
+use Rattle.record.specs.declared.Settings.{Settings}
+use Rattle.record.specs.declared.Keys.{Keys}
+use Rattle.record.specs.declared.Edition.{Edition}
+use Rattle.record.specs.declared.Stored.{Stored}
+use Rattle.record.specs.Range.{off, auto}
+use Rattle.record.specs.With.{withSettings, withEdition, withTimes, withBacklight, withContrast}
 
 -- Time1 12, Time2 0: a held key does not repeat (request T-05; the note's default of 12 no longer holds)
 abbrev pub timesAtPowerOn : Times
@@ -13,6 +18,13 @@ timesAtPowerOn = record { time1 = record { 0 = 12 }; time2 = record { 0 = 0 } }
 -- the former defaults, which are the note's: Time1 12, Time2 12
 abbrev pub formerTimes : Times
 formerTimes = record { time1 = record { 0 = 12 }; time2 = record { 0 = 12 } }
+
+-- nothing of the sister's is used
+abbrev pub noKeys : Keys
+noKeys = record { stage = 0; key = 0; tick = record { 0 = 0 }; down = 0 }
+
+abbrev pub firstEdition : Edition
+firstEdition = record { sister = false; brightness = 0; speaker = 0; pwm = false; ptt = false; keys = noKeys }
 
 -- display on; mode 0; overlay none; cursor not shown, 0, 0; text and large line all 0x20; labels empty; picture 0; icons 0; volume none, 0, no,
 -- no; the times given; buzzer 0; backlight off, 30, 0, clear; contrast 10; on-hook; no inverse mark; held key none;
@@ -38,6 +50,7 @@ startingWith times =
       picture = replicate 672 0;
       held = record { down = false; key = 0; tick = record { 0 = 0 }; long = false };
       frame = record { state = 0; len = 0; bytes = replicate 250 0 };
+      edition = firstEdition;
     }
 
 abbrev pub powerOn : Record
@@ -46,3 +59,19 @@ powerOn = startingWith timesAtPowerOn
 -- the power-on record of the former defaults: it differs in Time2 alone
 abbrev pub formerPowerOn : Record
 formerPowerOn = startingWith formerTimes
+
+-- The sister ----------------------------------------------------------------------------------------------------------
+
+-- the numbers that she stores, as she is delivered: Time1 and Time2 12, contrast 10, brightness 50, speaker volume 3, duration 30
+abbrev pub storedAtDelivery : Stored
+storedAtDelivery = record { times = formerTimes; contrast = 10; brightness = 50; speaker = 3; duration = record { 0 = 30 } }
+
+-- as the first edition's power-on record, but for the stored numbers and the light, which is auto with PWM; PTT released
+abbrev pub sisterWith : Stored → Record
+sisterWith stored =
+    withEdition
+    (withSettings powerOn (withContrast (withBacklight (withTimes (powerOn .settings) (stored .times)) (record { mode = auto; duration = stored .duration; left = record { 0 = 0 }; keypad = false })) (stored .contrast)))
+    (record { sister = true; brightness = stored .brightness; speaker = stored .speaker; pwm = true; ptt = false; keys = noKeys })
+
+abbrev pub sisterPowerOn : Record
+sisterPowerOn = sisterWith storedAtDelivery

@@ -1,6 +1,6 @@
 -- The range of each field, in the order and the words of document 01's table. A byte is at most 255 and a tick at most 65,535 by
 -- its type, so no test says so, except where a command's number, which is no byte, is judged by the same line. Assumes nothing.
-use Prim.Native.Nat.{ℕ, _+_, _*_}
+use Prim.Native.Nat.{ℕ, _+_, _*_, _^_}
 use mathlib.Core.List.{List, [], _∷_}
 use mathlib.Core.Bool.{Bool, not, cond, _&&_, _||_}
 use lib.Dec.{ltb, leb, eqb}
@@ -18,6 +18,8 @@ use Rattle.record.specs.declared.Times.{Times}
 use Rattle.record.specs.declared.Backlight.{Backlight}
 use Rattle.record.specs.declared.Held.{Held}
 use Rattle.record.specs.declared.Frame.{Frame}
+use Rattle.record.specs.declared.Keys.{Keys}
+use Rattle.record.specs.declared.Edition.{Edition}
 
 -- Sizes -----------------------------------------------------------------------------------------------------------
 
@@ -209,7 +211,75 @@ plainInRange p =
 abbrev pub settingsInRange : Settings → Bool
 settingsInRange p = plainInRange p && labelInRange (p .left) && labelInRange (p .right)
 
--- every field is within its range
-unfoldable pub inRange : Record → Bool
-inRange r =
+-- What only the sister has is unused in the first edition: zero
+abbrev pub keysUnused : Keys → Bool
+keysUnused k = eqb (k .stage) 0 && eqb (k .key) 0 && eqb (k .tick .0) 0 && eqb (k .down) 0
+
+abbrev pub editionUnused : Edition → Bool
+editionUnused e = eqb (e .brightness) 0 && eqb (e .speaker) 0 && not (e .pwm) && not (e .ptt) && keysUnused (e .keys)
+
+-- the first edition's record
+abbrev pub firstInRange : Record → Bool
+firstInRange r =
     settingsInRange (r .settings) && textInRange (r .text) && pictureInRange (r .picture) && heldInRange (r .held) && frameInRange (r .frame)
+    && editionUnused (r .edition)
+
+-- The sister's ranges where they are not the first edition's -----------------------------------------------------------
+
+-- contrast: 0 to 20
+abbrev pub sisterContrast : ℕ → Bool
+sisterContrast n = leb n 20
+
+-- brightness: 0 to 100
+abbrev pub brightnessInRange : ℕ → Bool
+brightnessInRange n = leb n 100
+
+-- speaker volume: 0 to 7
+abbrev pub speakerInRange : ℕ → Bool
+speakerInRange n = leb n 7
+
+-- times: as in the first edition, or 0 and 0
+abbrev pub sisterTimes : Times → Bool
+sisterTimes t = timesInRange t || (eqb (t .time1 .0) 0 && eqb (t .time2 .0) 0)
+
+-- backlight: duration 1-250, left 0-250, above 0 only in auto; PWM with on and auto
+abbrev pub sisterBacklight : Backlight → Bool → Bool
+sisterBacklight b pwm = backlightInRange b && leb (b .duration .0) 250 && leb (b .left .0) 250 && (not pwm || not (eqb (b .mode) off))
+
+-- the first edition's held key is unused
+abbrev pub heldUnused : Held → Bool
+heldUnused h = not (h .down) && eqb (h .key) 0 && eqb (h .tick .0) 0 && not (h .long)
+
+-- held keys: none 0; short 1 or long 2 with one key 0-20 and a tick; false 3: one or more of keys 0-20 down, a bit each, which are used in
+-- this state alone
+abbrev pub keysInRange : Keys → Bool
+keysInRange k =
+    keysUnused k
+    || ((eqb (k .stage) 1 || eqb (k .stage) 2) && leb (k .key) 20 && eqb (k .down) 0)
+    || (eqb (k .stage) 3 && eqb (k .key) 0 && eqb (k .tick .0) 0 && leb 1 (k .down) && ltb (k .down) (2 ^ 21))
+
+-- the sister's record: the rest is as in the first edition
+abbrev pub sisterInRange : Record → Bool
+sisterInRange r =
+    screenInRange (r .settings .screen)
+    && iconsInRange (r .settings .icons)
+    && volumeInRange (r .settings .volume)
+    && sisterTimes (r .settings .times)
+    && buzzerInRange (r .settings .buzzer .0)
+    && sisterBacklight (r .settings .backlight) (r .edition .pwm)
+    && sisterContrast (r .settings .contrast)
+    && inverseInRange (r .settings .inverse)
+    && labelInRange (r .settings .left)
+    && labelInRange (r .settings .right)
+    && textInRange (r .text)
+    && pictureInRange (r .picture)
+    && heldUnused (r .held)
+    && frameInRange (r .frame)
+    && brightnessInRange (r .edition .brightness)
+    && speakerInRange (r .edition .speaker)
+    && keysInRange (r .edition .keys)
+
+-- every field is within its range. Until her frames are read the sister is refused, whatever her fields hold: with them this line is
+-- `cond (r .edition .sister) (sisterInRange r) (firstInRange r)`
+unfoldable pub inRange : Record → Bool
+inRange r = firstInRange r && not (r .edition .sister)

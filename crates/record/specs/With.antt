@@ -14,23 +14,28 @@ use Rattle.record.specs.declared.Seconds.{Seconds}
 use Rattle.record.specs.declared.Backlight.{Backlight}
 use Rattle.record.specs.declared.Held.{Held}
 use Rattle.record.specs.declared.Frame.{Frame}
+use Rattle.record.specs.declared.Keys.{Keys}
+use Rattle.record.specs.declared.Edition.{Edition}
 
 -- Record --------------------------------------------------------------------------------------------------------
 
 abbrev pub withSettings : Record → Settings → Record
-withSettings r new = record { settings = new; text = r .text; picture = r .picture; held = r .held; frame = r .frame }
+withSettings r new = record { settings = new; text = r .text; picture = r .picture; held = r .held; frame = r .frame; edition = r .edition }
 
 abbrev pub withText : Record → List ℕ → Record
-withText r new = record { settings = r .settings; text = new; picture = r .picture; held = r .held; frame = r .frame }
+withText r new = record { settings = r .settings; text = new; picture = r .picture; held = r .held; frame = r .frame; edition = r .edition }
 
 abbrev pub withPicture : Record → List ℕ → Record
-withPicture r new = record { settings = r .settings; text = r .text; picture = new; held = r .held; frame = r .frame }
+withPicture r new = record { settings = r .settings; text = r .text; picture = new; held = r .held; frame = r .frame; edition = r .edition }
 
 abbrev pub withHeld : Record → Held → Record
-withHeld r new = record { settings = r .settings; text = r .text; picture = r .picture; held = new; frame = r .frame }
+withHeld r new = record { settings = r .settings; text = r .text; picture = r .picture; held = new; frame = r .frame; edition = r .edition }
 
 abbrev pub withFrame : Record → Frame → Record
-withFrame r new = record { settings = r .settings; text = r .text; picture = r .picture; held = r .held; frame = new }
+withFrame r new = record { settings = r .settings; text = r .text; picture = r .picture; held = r .held; frame = new; edition = r .edition }
+
+abbrev pub withEdition : Record → Edition → Record
+withEdition r new = record { settings = r .settings; text = r .text; picture = r .picture; held = r .held; frame = r .frame; edition = new }
 
 -- Settings ---------------------------------------------------------------------------------------------------------
 
@@ -142,3 +147,24 @@ withTime1 t new = record { time1 = record { 0 = new }; time2 = t .time2 }
 
 abbrev pub withTime2 : Times → ℕ → Times
 withTime2 t new = record { time1 = t .time1; time2 = record { 0 = new } }
+
+-- Edition -----------------------------------------------------------------------------------------------------------
+
+-- no call does this: it is said for the laws on fields
+abbrev pub withSister : Edition → Bool → Edition
+withSister e new = record { sister = new; brightness = e .brightness; speaker = e .speaker; pwm = e .pwm; ptt = e .ptt; keys = e .keys }
+
+abbrev pub withBrightness : Edition → ℕ → Edition
+withBrightness e new = record { sister = e .sister; brightness = new; speaker = e .speaker; pwm = e .pwm; ptt = e .ptt; keys = e .keys }
+
+abbrev pub withSpeaker : Edition → ℕ → Edition
+withSpeaker e new = record { sister = e .sister; brightness = e .brightness; speaker = new; pwm = e .pwm; ptt = e .ptt; keys = e .keys }
+
+abbrev pub withPwm : Edition → Bool → Edition
+withPwm e new = record { sister = e .sister; brightness = e .brightness; speaker = e .speaker; pwm = new; ptt = e .ptt; keys = e .keys }
+
+abbrev pub withPtt : Edition → Bool → Edition
+withPtt e new = record { sister = e .sister; brightness = e .brightness; speaker = e .speaker; pwm = e .pwm; ptt = new; keys = e .keys }
+
+abbrev pub withKeys : Edition → Keys → Edition
+withKeys e new = record { sister = e .sister; brightness = e .brightness; speaker = e .speaker; pwm = e .pwm; ptt = e .ptt; keys = new }

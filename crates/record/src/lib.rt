@@ -4,7 +4,7 @@ ghost use mathlib.Core.Path.{_≡_};
 ghost use Rattle.record.specs.Number.{paperNumber};
 ghost use Rattle.record.specs.Range.{rowsOf, rowEndOf, rowStartOf};
 ghost use Rattle.record.specs.Parts.{smallOf};
-ghost use Rattle.record.specs.PowerOn.{timesAtPowerOn, formerTimes, startingWith, powerOn, formerPowerOn};
+ghost use Rattle.record.specs.PowerOn.{timesAtPowerOn, formerTimes, startingWith, powerOn, formerPowerOn, storedAtDelivery, sisterWith, sisterPowerOn};
 
 // The text mode of large digits: its one row is the large line.
 pub const LARGE: u8 = 10;
@@ -145,6 +145,38 @@ pub struct Held {
     pub long: bool,
 }
 
+// The sister's keys that are down. stage: none 0; short 1 or long 2, one key and a tick; false 3, in which `down` has a bit for each of
+// keys 0 to 20 that is down.
+#[repr(C)]
+pub struct Keys {
+    pub stage: u8,
+    pub key: u8,
+    pub tick: Tick,
+    pub down: u32,
+}
+
+// Which handset it is, and what only the sister of AN1900 has. In the first edition all of it is unused. It stands beside the settings
+// and not among them, since the stream call hands these on with each frame.
+#[repr(C)]
+pub struct Edition {
+    pub sister: bool,
+    pub brightness: u8,
+    pub speaker: u8,
+    pub pwm: bool,
+    pub ptt: bool,
+    pub keys: Keys,
+}
+
+// The numbers that the sister keeps while the power is off.
+#[repr(C)]
+pub struct Stored {
+    pub times: Times,
+    pub contrast: u8,
+    pub brightness: u8,
+    pub speaker: u8,
+    pub duration: Seconds,
+}
+
 // state: none, open or overlong.
 #[repr(C)]
 pub struct Frame {
@@ -162,6 +194,7 @@ pub struct Record {
     pub picture: [u8; 672],
     pub held: Held,
     pub frame: Frame,
+    pub edition: Edition,
 }
 
 // The record's three arrays, each by itself, as they are lent.
@@ -178,6 +211,7 @@ pub struct Small {
     pub held: Held,
     pub state: u8,
     pub len: u8,
+    pub edition: Edition,
 }
 
 pub fn small_of(r: Record) -> Small
@@ -185,11 +219,13 @@ pub fn small_of(r: Record) -> Small
 {
     let settings = r.settings;
     let held = r.held;
+    let edition = r.edition;
     Small {
         settings: settings,
         held: held,
         state: r.frame.state,
         len: r.frame.len,
+        edition: edition,
     }
 }
 
@@ -312,6 +348,52 @@ impl Settings {
     };
 }
 
+impl Keys {
+    pub const NONE: Keys = Keys {
+        stage: 0,
+        key: 0,
+        tick: Tick(0),
+        down: 0,
+    };
+}
+
+impl Edition {
+    pub const FIRST: Edition = Edition {
+        sister: false,
+        brightness: 0,
+        speaker: 0,
+        pwm: false,
+        ptt: false,
+        keys: Keys::NONE,
+    };
+
+    // The sister as she is delivered.
+    pub const SISTER: Edition = Edition {
+        sister: true,
+        brightness: 50,
+        speaker: 3,
+        pwm: true,
+        ptt: false,
+        keys: Keys::NONE,
+    };
+}
+
+impl Stored {
+    pub const DELIVERED: Stored = Stored {
+        times: Times::FORMER,
+        contrast: 10,
+        brightness: 50,
+        speaker: 3,
+        duration: Seconds(DEFAULT_DURATION),
+    };
+
+    pub fn delivered() -> Stored
+        ensures same { λ s. ⌜ s ≡ storedAtDelivery ⌝ }
+    {
+        Stored::DELIVERED
+    }
+}
+
 impl Record {
     pub const POWER_ON: Record = Record {
         settings: Settings::POWER_ON,
@@ -328,6 +410,7 @@ impl Record {
             len: 0,
             bytes: [0u8; LONGEST_FRAME],
         },
+        edition: Edition::FIRST,
     };
 
     // The power-on record with the former defaults: it differs in Time2 alone.
@@ -363,5 +446,56 @@ impl Record {
         ensures same { λ r. ⌜ r ≡ formerPowerOn ⌝ }
     {
         Record::FORMER
+    }
+
+    // The sister's power-on record, as she is delivered. Her light is auto with PWM.
+    pub const SISTER: Record = Record {
+        settings: Settings {
+            times: Times::FORMER,
+            backlight: Backlight {
+                mode: AUTO,
+                duration: Seconds(DEFAULT_DURATION),
+                left: Seconds(0),
+                keypad: false,
+            },
+            ..Settings::POWER_ON
+        },
+        edition: Edition::SISTER,
+        ..Record::POWER_ON
+    };
+
+    // The same with these numbers stored.
+    pub fn sister_with(stored: Stored) -> Record
+        ensures same { λ r. ⌜ r ≡ sisterWith stored ⌝ }
+    {
+        let times = stored.times;
+        let duration = stored.duration;
+        let settings = Settings {
+            times: times,
+            backlight: Backlight {
+                mode: AUTO,
+                duration: duration,
+                left: Seconds(0),
+                keypad: false,
+            },
+            contrast: stored.contrast,
+            ..Settings::POWER_ON
+        };
+        let edition = Edition {
+            brightness: stored.brightness,
+            speaker: stored.speaker,
+            ..Edition::SISTER
+        };
+        Record {
+            settings: settings,
+            edition: edition,
+            ..Record::POWER_ON
+        }
+    }
+
+    pub fn sister_power_on() -> Record
+        ensures same { λ r. ⌜ r ≡ sisterPowerOn ⌝ }
+    {
+        Record::SISTER
     }
 }

@@ -141,7 +141,7 @@ pub fn in_range_lent<'a>(
     ensures same { λ b. ⌜ b ≡ inRange (together small (now (text .entry)) (now (picture .entry)) (now (frame .entry))) ⌝ }
 {
     let settings = small.settings;
-    small_in_range(settings, small.held)
+    small_in_range(settings, small.held, small.edition)
         & label_in_range(settings.left)
         & label_in_range(settings.right)
         & text_in_range(text)

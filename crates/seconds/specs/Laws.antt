@@ -33,7 +33,7 @@ pub dimmed-in-range : (r : Record) → inRange r ≡ true → inRange (dimmed r)
 dimmed-in-range r h =
     let k = ranges r h in
     in-range (dimmed r)
-    (record { settings = backlight-set (k .settings) _ (lowered-in-range (r .settings .backlight) (k .settings .backlight)); text = k .text; picture = k .picture; held = k .held; frame = k .frame })
+    (record { settings = backlight-set (k .settings) _ (lowered-in-range (r .settings .backlight) (k .settings .backlight)); text = k .text; picture = k .picture; held = k .held; frame = k .frame; edition = k .edition })
 
 -- A record in range is a second further, with number 0, and comes back in range.
 pub second-done : (r : Record) → inRange r ≡ true

@@ -10,6 +10,7 @@ use Rattle.record.specs.Range.{inRange}
 use Rattle.record.specs.declared.Record.{Record}
 use Rattle.record.specs.declared.Settings.{Settings}
 use Rattle.record.specs.declared.Held.{Held}
+use Rattle.record.specs.declared.Edition.{Edition}
 use Rattle.record.specs.declared.Frame.{Frame}
 use Rattle.record.specs.declared.Label.{Label}
 use Rattle.record.specs.declared.Number.{Number}
@@ -33,7 +34,7 @@ use Rattle.seen.specs.declared.VolumeSeen.{VolumeSeen}
 -- so it is with each record that has these settings, text and picture: nothing else of it is seen
 abbrev pub Showing : Settings → List ℕ → List ℕ → (Record → Type 0) → Type 0
 Showing settings text picture P =
-    (held : Held) (frame : Frame) → P (record { settings = settings; text = text; picture = picture; held = held; frame = frame })
+    (held : Held) (frame : Frame) (edition : Edition) → P (record { settings = settings; text = text; picture = picture; held = held; frame = frame; edition = edition })
 
 -- row n of a field of rows that stand one after another
 abbrev pub rowOf : ℕ → List ℕ → ℕ → List ℕ

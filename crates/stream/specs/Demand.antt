@@ -101,16 +101,16 @@ pub record FeedDemand3 (call : Calling) (r : Record) (before : List ℕ) : Type 
 -- The proof ---------------------------------------------------------------------------------------------------------
 
 -- A record in range is ready to be read on from.
-pub ready : (r : Record) → inRange r ≡ true → Ready (r .settings) (r .text) (r .picture) (r .frame .state) (r .frame .len) (r .frame .bytes)
+pub ready : (r : Record) → inRange r ≡ true → Ready (r .settings) (r .text) (r .picture) (r .edition) (r .frame .state) (r .frame .len) (r .frame .bytes)
 ready r h = record { range = core-of-record r (ranges r h); fits = places-of (r .frame) (ranges r h .frame) .fits }
 
 -- What the loop leaves of it, put together, is what the call hands back; the answers are the call's.
 module _ (small : Small) (t g fr bytes before : List ℕ) {done : AfterBytes} {t′ g′ fr′ after : List ℕ} (n : ℕ) (e : n ≡ small .len) (h : inRange (together small t g fr) ≡ true)
-    (reads : Reads (standing (small .settings) t g (small .state) n fr) bytes before done t′ g′ fr′ after) where
+    (reads : Reads (standing (small .settings) t g (small .edition) (small .state) n fr) bytes before done t′ g′ fr′ after) where
   reads-on : Reads (stateOf (together small t g fr)) bytes before done t′ g′ fr′ after
-  reads-on = subst (λ (m : ℕ). Reads (standing (small .settings) t g (small .state) m fr) bytes before done t′ g′ fr′ after) e reads
+  reads-on = subst (λ (m : ℕ). Reads (standing (small .settings) t g (small .edition) (small .state) m fr) bytes before done t′ g′ fr′ after) e reads
 
-  pub feeds : record { number = numbered 0; «record» = together (record { settings = done .settings; held = small .held; state = done .state; len = done .len }) t′ g′ (emptied fr′ (done .len)); used = done .used; written = done .written }
+  pub feeds : record { number = numbered 0; «record» = together (record { settings = done .settings; held = small .held; state = done .state; len = done .len; edition = done .edition }) t′ g′ (emptied fr′ (done .len)); used = done .used; written = done .written }
       ≡ fedOf (together small t g fr) bytes (length before)
   unfolding fedOf
   feeds = rw h (λ j. record { number = numbered 0; «record» = put-together (small .held) reads-on j; used = reads-on .account .used j; written = reads-on .account .written j })
@@ -128,7 +128,7 @@ handset-keeps = record { stored = λ core b l h. store-keeps core b h l; obeyed 
 
 -- A record in range, taken apart and put together again, is itself; a state too.
 pub record-same : (r : Record) → inRange r ≡ true → recordOf (r .held) (stateOf r) ≡ r
-record-same r h = λ j. record { settings = r .settings; text = r .text; picture = r .picture; held = r .held; frame = frame-same (r .frame) (ranges r h .frame) j }
+record-same r h = λ j. record { settings = r .settings; text = r .text; picture = r .picture; held = r .held; frame = frame-same (r .frame) (ranges r h .frame) j; edition = r .edition }
 
 pub state-same : (held : Held) (state : State Core) → stateOf (recordOf held state) ≡ state
 state-same held state = λ j. record { core = state .core; frame = frame-back (state .frame) j }

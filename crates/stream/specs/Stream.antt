@@ -9,6 +9,7 @@ use Rattle.lists.specs.Codes.{carriageReturn, questionMark}
 use Rattle.lists.specs.Padded.{padded}
 use Rattle.record.specs.Number.{numbered}
 use Rattle.record.specs.declared.Settings.{Settings}
+use Rattle.record.specs.declared.Edition.{Edition}
 use Rattle.record.specs.declared.Held.{Held}
 use Rattle.record.specs.declared.Frame.{Frame as KeptFrame}
 use Rattle.record.specs.declared.Record.{Record}
@@ -54,7 +55,7 @@ abbrev pub stateOf : Record → State Core
 stateOf r = record { core = coreOf r; frame = frameIn (r .frame .state) (r .frame .len) (r .frame .bytes) }
 
 abbrev pub recordOf : Held → State Core → Record
-recordOf held s = record { settings = s .core .settings; text = s .core .text; picture = s .core .picture; held = held; frame = keptFrame (s .frame) }
+recordOf held s = record { settings = s .core .settings; text = s .core .text; picture = s .core .picture; held = held; frame = keptFrame (s .frame); edition = s .core .edition }
 
 -- THE STREAM CALL: number 1 and the record as it came for one out of range; else number 0 and the run
 abbrev pub fedBy : Held → Ran Core → Fed
@@ -98,8 +99,8 @@ abbrev pub textAfter : ℕ → List ℕ → ℕ → ℕ → ℕ → List ℕ
 textAfter end text start column b = cond (ltb column end) (set text (start + column) b) text
 
 -- the state that the loop's locals stand for
-abbrev pub standing : Settings → List ℕ → List ℕ → ℕ → ℕ → List ℕ → State Core
-standing settings text picture state len bytes = record { core = core settings text picture; frame = frameIn state len bytes }
+abbrev pub standing : Settings → List ℕ → List ℕ → Edition → ℕ → ℕ → List ℕ → State Core
+standing settings text picture edition state len bytes = record { core = core settings text picture edition; frame = frameIn state len bytes }
 
 pub record Fits (state len : ℕ) (bytes : List ℕ) : Type 0 where
   pub known : state ≤ 2
@@ -108,8 +109,8 @@ pub record Fits (state len : ℕ) (bytes : List ℕ) : Type 0 where
   pub full : length bytes ≡ limit
 
 -- what may be read on from
-pub record Ready (settings : Settings) (text picture : List ℕ) (state len : ℕ) (bytes : List ℕ) : Type 0 where
-  pub range : CoreInRange (core settings text picture)
+pub record Ready (settings : Settings) (text picture : List ℕ) (edition : Edition) (state len : ℕ) (bytes : List ℕ) : Type 0 where
+  pub range : CoreInRange (core settings text picture edition)
   pub fits : Fits state len bytes
 
 -- a byte that is answered with nothing, and one that is answered
@@ -127,15 +128,15 @@ answerFrom settings answer = answerBytes answer (settings .contrast) (settings .
 abbrev pub collecting : ℕ → List ℕ → Frame
 collecting state body = cond (eqb state 1) (openFrame body) overlong
 
-pub record Closes (settings : Settings) (text picture : List ℕ) (state : ℕ) (body : List ℕ) (obeyed : Obeyed) (text′ picture′ : List ℕ) : Type 0 where
+pub record Closes (settings : Settings) (text picture : List ℕ) (edition : Edition) (state : ℕ) (body : List ℕ) (obeyed : Obeyed) (text′ picture′ : List ℕ) : Type 0 where
   pub quiet : isSilence (obeyed .answer) ≡ true
-      → step handset (record { core = core settings text picture; frame = collecting state body }) carriageReturn ≡ quietly (record { core = core (obeyed .settings) text′ picture′; frame = noFrame })
+      → step handset (record { core = core settings text picture edition; frame = collecting state body }) carriageReturn ≡ quietly (record { core = core (obeyed .settings) text′ picture′ edition; frame = noFrame })
   pub loud : isSilence (obeyed .answer) ≡ false
-      → step handset (record { core = core settings text picture; frame = collecting state body }) carriageReturn ≡ saying (answerFrom (obeyed .settings) (obeyed .answer)) (record { core = core (obeyed .settings) text′ picture′; frame = noFrame })
-  pub keeps : isSilence (obeyed .answer) ≡ false → core settings text picture ≡ core (obeyed .settings) text′ picture′
-  pub range : CoreInRange (core settings text picture) → CoreInRange (core (obeyed .settings) text′ picture′)
+      → step handset (record { core = core settings text picture edition; frame = collecting state body }) carriageReturn ≡ saying (answerFrom (obeyed .settings) (obeyed .answer)) (record { core = core (obeyed .settings) text′ picture′ edition; frame = noFrame })
+  pub keeps : isSilence (obeyed .answer) ≡ false → core settings text picture edition ≡ core (obeyed .settings) text′ picture′ edition
+  pub range : CoreInRange (core settings text picture edition) → CoreInRange (core (obeyed .settings) text′ picture′ edition)
 
 -- what the loop leaves
 pub record Reads (start : State Core) (bytes before : List ℕ) (done : AfterBytes) (text picture frame after : List ℕ) : Type 0 where
-  pub account : Account (run handset start bytes (length before)) before (still (standing (done .settings) text picture (done .state) (done .len) frame) (done .used) (done .written) after)
+  pub account : Account (run handset start bytes (length before)) before (still (standing (done .settings) text picture (done .edition) (done .state) (done .len) frame) (done .used) (done .written) after)
   pub fits : Fits (done .state) (done .len) frame

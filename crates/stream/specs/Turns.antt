@@ -13,6 +13,7 @@ use Rattle.lists.specs.Tests.{by-test}
 use Rattle.lists.specs.Codes.{escape, carriageReturn, blank}
 use Rattle.lists.specs.Padded.{padded}
 use Rattle.record.specs.declared.Settings.{Settings}
+use Rattle.record.specs.declared.Edition.{Edition}
 use Rattle.record.specs.declared.Held.{Held}
 use Rattle.record.specs.declared.Frame.{Frame as KeptFrame}
 use Rattle.lists.specs.Both.{both}
@@ -73,13 +74,13 @@ shows-some state len bs n = rw (ne-eqb state 0 n) (go (eqb state 1))
     go false e = let z : _≡_ {A = ℕ} 0 1 = cc in omega arith
 
 -- a text byte changes the column and the text
-stored : (p : Settings) (t g : List ℕ) (b : ℕ)
-    → storeText (core p t g) b ≡ core (withScreen p (withColumn (p .screen) (columnAfter (rowEndOf (p .screen .mode)) (p .screen .column)))) (textAfter (rowEndOf (p .screen .mode)) t (rowStartOf (p .screen .mode) (p .screen .row)) (p .screen .column) b) g
+stored : (p : Settings) (t g : List ℕ) (ed : Edition) (b : ℕ)
+    → storeText (core p t g ed) b ≡ core (withScreen p (withColumn (p .screen) (columnAfter (rowEndOf (p .screen .mode)) (p .screen .column)))) (textAfter (rowEndOf (p .screen .mode)) t (rowStartOf (p .screen .mode) (p .screen .row)) (p .screen .column) b) g ed
 unfolding storeText
-stored p t g b = go (ltb (p .screen .column) (rowEndOf (p .screen .mode))) refl
+stored p t g ed b = go (ltb (p .screen .column) (rowEndOf (p .screen .mode))) refl
   where
     go : (x : Bool) → ltb (p .screen .column) (rowEndOf (p .screen .mode)) ≡ x
-        → storeText (core p t g) b ≡ core (withScreen p (withColumn (p .screen) (columnAfter (rowEndOf (p .screen .mode)) (p .screen .column)))) (textAfter (rowEndOf (p .screen .mode)) t (rowStartOf (p .screen .mode) (p .screen .row)) (p .screen .column) b) g
+        → storeText (core p t g ed) b ≡ core (withScreen p (withColumn (p .screen) (columnAfter (rowEndOf (p .screen .mode)) (p .screen .column)))) (textAfter (rowEndOf (p .screen .mode)) t (rowStartOf (p .screen .mode) (p .screen .row)) (p .screen .column) b) g ed
     go true e = rw e
     go false e = rw e
 
@@ -97,12 +98,12 @@ shows-collecting state len bs n = rw (ne-eqb state 0 n)
 
 -- CR in a frame ---------------------------------------------------------------------------------------------------
 
-module _ (p : Settings) (t g : List ℕ) (state : ℕ) (body : List ℕ) where
+module _ (p : Settings) (t g : List ℕ) (ed : Edition) (state : ℕ) (body : List ℕ) where
   abbrev in-frame : State Core
-  in-frame = record { core = core p t g; frame = collecting state body }
+  in-frame = record { core = core p t g ed; frame = collecting state body }
 
   -- of an overlong one
-  pub closes-long : (state ≡ 1 → ⊥) → Closes p t g state body (record { settings = p; answer = QuestionMark }) t g
+  pub closes-long : (state ≡ 1 → ⊥) → Closes p t g ed state body (record { settings = p; answer = QuestionMark }) t g
   closes-long n =
       record {
         quiet = λ x. absurd (true≢false (sym x));
@@ -112,73 +113,73 @@ module _ (p : Settings) (t g : List ℕ) (state : ℕ) (body : List ℕ) where
       }
 
   -- of a whole one
-  module _ (o : Obeyed) (t′ g′ : List ℕ) (e : state ≡ 1) (q : Obeys (orderOf body) (core p t g) o (core (o .settings) t′ g′)) where
-    closing : step handset in-frame carriageReturn ≡ record { state = record { core = obeyOrder (core p t g) (orderOf body); frame = noFrame }; answers = answerFrom p (o .answer) }
-    closing = step-closes handset in-frame carriageReturn body (rw e) refl ∙ (λ j. record { state = record { core = obeyOrder (core p t g) (orderOf body); frame = noFrame }; answers = answerFrom p (sym (q .answer) j) })
+  module _ (o : Obeyed) (t′ g′ : List ℕ) (e : state ≡ 1) (q : Obeys (orderOf body) (core p t g ed) o (core (o .settings) t′ g′ ed)) where
+    closing : step handset in-frame carriageReturn ≡ record { state = record { core = obeyOrder (core p t g ed) (orderOf body); frame = noFrame }; answers = answerFrom p (o .answer) }
+    closing = step-closes handset in-frame carriageReturn body (rw e) refl ∙ (λ j. record { state = record { core = obeyOrder (core p t g ed) (orderOf body); frame = noFrame }; answers = answerFrom p (sym (q .answer) j) })
 
-    obeyed : isSilence (o .answer) ≡ true → step handset in-frame carriageReturn ≡ quietly (record { core = core (o .settings) t′ g′; frame = noFrame })
+    obeyed : isSilence (o .answer) ≡ true → step handset in-frame carriageReturn ≡ quietly (record { core = core (o .settings) t′ g′ ed; frame = noFrame })
     obeyed x =
         closing ∙ (λ j. record { state = record { core = sym (q .same) j; frame = noFrame }; answers = silence-says (o .answer) p x j })
 
-    same-core′ : isSilence (o .answer) ≡ false → obeyOrder (core p t g) (orderOf body) ≡ core p t g
-    same-core′ x = answered-same (core p t g) (orderOf body) (ap isSilence (sym (q .answer)) ∙ x)
+    same-core′ : isSilence (o .answer) ≡ false → obeyOrder (core p t g ed) (orderOf body) ≡ core p t g ed
+    same-core′ x = answered-same (core p t g ed) (orderOf body) (ap isSilence (sym (q .answer)) ∙ x)
 
-    loud-keeps : isSilence (o .answer) ≡ false → core p t g ≡ core (o .settings) t′ g′
+    loud-keeps : isSilence (o .answer) ≡ false → core p t g ed ≡ core (o .settings) t′ g′ ed
     loud-keeps x = sym (q .same ∙ same-core′ x)
 
-    told : isSilence (o .answer) ≡ false → step handset in-frame carriageReturn ≡ saying (answerFrom (o .settings) (o .answer)) (record { core = core (o .settings) t′ g′; frame = noFrame })
+    told : isSilence (o .answer) ≡ false → step handset in-frame carriageReturn ≡ saying (answerFrom (o .settings) (o .answer)) (record { core = core (o .settings) t′ g′ ed; frame = noFrame })
     told x = closing ∙ (λ j. record { state = record { core = sym (q .same) j; frame = noFrame }; answers = answerFrom (loud-keeps x j .settings) (o .answer) })
 
-    pub closes-whole : Closes p t g state body o t′ g′
-    closes-whole = record { quiet = obeyed; loud = told; keeps = loud-keeps; range = λ k. rw (q .same) (obey-keeps (core p t g) body k) }
+    pub closes-whole : Closes p t g ed state body o t′ g′
+    closes-whole = record { quiet = obeyed; loud = told; keeps = loud-keeps; range = λ k. rw (q .same) (obey-keeps (core p t g ed) body k) }
 
 -- A turn -------------------------------------------------------------------------------------------------------------
 
-module _ (p : Settings) (t g : List ℕ) (state len : ℕ) (fr : List ℕ) (b : ℕ) where
+module _ (p : Settings) (t g : List ℕ) (ed : Edition) (state len : ℕ) (fr : List ℕ) (b : ℕ) where
   abbrev here : State Core
-  here = standing p t g state len fr
+  here = standing p t g ed state len fr
 
   -- no frame open
   pub turn-text : (next : ℕ) (t′ : List ℕ) → state ≡ 0 → blank ≤ b → next ≡ columnAfter (rowEndOf (p .screen .mode)) (p .screen .column) → t′ ≡ textAfter (rowEndOf (p .screen .mode)) t (rowStartOf (p .screen .mode) (p .screen .row)) (p .screen .column) b
-      → step handset (standing p t g state len fr) b ≡ quietly (standing (withScreen p (withColumn (p .screen) next)) t′ g state len fr)
+      → step handset (standing p t g ed state len fr) b ≡ quietly (standing (withScreen p (withColumn (p .screen) next)) t′ g ed state len fr)
   turn-text next t′ e h x y =
       step-stores handset here b (shows-noFrame state len fr e) h
-      ∙ ap (λ (c : Core). quietly (record { core = c; frame = frameIn state len fr })) (stored p t g b ∙ (λ j. core (withScreen p (withColumn (p .screen) (sym x j))) (sym y j) g))
+      ∙ ap (λ (c : Core). quietly (record { core = c; frame = frameIn state len fr })) (stored p t g ed b ∙ (λ j. core (withScreen p (withColumn (p .screen) (sym x j))) (sym y j) g ed))
 
-  pub turn-open : state ≡ 0 → len ≡ 0 → b ≡ escape → step handset (standing p t g state len fr) b ≡ quietly (standing p t g 1 len fr)
-  turn-open e z h = step-opens handset here b (shows-noFrame state len fr e) h ∙ inSilence (core p t g) (sym (shows-new len fr z))
+  pub turn-open : state ≡ 0 → len ≡ 0 → b ≡ escape → step handset (standing p t g ed state len fr) b ≡ quietly (standing p t g ed 1 len fr)
+  turn-open e z h = step-opens handset here b (shows-noFrame state len fr e) h ∙ inSilence (core p t g ed) (sym (shows-new len fr z))
 
-  pub turn-skip : state ≡ 0 → b < blank → (b ≡ escape → ⊥) → step handset (standing p t g state len fr) b ≡ quietly (standing p t g state len fr)
+  pub turn-skip : state ≡ 0 → b < blank → (b ≡ escape → ⊥) → step handset (standing p t g ed state len fr) b ≡ quietly (standing p t g ed state len fr)
   turn-skip e l n = step-skips handset here b (shows-noFrame state len fr e) l n
 
   -- ESC in a frame
-  pub loud-esc : (state ≡ 0 → ⊥) → b ≡ escape → step handset (standing p t g state len fr) b ≡ saying (answerFrom p QuestionMark) (standing p t g 1 0 fr)
-  loud-esc n h = step-abandons handset here b (shows-some state len fr n) h ∙ answered (answerFrom p QuestionMark) (core p t g) (sym (shows-new 0 fr refl))
+  pub loud-esc : (state ≡ 0 → ⊥) → b ≡ escape → step handset (standing p t g ed state len fr) b ≡ saying (answerFrom p QuestionMark) (standing p t g ed 1 0 fr)
+  loud-esc n h = step-abandons handset here b (shows-some state len fr n) h ∙ answered (answerFrom p QuestionMark) (core p t g ed) (sym (shows-new 0 fr refl))
 
   -- CR in a frame
-  module _ {o : Obeyed} {t′ g′ : List ℕ} (n : state ≡ 0 → ⊥) (e : b ≡ carriageReturn) (k : Closes p t g state (take len fr) o t′ g′) where
-    ended : step handset (standing p t g state len fr) b ≡ step handset (record { core = core p t g; frame = collecting state (take len fr) }) carriageReturn
-    ended = λ j. step handset (record { core = core p t g; frame = shows-collecting state len fr n j }) (e j)
+  module _ {o : Obeyed} {t′ g′ : List ℕ} (n : state ≡ 0 → ⊥) (e : b ≡ carriageReturn) (k : Closes p t g ed state (take len fr) o t′ g′) where
+    ended : step handset (standing p t g ed state len fr) b ≡ step handset (record { core = core p t g ed; frame = collecting state (take len fr) }) carriageReturn
+    ended = λ j. step handset (record { core = core p t g ed; frame = shows-collecting state len fr n j }) (e j)
 
-    pub turn-quiet : isSilence (o .answer) ≡ true → step handset (standing p t g state len fr) b ≡ quietly (standing (o .settings) t′ g′ 0 0 fr)
-    turn-quiet x = ended ∙ k .quiet x ∙ inSilence (core (o .settings) t′ g′) (sym (shows-noFrame 0 0 fr refl))
+    pub turn-quiet : isSilence (o .answer) ≡ true → step handset (standing p t g ed state len fr) b ≡ quietly (standing (o .settings) t′ g′ ed 0 0 fr)
+    turn-quiet x = ended ∙ k .quiet x ∙ inSilence (core (o .settings) t′ g′ ed) (sym (shows-noFrame 0 0 fr refl))
 
-    pub loud-return : isSilence (o .answer) ≡ false → step handset (standing p t g state len fr) b ≡ saying (answerFrom (o .settings) (o .answer)) (standing (o .settings) t′ g′ 0 0 fr)
-    loud-return x = ended ∙ k .loud x ∙ answered (answerFrom (o .settings) (o .answer)) (core (o .settings) t′ g′) (sym (shows-noFrame 0 0 fr refl))
+    pub loud-return : isSilence (o .answer) ≡ false → step handset (standing p t g ed state len fr) b ≡ saying (answerFrom (o .settings) (o .answer)) (standing (o .settings) t′ g′ ed 0 0 fr)
+    loud-return x = ended ∙ k .loud x ∙ answered (answerFrom (o .settings) (o .answer)) (core (o .settings) t′ g′ ed) (sym (shows-noFrame 0 0 fr refl))
 
   -- any other byte in a frame
-  pub turn-collect : Fits state len fr → state ≡ 1 → (b ≡ escape → ⊥) → (b ≡ carriageReturn → ⊥) → len < limit → step handset (standing p t g state len fr) b ≡ quietly (standing p t g state (len + 1) (set fr len b))
+  pub turn-collect : Fits state len fr → state ≡ 1 → (b ≡ escape → ⊥) → (b ≡ carriageReturn → ⊥) → len < limit → step handset (standing p t g ed state len fr) b ≡ quietly (standing p t g ed state (len + 1) (set fr len b))
   turn-collect k e n m l =
       let taken : take (len + 1) (set fr len b) ≡ take len fr ++ b ∷ [] = ap (λ (x : ℕ). take x (set fr len b)) (add-one len) ∙ take-suc-set fr len b (omega (arith, k .full)) in
       step-collects handset here b (take len fr) (shows-open state len fr e) (record { not-escape = n; not-return = m }) (omega (arith, length-take-le len fr (omega (arith, k .full, l))))
-      ∙ inSilence (core p t g) (ap openFrame (sym taken) ∙ sym (shows-open state (len + 1) (set fr len b) e))
+      ∙ inSilence (core p t g ed) (ap openFrame (sym taken) ∙ sym (shows-open state (len + 1) (set fr len b) e))
 
-  pub turn-over : Fits state len fr → state ≡ 1 → (b ≡ escape → ⊥) → (b ≡ carriageReturn → ⊥) → limit ≤ len → step handset (standing p t g state len fr) b ≡ quietly (standing p t g 2 0 fr)
+  pub turn-over : Fits state len fr → state ≡ 1 → (b ≡ escape → ⊥) → (b ≡ carriageReturn → ⊥) → limit ≤ len → step handset (standing p t g ed state len fr) b ≡ quietly (standing p t g ed 2 0 fr)
   turn-over k e n m l =
       step-overflows handset here b (take len fr) (shows-open state len fr e) (record { not-escape = n; not-return = m }) (omega (arith, length-take-le len fr (omega (arith, k .full, k .short))))
-      ∙ inSilence (core p t g) (sym (shows-long 2 0 fr (λ x. omega arith) (λ x. omega arith)))
+      ∙ inSilence (core p t g ed) (sym (shows-long 2 0 fr (λ x. omega arith) (λ x. omega arith)))
 
-  pub turn-lost : state ≡ 2 → (b ≡ escape → ⊥) → (b ≡ carriageReturn → ⊥) → step handset (standing p t g state len fr) b ≡ quietly (standing p t g state len fr)
+  pub turn-lost : state ≡ 2 → (b ≡ escape → ⊥) → (b ≡ carriageReturn → ⊥) → step handset (standing p t g ed state len fr) b ≡ quietly (standing p t g ed state len fr)
   turn-lost e n m = step-waits handset here b (shows-long state len fr (λ x. omega arith) (λ x. omega arith)) (record { not-escape = n; not-return = m })
 
 -- the places of the frame after each turn
@@ -213,24 +214,24 @@ coded state len bs k = ap (λ (x : List ℕ). record { state = state; len = len;
 
 -- what the loop leaves, its frame's unused places emptied, is the record of the run
 pub put-together : {start : State Core} {bytes before : List ℕ} {done : AfterBytes} {t g fr after : List ℕ} (held : Held) → Reads start bytes before done t g fr after
-    → together (record { settings = done .settings; held = held; state = done .state; len = done .len }) t g (emptied fr (done .len)) ≡ recordOf held (run handset start bytes (length before) .state)
+    → together (record { settings = done .settings; held = held; state = done .state; len = done .len; edition = done .edition }) t g (emptied fr (done .len)) ≡ recordOf held (run handset start bytes (length before) .state)
 put-together {done = done} {t = t} {g = g} {fr = fr} held k =
-    ap (λ (y : KeptFrame). record { settings = done .settings; text = t; picture = g; held = held; frame = y }) (coded (done .state) (done .len) fr (k .fits)) ∙ ap (recordOf held) (k .account .state)
+    ap (λ (y : KeptFrame). record { settings = done .settings; text = t; picture = g; held = held; frame = y; edition = done .edition }) (coded (done .state) (done .len) fr (k .fits)) ∙ ap (recordOf held) (k .account .state)
 
 -- what holds at the head of the loop: the loop's account so far, and the locals in their ranges
-pub record Going (bytes before : List ℕ) (s : State Core) (answers : List ℕ) (p : Settings) (t g : List ℕ) (state len : ℕ) (fr : List ℕ) (i w : ℕ) : Type 0 where
-  pub account : Loop.Going (step handset) s bytes before (standing p t g state len fr) i w answers
-  pub range : CoreInRange (core p t g)
+pub record Going (bytes before : List ℕ) (s : State Core) (answers : List ℕ) (p : Settings) (t g : List ℕ) (ed : Edition) (state len : ℕ) (fr : List ℕ) (i w : ℕ) : Type 0 where
+  pub account : Loop.Going (step handset) s bytes before (standing p t g ed state len fr) i w answers
+  pub range : CoreInRange (core p t g ed)
   pub fits : Fits state len fr
 
-module _ {bytes before : List ℕ} {s : State Core} {answers : List ℕ} {p : Settings} {t g : List ℕ} {state len : ℕ} {fr : List ℕ} {i w : ℕ} (k : Going bytes before s answers p t g state len fr i w) (h : i < length bytes) where
-  pub go-quiet : {p′ : Settings} {t′ g′ : List ℕ} {state′ len′ : ℕ} {fr′ : List ℕ} → CoreInRange (core p′ t′ g′) → Fits state′ len′ fr′ → step handset (standing p t g state len fr) (getD bytes i 0) ≡ quietly (standing p′ t′ g′ state′ len′ fr′)
-      → Going bytes before s answers p′ t′ g′ state′ len′ fr′ (i + 1) w
+module _ {bytes before : List ℕ} {s : State Core} {answers : List ℕ} {p : Settings} {t g : List ℕ} {ed : Edition} {state len : ℕ} {fr : List ℕ} {i w : ℕ} (k : Going bytes before s answers p t g ed state len fr i w) (h : i < length bytes) where
+  pub go-quiet : {p′ : Settings} {t′ g′ : List ℕ} {state′ len′ : ℕ} {fr′ : List ℕ} → CoreInRange (core p′ t′ g′ ed) → Fits state′ len′ fr′ → step handset (standing p t g ed state len fr) (getD bytes i 0) ≡ quietly (standing p′ t′ g′ ed state′ len′ fr′)
+      → Going bytes before s answers p′ t′ g′ ed state′ len′ fr′ (i + 1) w
   go-quiet x y e = record { account = Loop.go-quiet (step handset) (k .account) (begins-with bytes i 0 h) _ e; range = x; fits = y }
 
   -- an answer is written whole, and the count says so,
-  pub go-loud : {p′ : Settings} {t′ g′ : List ℕ} {state′ len′ : ℕ} {fr′ : List ℕ} {w′ : ℕ} {answers′ answer : List ℕ} → CoreInRange (core p′ t′ g′) → Fits state′ len′ fr′ → step handset (standing p t g state len fr) (getD bytes i 0) ≡ saying answer (standing p′ t′ g′ state′ len′ fr′)
-      → w′ ≡ countAfter answers w answer → answers′ ≡ bufferAfter answers w answer → w < w′ → Going bytes before s answers′ p′ t′ g′ state′ len′ fr′ (i + 1) w′
+  pub go-loud : {p′ : Settings} {t′ g′ : List ℕ} {state′ len′ : ℕ} {fr′ : List ℕ} {w′ : ℕ} {answers′ answer : List ℕ} → CoreInRange (core p′ t′ g′ ed) → Fits state′ len′ fr′ → step handset (standing p t g ed state len fr) (getD bytes i 0) ≡ saying answer (standing p′ t′ g′ ed state′ len′ fr′)
+      → w′ ≡ countAfter answers w answer → answers′ ≡ bufferAfter answers w answer → w < w′ → Going bytes before s answers′ p′ t′ g′ ed state′ len′ fr′ (i + 1) w′
   go-loud {p′} {t′} {g′} {state′} {len′} {fr′} {w′} {answers′} {answer} x y e m n more =
       by-test (fits answers w answer)
       (λ room.
@@ -239,8 +240,8 @@ module _ {bytes before : List ℕ} {s : State Core} {answers : List ℕ} {p : Se
       (λ full. let same : w′ ≡ w = m ∙ rw full in absurd (omega arith))
 
   -- or not at all, and the call stops
-  pub go-halt : {v : State Core} {w′ : ℕ} {answers′ answer : List ℕ} → step handset (standing p t g state len fr) (getD bytes i 0) ≡ saying answer v → 1 ≤ length answer
-      → w′ ≡ countAfter answers w answer → answers′ ≡ bufferAfter answers w answer → w′ ≤ w → Account (run handset s bytes (length before)) before (still (standing p t g state len fr) i w answers′)
+  pub go-halt : {v : State Core} {w′ : ℕ} {answers′ answer : List ℕ} → step handset (standing p t g ed state len fr) (getD bytes i 0) ≡ saying answer v → 1 ≤ length answer
+      → w′ ≡ countAfter answers w answer → answers′ ≡ bufferAfter answers w answer → w′ ≤ w → Account (run handset s bytes (length before)) before (still (standing p t g ed state len fr) i w answers′)
   go-halt {v} {w′} {answers′} {answer} e not-none m n less =
       by-test (fits answers w answer)
       (λ room. let more : w′ ≡ w + length answer = m ∙ rw room in absurd (omega arith))
@@ -254,9 +255,9 @@ pub same-core : {ran : Ran Core} {before : List ℕ} {x y : Core} {f : Frame} {i
 same-core {ran} {before} {f} {i} {w} {after} e a = subst (λ (c : Core). Account ran before (still (record { core = c; frame = f }) i w after)) e a
 
 -- the core stays in range
-pub range-stored : (p : Settings) (t g : List ℕ) (b next : ℕ) (t′ : List ℕ) → blank ≤ b → next ≡ columnAfter (rowEndOf (p .screen .mode)) (p .screen .column) → t′ ≡ textAfter (rowEndOf (p .screen .mode)) t (rowStartOf (p .screen .mode) (p .screen .row)) (p .screen .column) b
-    → CoreInRange (core p t g) → CoreInRange (core (withScreen p (withColumn (p .screen) next)) t′ g)
-range-stored p t g b next t′ h x y k = rw (x, y, ← stored p t g b) (store-keeps (core p t g) b k h)
+pub range-stored : (p : Settings) (t g : List ℕ) (ed : Edition) (b next : ℕ) (t′ : List ℕ) → blank ≤ b → next ≡ columnAfter (rowEndOf (p .screen .mode)) (p .screen .column) → t′ ≡ textAfter (rowEndOf (p .screen .mode)) t (rowStartOf (p .screen .mode) (p .screen .row)) (p .screen .column) b
+    → CoreInRange (core p t g ed) → CoreInRange (core (withScreen p (withColumn (p .screen) next)) t′ g ed)
+range-stored p t g ed b next t′ h x y k = rw (x, y, ← stored p t g ed b) (store-keeps (core p t g ed) b k h)
 
 -- a row's codes lie within the text
 row-fits : (mode row : ℕ) → ltb row (rowsOf mode) ≡ true → rowStartOf mode row + rowEndOf mode ≤ lineStart + 24
@@ -268,7 +269,7 @@ row-fits mode row = cases (leb mode 1) (eqb mode large)
     cases false false h = omega (arith, ltb-true row 5 h)
 
 -- the cursor of a core in range is at a place of the text, or at the end of its row
-pub in-place : {p : Settings} {t g : List ℕ} → CoreInRange (core p t g) → InRow (rowStartOf (p .screen .mode) (p .screen .row)) (p .screen .column) (rowEndOf (p .screen .mode))
+pub in-place : {p : Settings} {t g : List ℕ} {ed : Edition} → CoreInRange (core p t g ed) → InRow (rowStartOf (p .screen .mode) (p .screen .row)) (p .screen .column) (rowEndOf (p .screen .mode))
 in-place {p} k =
     let e = both {a = ltb (p .screen .row) (rowsOf (p .screen .mode))} (k .settings .screen .cursor) in
     record { within = leb-true (p .screen .column) (rowEndOf (p .screen .mode)) (e .1); kept = row-fits (p .screen .mode) (p .screen .row) (e .0) }
@@ -278,16 +279,16 @@ in-place {p} k =
 pub record Stores (start end column : ℕ) (t bytes : List ℕ) (from at next : ℕ) (t′ : List ℕ) : Type 0 where
   pub inside : at ≤ length bytes
   pub small : next ≤ end
-  pub goes : {before : List ℕ} {s : State Core} {answers : List ℕ} {p : Settings} {g : List ℕ} {state len : ℕ} {fr : List ℕ} {w : ℕ} → state ≡ 0 → rowStartOf (p .screen .mode) (p .screen .row) ≡ start → rowEndOf (p .screen .mode) ≡ end → p .screen .column ≡ column
-      → Going bytes before s answers p t g state len fr from w → Going bytes before s answers (withScreen p (withColumn (p .screen) next)) t′ g state len fr at w
+  pub goes : {before : List ℕ} {s : State Core} {answers : List ℕ} {p : Settings} {g : List ℕ} {ed : Edition} {state len : ℕ} {fr : List ℕ} {w : ℕ} → state ≡ 0 → rowStartOf (p .screen .mode) (p .screen .row) ≡ start → rowEndOf (p .screen .mode) ≡ end → p .screen .column ≡ column
+      → Going bytes before s answers p t g ed state len fr from w → Going bytes before s answers (withScreen p (withColumn (p .screen) next)) t′ g ed state len fr at w
 
 pub stores-none : (start end column : ℕ) (t bytes : List ℕ) (from : ℕ) → from ≤ length bytes → column ≤ end → Stores start end column t bytes from from column t
 stores-none start end column t bytes from l k =
     record {
       inside = l;
       small = k;
-      goes = λ {before} {s} {answers} {p} {g} {state} {len} {fr} {w} e r m c going.
-          subst (λ (n : ℕ). Going bytes before s answers (withScreen p (withColumn (p .screen) n)) t g state len fr from w) c going;
+      goes = λ {before} {s} {answers} {p} {g} {ed} {state} {len} {fr} {w} e r m c going.
+          subst (λ (n : ℕ). Going bytes before s answers (withScreen p (withColumn (p .screen) n)) t g ed state len fr from w) c going;
     }
 
 pub stores-more : {start end column : ℕ} {t bytes : List ℕ} {from at next : ℕ} {t′ : List ℕ} (next′ : ℕ) (t″ : List ℕ) → Stores start end column t bytes from at next t′ → at < length bytes → blank ≤ getD bytes at 0 → next′ ≤ end
@@ -296,12 +297,12 @@ stores-more {start} {end} {column} {t} {bytes} {from} {at} {next} {t′} next′
     record {
       inside = omega arith;
       small = small;
-      goes = λ {before} {s} {answers} {p} {g} {state} {len} {fr} {w} e r m c going.
+      goes = λ {before} {s} {answers} {p} {g} {ed} {state} {len} {fr} {w} e r m c going.
           let on = k .goes e r m c going in
           let v : next′ ≡ columnAfter (rowEndOf (p .screen .mode)) next = x ∙ (λ j. columnAfter (sym m j) next) in
           let z : t″ ≡ textAfter (rowEndOf (p .screen .mode)) t′ (rowStartOf (p .screen .mode) (p .screen .row)) next (getD bytes at 0) = y ∙ (λ j. textAfter (sym m j) t′ (sym r j) next (getD bytes at 0)) in
           let q : Settings = withScreen p (withColumn (p .screen) next) in
-          go-quiet on l (range-stored q t′ g (getD bytes at 0) next′ t″ h v z (on .range)) (on .fits) (turn-text q t′ g state len fr (getD bytes at 0) next′ t″ e h v z);
+          go-quiet on l (range-stored q t′ g ed (getD bytes at 0) next′ t″ h v z (on .range)) (on .fits) (turn-text q t′ g ed state len fr (getD bytes at 0) next′ t″ e h v z);
     }
 
 pub stores-first : {start end column : ℕ} {t bytes : List ℕ} {from : ℕ} (next : ℕ) (t′ : List ℕ) → InRow start column end × (from < length bytes) × (blank ≤ getD bytes from 0) → (next ≡ columnAfter end column) × (next ≤ end) × (t′ ≡ textAfter end t start column (getD bytes from 0))
@@ -348,7 +349,7 @@ pub record Collects (len : ℕ) (fr bytes : List ℕ) (from at len′ : ℕ) (fr
   pub inside : at ≤ length bytes
   pub short : len′ ≤ limit
   pub full : length fr′ ≡ limit
-  pub goes : {before : List ℕ} {s : State Core} {answers : List ℕ} {p : Settings} {t g : List ℕ} {state w : ℕ} → state ≡ 1 → Going bytes before s answers p t g state len fr from w → Going bytes before s answers p t g state len′ fr′ at w
+  pub goes : {before : List ℕ} {s : State Core} {answers : List ℕ} {p : Settings} {t g : List ℕ} {ed : Edition} {state w : ℕ} → state ≡ 1 → Going bytes before s answers p t g ed state len fr from w → Going bytes before s answers p t g ed state len′ fr′ at w
 
 pub collects-none : (len : ℕ) (fr bytes : List ℕ) (from : ℕ) → from ≤ length bytes → len ≤ limit → length fr ≡ limit → Collects len fr bytes from from len fr
 collects-none len fr bytes from l k f = record { inside = l; short = k; full = f; goes = λ e going. going }
@@ -360,7 +361,7 @@ collects-more {bytes = bytes} {at = at} {next = next} {fr′ = fr′} k l room n
       inside = omega arith;
       short = omega arith;
       full = length-set fr′ next (getD bytes at 0) ∙ k .full;
-      goes = λ {before} {s} {answers} {p} {t} {g} {state} {w} e going.
+      goes = λ {before} {s} {answers} {p} {t} {g} {ed} {state} {w} e going.
           let on = k .goes e going in
-          go-quiet on l (on .range) (fits-more (getD bytes at 0) e (on .fits) room) (turn-collect p t g state next fr′ (getD bytes at 0) (on .fits) e n m room);
+          go-quiet on l (on .range) (fits-more (getD bytes at 0) e (on .fits) room) (turn-collect p t g ed state next fr′ (getD bytes at 0) (on .fits) e n m room);
     })

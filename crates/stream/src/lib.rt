@@ -6,6 +6,7 @@ ghost use lib.ListN.{length, getD};
 ghost use Rattle.lists.specs.Codes.{escape, carriageReturn, blank};
 ghost use Rattle.parting.specs.Rules.{limit};
 ghost use Rattle.record.specs.Parts.{together};
+ghost use Rattle.record.specs.declared.Edition.{Edition as KeptEdition};
 ghost use Rattle.command.specs.Table.{classes, nextStates};
 ghost use Rattle.stream.specs.Turns.{Stores, Ends, Drops, Collects};
 ghost use Rattle.stream.specs.Stream.{InRow, lentOf, standing, fedOf, answersAfter, Ready, Closes, Reads};
@@ -16,6 +17,7 @@ use frame_table::NextStates;
 use lists::BLANK;
 use lists::CARRIAGE_RETURN;
 use lists::ESCAPE;
+use record::Edition;
 use record::FrameBytes;
 use record::LONGEST_FRAME;
 use record::NO_FRAME;
@@ -46,6 +48,7 @@ pub struct FedLent {
 // What the loop leaves beside the lent arrays.
 struct AfterBytes {
     settings: Settings,
+    edition: Edition,
     state: u8,
     len: usize,
     used: usize,
@@ -139,7 +142,7 @@ fn close(
     next: &NextStates,
 ) -> Obeyed
     requires { ⌜ (now class ≡ classes) × (now next ≡ nextStates) ⌝ }
-    ensures { λ o. ⌜ Closes settings (now (text .entry)) (now (picture .entry)) state (now (frame .entry)) o (now (text .exit)) (now (picture .exit)) ⌝ }
+    ensures { λ o. ⌜ ((e : KeptEdition) → Closes settings (now (text .entry)) (now (picture .entry)) e state (now (frame .entry)) o (now (text .exit)) (now (picture .exit))) ⌝ }
 {
     if state == OPEN {
         return effect::obey(settings, text, picture, frame, class, next);
@@ -174,6 +177,7 @@ fn read(
     text: &mut Text,
     picture: &mut Picture,
     frame: &mut [u8],
+    edition: Edition,
     mut state: u8,
     mut len: usize,
     bytes: &[u8],
@@ -181,8 +185,8 @@ fn read(
     class: &Classes,
     next: &NextStates,
 ) -> AfterBytes
-    requires { ⌜ (Ready settings (now text) (now picture) state len (now frame)) × ((now class ≡ classes) × (now next ≡ nextStates)) ⌝ }
-    ensures { λ d. ⌜ Reads (standing settings (now (text .entry)) (now (picture .entry)) state len (now (frame .entry))) (now (bytes .entry)) (now (answers .entry)) d (now (text .exit)) (now (picture .exit)) (now (frame .exit)) (now (answers .exit)) ⌝ }
+    requires { ⌜ (Ready settings (now text) (now picture) edition state len (now frame)) × ((now class ≡ classes) × (now next ≡ nextStates)) ⌝ }
+    ensures { λ d. ⌜ Reads (standing settings (now (text .entry)) (now (picture .entry)) edition state len (now (frame .entry))) (now (bytes .entry)) (now (answers .entry)) d (now (text .exit)) (now (picture .exit)) (now (frame .exit)) (now (answers .exit)) ⌝ }
 {
     let mut i = 0;
     let mut w = 0;
@@ -222,6 +226,7 @@ fn read(
             }
             return AfterBytes {
                 settings: settings,
+                edition: edition,
                 state: state,
                 len: len,
                 used: i,
@@ -249,6 +254,7 @@ fn read(
             }
             return AfterBytes {
                 settings: settings,
+                edition: edition,
                 state: state,
                 len: len,
                 used: i,
@@ -271,6 +277,7 @@ fn read(
     }
     AfterBytes {
         settings: settings,
+        edition: edition,
         state: state,
         len: len,
         used: i,
@@ -295,12 +302,14 @@ pub fn feed_lent(
 {
     let settings = small.settings;
     let held = small.held;
+    let edition = small.edition;
     if record_ranges::in_range_lent(small, text, picture, frame) {
         let d = read(
             settings,
             text,
             picture,
             frame,
+            edition,
             small.state,
             wide(small.len),
             bytes,
@@ -310,6 +319,7 @@ pub fn feed_lent(
         );
         stream_places::empty_from(frame, d.len);
         let after = d.settings;
+        let edition_after = d.edition;
         return FedLent {
             number: Number::Done,
             small: Small {
@@ -317,6 +327,7 @@ pub fn feed_lent(
                 held: held,
                 state: d.state,
                 len: d.len as u8,
+                edition: edition_after,
             },
             used: d.used,
             written: d.written,

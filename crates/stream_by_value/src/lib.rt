@@ -17,6 +17,7 @@ pub fn whole(small: Small, text: Text, picture: Picture, frame: FrameBytes) -> R
 {
     let settings = small.settings;
     let held = small.held;
+    let edition = small.edition;
     Record {
         settings: settings,
         text: text,
@@ -27,6 +28,7 @@ pub fn whole(small: Small, text: Text, picture: Picture, frame: FrameBytes) -> R
             len: small.len,
             bytes: frame,
         },
+        edition: edition,
     }
 }
 
@@ -40,12 +42,14 @@ pub fn feed(r: Record, bytes: &[u8], answers: &mut [u8]) -> Fed
     let mut picture = r.picture;
     let held = r.held;
     let kept = r.frame;
+    let edition = r.edition;
     let mut frame = kept.bytes;
     let small = Small {
         settings: settings,
         held: held,
         state: kept.state,
         len: kept.len,
+        edition: edition,
     };
     let f = stream::feed_lent(small, &mut text, &mut picture, &mut frame, bytes, answers);
     let number = f.number;

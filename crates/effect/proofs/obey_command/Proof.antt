@@ -13,6 +13,6 @@ obey-command-spec = tie.close (tie.spec
     (λ c κs. let start = c .before .before .before .before .args in
     judged (start .p .screen .mode) (start .c) true (c .before .before .before .rows-named .ensures) (c .before .before .in-range .ensures) (c .before .if1 .taken))
     (λ c. let start = c .before .before .before .before .before .args in
-    λ g. rw (judged (start .p .screen .mode) (start .c) true (c .before .before .before .before .rows-named .ensures) (c .before .before .before .in-range .ensures) (c .before .before .if1 .taken)) (c .changed .ensures g))
+    λ g e. rw (judged (start .p .screen .mode) (start .c) true (c .before .before .before .before .rows-named .ensures) (c .before .before .before .in-range .ensures) (c .before .before .if1 .taken)) (c .changed .ensures g e))
     (λ c. let start = c .before .before .before .args in
-    λ g. rw (judged (start .p .screen .mode) (start .c) false (c .before .before .rows-named .ensures) (c .before .in-range .ensures) (c .if1 .left))))
+    λ g e. rw (judged (start .p .screen .mode) (start .c) false (c .before .before .rows-named .ensures) (c .before .in-range .ensures) (c .if1 .left))))

@@ -13,7 +13,7 @@ use Rattle.hook.proofs.hook.Tie as tie
 pub hook-spec : {M : Type 1} → statement M
 hook-spec = tie.close (tie.spec
     (λ c κs. search needs) (λ c κs. search needs)
-    (λ c. let r = c .before .before .before .before .before .before .before .before .before .before .before .args .t1 in
-    let told : c .before .before .before .before .before .hook-lent .result ≡ lentOf (hooked r (c .before .before .before .before .before .before .before .before .before .before .before .args .on)) =
-    c .before .before .before .before .before .hook-lent .ensures ∙ ap (λ (s : Small). lentOf (hooked (together s (r .text) (r .picture) (r .frame .bytes)) (c .before .before .before .before .before .before .before .before .before .before .before .args .on))) (c .before .before .before .before .before .before .before .before .before .before .small-of .ensures) in
-    ap (λ (q : HookedLent). record { number = q .number; after = withSettings r (q .small .settings) }) told ∙ lent-back r (c .before .before .before .before .before .before .before .before .before .before .before .args .on)))
+    (λ c. let r = c .before .before .before .before .before .before .before .before .before .before .before .before .args .t1 in
+    let told : c .before .before .before .before .before .before .hook-lent .result ≡ lentOf (hooked r (c .before .before .before .before .before .before .before .before .before .before .before .before .args .on)) =
+    c .before .before .before .before .before .before .hook-lent .ensures ∙ ap (λ (s : Small). lentOf (hooked (together s (r .text) (r .picture) (r .frame .bytes)) (c .before .before .before .before .before .before .before .before .before .before .before .before .args .on))) (c .before .before .before .before .before .before .before .before .before .before .before .small-of .ensures) in
+    ap (λ (q : HookedLent). record { number = q .number; after = withSettings r (q .small .settings) }) told ∙ lent-back r (c .before .before .before .before .before .before .before .before .before .before .before .before .args .on)))

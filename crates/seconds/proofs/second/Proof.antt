@@ -13,7 +13,7 @@ use Rattle.seconds.proofs.second.Tie as tie
 pub second-spec : {M : Type 1} → statement M
 second-spec = tie.close (tie.spec
     (λ c κs. search needs) (λ c κs. search needs)
-    (λ c. let r = c .before .before .before .before .before .before .before .before .before .before .before .args .t1 in
-    let told : c .before .before .before .before .before .second-lent .result ≡ lentOf (passed r) =
-    c .before .before .before .before .before .second-lent .ensures ∙ ap (λ (s : Small). lentOf (passed (together s (r .text) (r .picture) (r .frame .bytes)))) (c .before .before .before .before .before .before .before .before .before .before .small-of .ensures) in
+    (λ c. let r = c .before .before .before .before .before .before .before .before .before .before .before .before .args .t1 in
+    let told : c .before .before .before .before .before .before .second-lent .result ≡ lentOf (passed r) =
+    c .before .before .before .before .before .before .second-lent .ensures ∙ ap (λ (s : Small). lentOf (passed (together s (r .text) (r .picture) (r .frame .bytes)))) (c .before .before .before .before .before .before .before .before .before .before .before .small-of .ensures) in
     ap (λ (q : PassedLent). record { number = q .number; after = withSettings r (q .small .settings) }) told ∙ lent-back r))

@@ -10,4 +10,4 @@ second-lent-spec = tie.close (tie.spec
     (λ c κs. search needs)
     (λ c. rw (← c .before .in-range-lent .ensures, c .if1 .taken))
     (λ c κs. search needs)
-    (λ c. rw (← c .before .before .before .before .in-range-lent .ensures, c .before .before .before .if1 .left, c .before .before .lower .ensures)))
+    (λ c. rw (← c .before .before .before .before .before .in-range-lent .ensures, c .before .before .before .before .if1 .left, c .before .before .before .lower .ensures)))

@@ -35,6 +35,6 @@ pub bar-at-place-spec : {M : Type 1} → statement M
 unfolding contents
 bar-at-place-spec = tie.close (tie.spec
     (λ c. search needs) (λ c κs. search needs) (λ c κs. search needs)
-    (λ c text picture held frame. rw (c .before .enum-told .given .1, c .bar-of .ensures))
-    (λ c text picture held frame. let told = c .before .before .args in
+    (λ c text picture held frame edition. rw (c .before .enum-told .given .1, c .bar-of .ensures))
+    (λ c text picture held frame edition. let told = c .before .before .args in
     rw (c .no-bar .ensures) (no-bar _ (told .phase) (told .owner) (c .before .match .keys2))))

@@ -38,8 +38,8 @@ column-seen-lent-spec = tie.close (tie.spec
       ← c .before .before .before .before .before .before .in-range-lent .ensures,
       c .before .before .before .before .before .if1 .left,
       c .before .before .before .before .if2 .left,
-      c .inverse-at .ensures (r .text) (r .picture) (r .held) (r .frame),
-      c .before .bar-at-place .ensures (r .text) (r .picture) (r .held) (r .frame),
-      c .before .before .shown-at .ensures (r .held) (r .frame),
+      c .inverse-at .ensures (r .text) (r .picture) (r .held) (r .frame) (r .edition),
+      c .before .bar-at-place .ensures (r .text) (r .picture) (r .held) (r .frame) (r .edition),
+      c .before .before .shown-at .ensures (r .held) (r .frame) (r .edition),
       c .before .before .before .owner-of .ensures,
     )))

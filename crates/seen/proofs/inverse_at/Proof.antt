@@ -37,6 +37,6 @@ unfolding contents
 inverse-at-spec = tie.close (tie.spec
     (λ c. search needs)
     (λ c κs. ltb-true _ _ (rw (c .before .owner .given .1) at (c .before .before .before .pre)))
-    (λ c text picture held frame. rw (c .before .before .owner .given .1, c .mark-of .ensures))
-    (λ c text picture held frame. let told = c .before .args in
+    (λ c text picture held frame edition. rw (c .before .before .owner .given .1, c .mark-of .ensures))
+    (λ c text picture held frame edition. let told = c .before .args in
     no-mark _ (told .owner) (c .match .keys2)))

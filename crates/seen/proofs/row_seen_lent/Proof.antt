@@ -24,4 +24,4 @@ row-seen-lent-spec = tie.close (tie.spec
     (rw (c .owner-of-row .ensures) (row-owner-placed (told .small .settings .screen) (told .row)), column-fits _ (sym (c .before .before .before .in-range-lent .ensures) ∙ not-false (c .before .before .before .in-range-lent .result) (c .before .before .if1 .left))))
     (λ c. let told = c .before .before .before .before .before .args in
     let r = together (told .small) (told .text .now) (told .picture .now) (told .frame .now) in
-    rw (← c .before .before .before .before .in-range-lent .ensures, c .before .before .before .if1 .left, le-ltb lastRow (told .row) (omega (arith, c .before .before .if2 .left)), c .contents-of .ensures (r .held) (r .frame), c .before .owner-of-row .ensures)))
+    rw (← c .before .before .before .before .in-range-lent .ensures, c .before .before .before .if1 .left, le-ltb lastRow (told .row) (omega (arith, c .before .before .if2 .left)), c .contents-of .ensures (r .held) (r .frame) (r .edition), c .before .owner-of-row .ensures)))

@@ -9,5 +9,5 @@ pub close-spec : {M : Type 1} → statement M
 close-spec = tie.close (tie.spec
     (λ c κs. search needs)
     (λ c. let a = c .before .before .before .before .before in
-    closes-whole _ _ _ _ _ _ _ _ (c .before .before .before .if1 .taken) (rw (order-by (a .args .frame .now) (a .pre .0) (a .pre .1)) at (c .obey .ensures)))
-    (λ c. closes-long _ _ _ _ _ (c .if1 .left)))
+    λ e. closes-whole _ _ _ e _ _ _ _ _ (c .before .before .before .if1 .taken) (rw (order-by (a .args .frame .now) (a .pre .0) (a .pre .1)) at (c .obey .ensures e)))
+    (λ c. λ e. closes-long _ _ _ e _ _ (c .if1 .left)))

@@ -15,10 +15,10 @@ use Rattle.stream.proofs.read.Statement.{statement}
 use Rattle.stream.proofs.read.Tie as tie
 
 abbrev Inv-loop : tie.InvT-loop
-Inv-loop panel₀ text₀ picture₀ frame₀ state₀ len₀ bytes answers₀ class next i₀ w₀ settings text picture frame state len answers i w = Going bytes answers₀ (standing panel₀ text₀ picture₀ state₀ len₀ frame₀) answers settings text picture state len frame i w
+Inv-loop panel₀ text₀ picture₀ frame₀ edition state₀ len₀ bytes answers₀ class next i₀ w₀ settings text picture frame state len answers i w = Going bytes answers₀ (standing panel₀ text₀ picture₀ edition state₀ len₀ frame₀) answers settings text picture edition state len frame i w
 
 abbrev μ-loop : tie.MeasureT-loop
-μ-loop panel₀ text₀ picture₀ frame₀ state₀ len₀ bytes answers₀ class next i₀ w₀ settings text picture frame state len answers i w = length bytes - i
+μ-loop panel₀ text₀ picture₀ frame₀ edition state₀ len₀ bytes answers₀ class next i₀ w₀ settings text picture frame state len answers i w = length bytes - i
 
 pub read-spec : {M : Type 1} → statement M
 read-spec = tie.close (tie.spec Inv-loop μ-loop
@@ -28,60 +28,60 @@ read-spec = tie.close (tie.spec Inv-loop μ-loop
     (rw (c .before .before .row-start .ensures, c .before .row-end .ensures) q, c .before .before .before .before .before .before .loop-test .taken, c .before .before .before .if2 .taken))
     (λ c. let t = c .before .before .before .before .before .before .before .before .loop-test .taken in let k = c .before .store-all .ensures .0 in let l = c .before .store-all .ensures .1 .inside in omega arith)
     (λ c. let v = c .before .before .before .before .before .before .before .before .before .loop in c .before .store-all .ensures .1 .goes (c .before .before .before .before .before .before .if1 .taken) (sym (c .before .before .before .before .row-start .ensures)) (sym (c .before .before .before .row-end .ensures)) refl (v .inv))
-    (λ c. search needs) (λ c. search needs)
+    (λ c. let t = c .before .before .before .before .loop-test in let g = c .before .before .before .before .before .before .before .before .before .good .1 .1 .1 .1 .1 .1 .1 .0 .0 in record { fits = omega arith }) (λ c. search needs)
     (λ c. let v = c .before .before .before .before .before .loop in
     let z : v .len ≡ 0 = v .inv .fits .none (λ e. omega (arith, c .before .before .if1 .taken)) in
-    go-quiet (v .inv) (omega arith) (v .inv .range) (fits-open z (v .inv .fits)) (turn-open (v .settings) (v .text) (v .picture) (v .state) (v .len) (v .frame) _ (c .before .before .if1 .taken) z (c .if3 .taken)))
-    (λ c. search needs) (λ c. search needs)
+    go-quiet (v .inv) (omega arith) (v .inv .range) (fits-open z (v .inv .fits)) (turn-open (v .settings) (v .text) (v .picture) _ (v .state) (v .len) (v .frame) _ (c .before .before .if1 .taken) z (c .if3 .taken)))
+    (λ c. let t = c .before .before .before .before .loop-test in let g = c .before .before .before .before .before .before .before .before .before .good .1 .1 .1 .1 .1 .1 .1 .0 .0 in record { fits = omega arith }) (λ c. search needs)
     (λ c. let v = c .before .before .before .before .before .loop in
-    go-quiet (v .inv) (omega arith) (v .inv .range) (v .inv .fits) (turn-skip (v .settings) (v .text) (v .picture) (v .state) (v .len) (v .frame) _ (c .before .before .if1 .taken) (c .before .if2 .left) (c .if3 .left)))
+    go-quiet (v .inv) (omega arith) (v .inv .range) (v .inv .fits) (turn-skip (v .settings) (v .text) (v .picture) _ (v .state) (v .len) (v .frame) _ (c .before .before .if1 .taken) (c .before .if2 .left) (c .if3 .left)))
     (λ c κs. search needs)
-    (λ c. let t = c .before .before .before .before .before .before .before .before .loop-test in let g = c .before .before .before .before .before .before .before .before .before .before .before .before .before .good .1 .1 .1 .1 .1 .1 .0 .0 in record { fits = omega arith })
+    (λ c. let t = c .before .before .before .before .before .before .before .before .loop-test in let g = c .before .before .before .before .before .before .before .before .before .before .before .before .before .good .1 .1 .1 .1 .1 .1 .1 .0 .0 in record { fits = omega arith })
     (λ c. search needs)
     (λ c. let v = c .before .before .before .before .before .before .before .before .before .loop in
-    go-loud (v .inv) (let t = c .before .before .before .before .before .before .before .before .loop-test in omega arith) (v .inv .range) (fits-none 1 (v .frame) (omega arith) (v .inv .fits .full)) (loud-esc (v .settings) (v .text) (v .picture) (v .state) (v .len) (v .frame) _ (c .before .before .before .before .before .before .if1 .left) (c .before .before .before .before .before .if4 .taken))
+    go-loud (v .inv) (let t = c .before .before .before .before .before .before .before .before .loop-test in omega arith) (v .inv .range) (fits-none 1 (v .frame) (omega arith) (v .inv .fits .full)) (loud-esc (v .settings) (v .text) (v .picture) _ (v .state) (v .len) (v .frame) _ (c .before .before .before .before .before .before .if1 .left) (c .before .before .before .before .before .if4 .taken))
     (c .before .before .before .say .ensures .0) (c .before .before .before .say .ensures .1) (c .if5 .taken))
     (λ c. c .before .before .before .before .before .before .before .before .before .loop .inv .fits .full ∙ sym (c .before .before .before .before .before .before .before .before .before .before .before .before .before .pre .0 .fits .full))
     (λ c. let v = c .before .before .before .before .before .before .before .before .before .loop in ap length (c .before .before .before .say .ensures .1) ∙ room-stays (v .answers) (v .w) (answerFrom (v .settings) QuestionMark) ∙ v .inv .account .even)
     (λ c. let v = c .before .before .before .before .before .before .before .before .before .loop in
-    record { account = go-halt (v .inv) (let t = c .before .before .before .before .before .before .before .before .loop-test in omega arith) (loud-esc (v .settings) (v .text) (v .picture) (v .state) (v .len) (v .frame) _ (c .before .before .before .before .before .before .if1 .left) (c .before .before .before .before .before .if4 .taken)) (omega arith) (c .before .before .before .say .ensures .0) (c .before .before .before .say .ensures .1) (c .if5 .left); fits = v .inv .fits })
+    record { account = go-halt (v .inv) (let t = c .before .before .before .before .before .before .before .before .loop-test in omega arith) (loud-esc (v .settings) (v .text) (v .picture) _ (v .state) (v .len) (v .frame) _ (c .before .before .before .before .before .before .if1 .left) (c .before .before .before .before .before .if4 .taken)) (omega arith) (c .before .before .before .say .ensures .0) (c .before .before .before .say .ensures .1) (c .if5 .left); fits = v .inv .fits })
     (λ c. let v = c .before .before .before .before .before .before .before .loop in omega (arith, v .inv .fits .full, v .inv .fits .short))
     (λ c. let v = c .before .before .before .before .before .before .before .before .loop in sym (length-take-le (v .len) (v .frame) (omega (arith, v .inv .fits .full, v .inv .fits .short))))
     (λ c κs. search needs) (λ c κs. search needs)
-    (λ c. let t = c .before .before .before .before .before .before .before .before .before .before .before .loop-test in let g = c .before .before .before .before .before .before .before .before .before .before .before .before .before .before .before .before .good .1 .1 .1 .1 .1 .1 .0 .0 in record { fits = omega arith })
+    (λ c. let t = c .before .before .before .before .before .before .before .before .before .before .before .loop-test in let g = c .before .before .before .before .before .before .before .before .before .before .before .before .before .before .before .before .good .1 .1 .1 .1 .1 .1 .1 .0 .0 in record { fits = omega arith })
     (λ c. search needs)
     (λ c. let v = c .before .before .before .before .before .before .before .before .before .before .before .before .loop in
-    let k = c .before .before .before .close .ensures in
+    let k = c .before .before .before .close .ensures _ in
     go-quiet (v .inv) (let t = c .before .before .before .before .before .before .before .before .before .before .before .loop-test in omega arith) (k .range (v .inv .range)) (fits-none 0 (v .frame) (omega arith) (v .inv .fits .full))
-    (turn-quiet (v .settings) (v .text) (v .picture) (v .state) (v .len) (v .frame) _ (c .before .before .before .before .before .before .before .before .before .if1 .left) (c .before .before .before .before .before .before .before .if6 .taken) k (sym (c .before .is-silence .ensures) ∙ c .if7 .taken)))
+    (turn-quiet (v .settings) (v .text) (v .picture) _ (v .state) (v .len) (v .frame) _ (c .before .before .before .before .before .before .before .before .before .if1 .left) (c .before .before .before .before .before .before .before .if6 .taken) k (sym (c .before .is-silence .ensures) ∙ c .if7 .taken)))
     (λ c κs. search needs)
-    (λ c. let t = c .before .before .before .before .before .before .before .before .before .before .before .before .before .before .before .before .loop-test in let g = c .before .before .before .before .before .before .before .before .before .before .before .before .before .before .before .before .before .before .before .before .before .good .1 .1 .1 .1 .1 .1 .0 .0 in record { fits = omega arith })
+    (λ c. let t = c .before .before .before .before .before .before .before .before .before .before .before .before .before .before .before .before .loop-test in let g = c .before .before .before .before .before .before .before .before .before .before .before .before .before .before .before .before .before .before .before .before .before .good .1 .1 .1 .1 .1 .1 .1 .0 .0 in record { fits = omega arith })
     (λ c. search needs)
     (λ c. let v = c .before .before .before .before .before .before .before .before .before .before .before .before .before .before .before .before .before .loop in
-    let k = c .before .before .before .before .before .before .before .before .close .ensures in
+    let k = c .before .before .before .before .before .before .before .before .close .ensures _ in
     let loud = sym (c .before .before .before .before .before .before .is-silence .ensures) ∙ c .before .before .before .before .before .if7 .left in
     go-loud (v .inv) (let t = c .before .before .before .before .before .before .before .before .before .before .before .before .before .before .before .before .loop-test in omega arith) (k .range (v .inv .range)) (fits-none 0 (v .frame) (omega arith) (v .inv .fits .full))
-    (loud-return (v .settings) (v .text) (v .picture) (v .state) (v .len) (v .frame) _ (c .before .before .before .before .before .before .before .before .before .before .before .before .before .before .if1 .left) (c .before .before .before .before .before .before .before .before .before .before .before .before .if6 .taken) k loud) (c .before .before .before .say2 .ensures .0) (c .before .before .before .say2 .ensures .1) (c .if8 .taken))
+    (loud-return (v .settings) (v .text) (v .picture) _ (v .state) (v .len) (v .frame) _ (c .before .before .before .before .before .before .before .before .before .before .before .before .before .before .if1 .left) (c .before .before .before .before .before .before .before .before .before .before .before .before .if6 .taken) k loud) (c .before .before .before .say2 .ensures .0) (c .before .before .before .say2 .ensures .1) (c .if8 .taken))
     (λ c. c .before .before .before .before .before .before .before .before .before .before .before .before .before .before .before .before .before .loop .inv .fits .full ∙ sym (c .before .before .before .before .before .before .before .before .before .before .before .before .before .before .before .before .before .before .before .before .before .pre .0 .fits .full))
     (λ c. let v = c .before .before .before .before .before .before .before .before .before .before .before .before .before .before .before .before .before .loop in ap length (c .before .before .before .say2 .ensures .1) ∙ room-stays (v .answers) (v .w) (answerFrom (c .before .before .before .before .before .before .before .before .close .result .settings) (c .before .before .before .before .before .before .before .before .close .result .answer)) ∙ v .inv .account .even)
     (λ c. let v = c .before .before .before .before .before .before .before .before .before .before .before .before .before .before .before .before .before .loop in
-    let k = c .before .before .before .before .before .before .before .before .close .ensures in
+    let k = c .before .before .before .before .before .before .before .before .close .ensures _ in
     let loud = sym (c .before .before .before .before .before .before .is-silence .ensures) ∙ c .before .before .before .before .before .if7 .left in
-    record { account = same-core (k .keeps loud) (go-halt (v .inv) (let t = c .before .before .before .before .before .before .before .before .before .before .before .before .before .before .before .before .loop-test in omega arith) (loud-return (v .settings) (v .text) (v .picture) (v .state) (v .len) (v .frame) _ (c .before .before .before .before .before .before .before .before .before .before .before .before .before .before .if1 .left) (c .before .before .before .before .before .before .before .before .before .before .before .before .if6 .taken) k loud) (answer-not-empty _ _ (c .before .before .before .before .before .before .before .before .close .result .answer) loud) (c .before .before .before .say2 .ensures .0) (c .before .before .before .say2 .ensures .1) (c .if8 .left)); fits = v .inv .fits })
-    (λ c. search needs) (λ c. search needs)
+    record { account = same-core (k .keeps loud) (go-halt (v .inv) (let t = c .before .before .before .before .before .before .before .before .before .before .before .before .before .before .before .before .loop-test in omega arith) (loud-return (v .settings) (v .text) (v .picture) _ (v .state) (v .len) (v .frame) _ (c .before .before .before .before .before .before .before .before .before .before .before .before .before .before .if1 .left) (c .before .before .before .before .before .before .before .before .before .before .before .before .if6 .taken) k loud) (answer-not-empty _ _ (c .before .before .before .before .before .before .before .before .close .result .answer) loud) (c .before .before .before .say2 .ensures .0) (c .before .before .before .say2 .ensures .1) (c .if8 .left)); fits = v .inv .fits })
+    (λ c. let t = c .before .before .before .before .before .loop-test in let g = c .before .before .before .before .before .before .before .before .before .before .good .1 .1 .1 .1 .1 .1 .1 .0 .0 in record { fits = omega arith }) (λ c. search needs)
     (λ c. let v = c .before .before .before .before .before .before .loop in
-    go-quiet (v .inv) (omega arith) (v .inv .range) (v .inv .fits) (turn-lost (v .settings) (v .text) (v .picture) (v .state) (v .len) (v .frame) _ (c .if9 .taken) (c .before .before .if4 .left) (c .before .if6 .left)))
+    go-quiet (v .inv) (omega arith) (v .inv .range) (v .inv .fits) (turn-lost (v .settings) (v .text) (v .picture) _ (v .state) (v .len) (v .frame) _ (c .if9 .taken) (c .before .before .if4 .left) (c .before .if6 .left)))
     (λ c κs. (c .before .before .before .before .before .before .before .before .loop .inv .fits .full, c .before .if10 .taken, c .before .before .before .before .before .before .before .loop-test .taken, c .before .before .before .before .if4 .left, c .before .before .before .if6 .left))
     (λ c. let k = c .before .before .collect-run .ensures .1 .short in record { fits = omega arith })
-    (λ c. let k = c .before .before .collect-run .ensures .1 .inside in let g = c .before .before .before .before .before .before .before .before .before .before .before .before .before .before .before .good .1 .1 .1 .1 .1 .1 .0 .0 in record { fits = omega arith })
+    (λ c. let k = c .before .before .collect-run .ensures .1 .inside in let g = c .before .before .before .before .before .before .before .before .before .before .before .before .before .before .before .good .1 .1 .1 .1 .1 .1 .1 .0 .0 in record { fits = omega arith })
     (λ c. let k = c .before .before .collect-run .ensures in let l = k .0 in let m = k .1 .inside in omega arith)
     (λ c. let v = c .before .before .before .before .before .before .before .before .before .before .before .loop in
     c .before .before .collect-run .ensures .1 .goes (omega (arith, c .before .before .before .before .before .if9 .left, v .inv .fits .known)) (v .inv))
-    (λ c. search needs) (λ c. search needs)
+    (λ c. let t = c .before .before .before .before .before .before .loop-test in let g = c .before .before .before .before .before .before .before .before .before .before .before .good .1 .1 .1 .1 .1 .1 .1 .0 .0 in record { fits = omega arith }) (λ c. search needs)
     (λ c. let v = c .before .before .before .before .before .before .before .loop in
     let e : v .state ≡ 1 = omega (arith, v .inv .fits .known) in
     go-quiet (v .inv) (omega arith) (v .inv .range) (fits-none 2 (v .frame) (omega arith) (v .inv .fits .full))
-    (turn-over (v .settings) (v .text) (v .picture) (v .state) (v .len) (v .frame) _ (v .inv .fits) e (c .before .before .before .if4 .left) (c .before .before .if6 .left) (c .if10 .left)))
+    (turn-over (v .settings) (v .text) (v .picture) _ (v .state) (v .len) (v .frame) _ (v .inv .fits) e (c .before .before .before .if4 .left) (c .before .before .if6 .left) (c .if10 .left)))
     (λ c. c .before .loop .inv .fits .full ∙ sym (c .before .before .before .before .before .pre .0 .fits .full))
     (λ c. c .before .loop .inv .account .even)
     (λ c. let v = c .before .loop in record { account = go-end (step handset) (v .inv .account) (omega arith); fits = v .inv .fits }))
