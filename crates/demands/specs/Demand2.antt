@@ -54,6 +54,7 @@ use Rattle.writer_ranges.specs.Fitting.{isLabel, isRow}
 use Rattle.writer.specs.ReadBack.{AfterZero, command-reads-back, label-reads-back, command-written, label-written, row-written}
 use Rattle.demands.specs.HeldKeys.{HeldKeys, held-keys}
 use Rattle.demands.specs.Room.{AnswerRoom, answer-room}
+use Rattle.demands.specs.Edition.{EditionStays, edition-never-changes}
 use Rattle.demands.specs.Frames.{said, answerOn, wholeFrame, withCore, closed-obeyed, good-whole}
 use Prim.Native.Char.{code}
 use mathlib.Core.Option.{some}
@@ -120,6 +121,8 @@ pub record Demand2 : Type 0 where
   -- The record of the former defaults has it, differs in nothing else, and no stream in which no key times are set tells the two apart.
   pub no-repeat-at-power-on : powerOn .settings .times .time2 .0 ≡ 0
   pub former-defaults : HeldKeys
+  -- Which handset it is stands in the record, and no stream, log, second or hook call changes it (request T-06).
+  pub edition : EditionStays
   -- A second lowers the seconds left by one, not below 0: of a record, and of a backlight in place.
   pub seconds : (r : Record) → inRange r ≡ true → passed r .after ≡ dimmed r
   pub seconds-in-place : (b : Backlight) → backlightInRange b ≡ true → lightPassed b .backlight ≡ lowered b
@@ -175,6 +178,7 @@ demand2 =
       logs-only-so = log-done-fixes;
       no-repeat-at-power-on = refl;
       former-defaults = held-keys;
+      edition = edition-never-changes;
       seconds = λ r h. second-done r h .1;
       seconds-in-place = λ b h. light-done b h .1;
       rows = seen-row;

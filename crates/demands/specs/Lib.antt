@@ -1,6 +1,7 @@
 pub mod Frames
 pub mod Verdict
 pub mod Demand1
+pub mod Edition
 pub mod Demand2
 pub mod Demand3
 pub mod HeldKeys

@@ -12,7 +12,8 @@ use denote.Triple.Clauses.{Ended, AtExit}
 use borrow.Fn.World.{World, Pr, ArgsD, ResD}
 use Rattle.record.specs.Number.{paperNumber}
 use Rattle.record.specs.Range.{rowsOf, rowEndOf, rowStartOf, backlightInRange, inRange}
-use Rattle.record.specs.PowerOn.{timesAtPowerOn, formerTimes, startingWith, powerOn, formerPowerOn}
+use Rattle.record.specs.declared.Edition.{Edition}
+use Rattle.record.specs.PowerOn.{timesAtPowerOn, formerTimes, startingWith, powerOn, formerPowerOn, storedAtDelivery, sisterWith, sisterPowerOn}
 use Rattle.record.specs.Parts.{together, smallOf}
 use Rattle.numeral.specs.Numeral as Numerals
 use Rattle.picture.specs.Reading.{columnsRead}
@@ -71,6 +72,12 @@ use Rattle.record.proofs.Times.former_defaults as TimesFormer
 use Rattle.record.proofs.Times.former_defaults.Reads as TimesFormerReads
 use Rattle.record.proofs.Record.former_defaults as Former
 use Rattle.record.proofs.Record.former_defaults.Reads as FormerReads
+use Rattle.record.proofs.Stored.delivered as Delivered
+use Rattle.record.proofs.Stored.delivered.Reads as DeliveredReads
+use Rattle.record.proofs.Record.sister_with as SisterWith
+use Rattle.record.proofs.Record.sister_with.Reads as SisterWithReads
+use Rattle.record.proofs.Record.sister_power_on as SisterPowerOn
+use Rattle.record.proofs.Record.sister_power_on.Reads as SisterPowerOnReads
 use Rattle.record_small_ranges.specs.Small.{smallInRange}
 use Rattle.record_small_ranges.proofs.backlight_in_range as BacklightInRange
 use Rattle.record_small_ranges.proofs.backlight_in_range.Reads as BacklightInRangeReads
@@ -341,12 +348,24 @@ times-former-defaults-says κs a q e w = (refl, refl)
 pub record-former-defaults-says : Says Former.ended FormerReads.requires FormerReads.ensures (λ κs a q e. q ≡ formerPowerOn)
 record-former-defaults-says κs a q e w = (refl, refl)
 
+-- record::Stored::delivered
+pub stored-delivered-says : Says Delivered.ended DeliveredReads.requires DeliveredReads.ensures (λ κs a q e. q ≡ storedAtDelivery)
+stored-delivered-says κs a q e w = (refl, refl)
+
+-- record::Record::sister_with
+pub record-sister-with-says : Says SisterWith.ended SisterWithReads.requires SisterWithReads.ensures (λ κs a q e. q ≡ sisterWith (a .0))
+record-sister-with-says κs a q e w = (refl, refl)
+
+-- record::Record::sister_power_on
+pub record-sister-power-on-says : Says SisterPowerOn.ended SisterPowerOnReads.requires SisterPowerOnReads.ensures (λ κs a q e. q ≡ sisterPowerOn)
+record-sister-power-on-says κs a q e w = (refl, refl)
+
 -- record_small_ranges::backlight_in_range
 pub backlight-in-range-says : Says BacklightInRange.ended BacklightInRangeReads.requires BacklightInRangeReads.ensures (λ κs a q e. q ≡ backlightInRange (a .0))
 backlight-in-range-says κs a q e w = (refl, refl)
 
 -- record_small_ranges::small_in_range
-pub small-in-range-says : Says SmallInRange.ended SmallInRangeReads.requires SmallInRangeReads.ensures (λ κs a q e. q ≡ smallInRange (a .0) (a .1 .0))
+pub small-in-range-says : Says SmallInRange.ended SmallInRangeReads.requires SmallInRangeReads.ensures (λ κs a q e. q ≡ smallInRange (a .0) (a .1 .0) (a .1 .1 .0))
 small-in-range-says κs a q e w = (refl, refl)
 
 -- record_ranges::in_range
@@ -441,7 +460,7 @@ pub at-level-says : Says AtLevel.ended AtLevelReads.requires AtLevelReads.ensure
 at-level-says κs a q e w = (refl, refl)
 
 -- effect::obey
-pub obey-says : Says Obey.ended ObeyReads.requires ObeyReads.ensures (λ κs a q e. Obeys (orderBy (now (a .1 .1 .1 .1 .0)) (now (a .1 .1 .1 .1 .1 .0)) (now (a .1 .1 .1 .0))) (core (a .0) (now (a .1 .0)) (now (a .1 .1 .0))) q (core (q .settings) (now (e .1 .0)) (now (e .1 .1 .0))))
+pub obey-says : Says Obey.ended ObeyReads.requires ObeyReads.ensures (λ κs a q e. (edition : Edition) → Obeys (orderBy (now (a .1 .1 .1 .1 .0)) (now (a .1 .1 .1 .1 .1 .0)) (now (a .1 .1 .1 .0))) (core (a .0) (now (a .1 .0)) (now (a .1 .1 .0)) edition) q (core (q .settings) (now (e .1 .0)) (now (e .1 .1 .0)) edition))
 obey-says κs a q e w = (refl, refl)
 
 -- answer::is_silence

@@ -3,6 +3,7 @@
 use mathlib.Core.Path.{_≡_, refl, sym, _∙_}
 use Prim.Native.Nat.{ℕ}
 use mathlib.Core.List.{List}
+use Rattle.record.specs.PowerOn.{firstEdition}
 use Rattle.record.specs.declared.Backlight.{Backlight}
 use contract.Lifetimes.{Lfts}
 use denote.Ref.{now}
@@ -29,6 +30,12 @@ use Rattle.record.proofs.Times.former_defaults as TimesFormer
 use Rattle.record.proofs.Times.former_defaults.Reads as TimesFormerReads
 use Rattle.record.proofs.Record.former_defaults as Former
 use Rattle.record.proofs.Record.former_defaults.Reads as FormerReads
+use Rattle.record.proofs.Stored.delivered as Delivered
+use Rattle.record.proofs.Stored.delivered.Reads as DeliveredReads
+use Rattle.record.proofs.Record.sister_with as SisterWith
+use Rattle.record.proofs.Record.sister_with.Reads as SisterWithReads
+use Rattle.record.proofs.Record.sister_power_on as SisterPowerOn
+use Rattle.record.proofs.Record.sister_power_on.Reads as SisterPowerOnReads
 use Rattle.record_small_ranges.proofs.backlight_in_range as BacklightInRange
 use Rattle.record_small_ranges.proofs.backlight_in_range.Reads as BacklightInRangeReads
 use Rattle.record_small_ranges.proofs.small_in_range as SmallInRange
@@ -282,6 +289,18 @@ times-former-defaults-one = equal TimesFormer.ended _
 -- record::Record::former_defaults
 pub record-former-defaults-one : OneResult Former.ended FormerReads.Learnt
 record-former-defaults-one = equal Former.ended _
+
+-- record::Stored::delivered
+pub stored-delivered-one : OneResult Delivered.ended DeliveredReads.Learnt
+stored-delivered-one = equal Delivered.ended _
+
+-- record::Record::sister_with
+pub record-sister-with-one : OneResult SisterWith.ended SisterWithReads.Learnt
+record-sister-with-one = equal SisterWith.ended _
+
+-- record::Record::sister_power_on
+pub record-sister-power-on-one : OneResult SisterPowerOn.ended SisterPowerOnReads.Learnt
+record-sister-power-on-one = equal SisterPowerOn.ended _
 
 -- record_small_ranges::backlight_in_range
 pub backlight-in-range-one : OneResult BacklightInRange.ended BacklightInRangeReads.Learnt
@@ -541,8 +560,8 @@ pub obey-one : (κs : Lfts (Obey.ended .signature .lifetimes)) (a : ArgsD (Obey.
     → ObeyReads.Learnt κs a q e → ObeyReads.Learnt κs a q′ e′
     → (q ≡ q′) × (now (e .1 .0) ≡ now (e′ .1 .0)) × (now (e .1 .1 .0) ≡ now (e′ .1 .1 .0))
 obey-one κs a q q′ e e′ p p′ =
-    let same = two-equal (p .same) (p′ .same) in
-    let answer = two-equal (p .answer) (p′ .answer) in
+    let same = two-equal (p firstEdition .same) (p′ firstEdition .same) in
+    let answer = two-equal (p firstEdition .answer) (p′ firstEdition .answer) in
     (λ j. record { answer = answer j; settings = same j .settings }, λ j. same j .text, λ j. same j .picture)
 
 -- handset_numbers::phase_of

@@ -14,7 +14,7 @@ use borrow.Author.Tests.{ltb-true}
 use Rattle.lists.specs.Both.{both}
 use Rattle.record.specs.Range.{large, rowsOf, rowEndOf, lineStart, cursorInRange}
 use Rattle.record.specs.Core.{Core}
-use Rattle.record.specs.Fields.{Field, text, largeLine, number, read, put, allFields, at-place}
+use Rattle.record.specs.Fields.{Field, text, largeLine, sister, bit, number, read, put, allFields, at-place}
 use Rattle.command.specs.Order.{Order, plain, label, draw}
 use Rattle.command.specs.InRange.{isOverlay, inRangeInMode}
 use Rattle.command.specs.declared.Command.the-variants.{DisplayOff, DisplayOn, Mode, CursorShown, CursorHidden, Clear, Position, LabelsEmpty, IconS, IconU, IconF, IconR, IconP, IconW, Private, Handsfree, HandsfreeOfNote, Mute, KeyTimes, Buzzer, Light, LightOn, LightAutoStart, LightAuto, DefaultDuration, KeypadSet, KeypadCleared, Contrast, ContrastAsked, HookAsked, VersionAsked, ClearLine, Inverse}
@@ -47,50 +47,50 @@ putBefore o v c f =
       does = cond (touches o f) c (effect o (put f v c));
     }
 
--- THE TABLE, for all fields at once: it makes no difference.
-beside : (o : Order) (v : List ℕ) (c : Core) → map (putBefore o v c) allFields ≡ map (putAfter o v c) allFields
+-- THE TABLE, for all fields at once: it makes no difference; and no order sets the edition.
+beside : (o : Order) (v : List ℕ) (c : Core) → (map (putBefore o v c) allFields ≡ map (putAfter o v c) allFields) × (sets o sister ≡ false)
 unfolding allFields lineCleared
-beside (plain DisplayOff) v c = refl
-beside (plain DisplayOn) v c = refl
-beside (plain (Mode n)) v c = by-test (isOverlay n) (λ e. rw e) (λ e. rw e)
-beside (plain CursorShown) v c = refl
-beside (plain CursorHidden) v c = refl
-beside (plain Clear) v c = refl
-beside (plain (Position r k)) v c = refl
-beside (plain LabelsEmpty) v c = refl
-beside (label Left t) v c = refl
-beside (label Right t) v c = refl
-beside (plain (IconS n)) v c = refl
-beside (plain (IconU n)) v c = refl
-beside (plain (IconF n)) v c = refl
-beside (plain (IconR n)) v c = refl
-beside (plain (IconP n)) v c = refl
-beside (plain (IconW n)) v c = refl
-beside (plain (Private n)) v c = by-test (eqb n 0) (λ e. rw e) (λ e. rw e)
-beside (plain (Handsfree n)) v c = by-test (eqb n 0) (λ e. rw e) (λ e. rw e)
-beside (plain (HandsfreeOfNote n)) v c = by-test (eqb n 0) (λ e. rw e) (λ e. rw e)
-beside (plain (Mute n)) v c = by-test (eqb n 0) (λ e. rw e) (λ e. rw e)
-beside (plain (KeyTimes t u)) v c = refl
-beside (plain (Buzzer n)) v c = refl
-beside (plain (Light n)) v c = by-test (eqb n 0) (λ e. rw e) (λ e. rw e)
-beside (plain LightOn) v c = refl
-beside (plain LightAutoStart) v c = refl
-beside (plain LightAuto) v c = refl
-beside (plain DefaultDuration) v c = refl
-beside (plain KeypadSet) v c = refl
-beside (plain KeypadCleared) v c = refl
-beside (plain (Contrast n)) v c = refl
-beside (plain ContrastAsked) v c = refl
-beside (plain HookAsked) v c = refl
-beside (plain VersionAsked) v c = refl
-beside (plain ClearLine) v c = refl
-beside (plain (Inverse n)) v c = refl
-beside (draw r columns) v c = refl
+beside (plain DisplayOff) v c = (refl, refl)
+beside (plain DisplayOn) v c = (refl, refl)
+beside (plain (Mode n)) v c = (by-test (isOverlay n) (λ e. rw e) (λ e. rw e), by-test (isOverlay n) (λ e. rw e) (λ e. rw e))
+beside (plain CursorShown) v c = (refl, refl)
+beside (plain CursorHidden) v c = (refl, refl)
+beside (plain Clear) v c = (refl, refl)
+beside (plain (Position r k)) v c = (refl, refl)
+beside (plain LabelsEmpty) v c = (refl, refl)
+beside (label Left t) v c = (refl, refl)
+beside (label Right t) v c = (refl, refl)
+beside (plain (IconS n)) v c = (refl, refl)
+beside (plain (IconU n)) v c = (refl, refl)
+beside (plain (IconF n)) v c = (refl, refl)
+beside (plain (IconR n)) v c = (refl, refl)
+beside (plain (IconP n)) v c = (refl, refl)
+beside (plain (IconW n)) v c = (refl, refl)
+beside (plain (Private n)) v c = (by-test (eqb n 0) (λ e. rw e) (λ e. rw e), refl)
+beside (plain (Handsfree n)) v c = (by-test (eqb n 0) (λ e. rw e) (λ e. rw e), refl)
+beside (plain (HandsfreeOfNote n)) v c = (by-test (eqb n 0) (λ e. rw e) (λ e. rw e), refl)
+beside (plain (Mute n)) v c = (by-test (eqb n 0) (λ e. rw e) (λ e. rw e), by-test (eqb n 0) (λ e. rw e) (λ e. rw e))
+beside (plain (KeyTimes t u)) v c = (refl, refl)
+beside (plain (Buzzer n)) v c = (refl, refl)
+beside (plain (Light n)) v c = (by-test (eqb n 0) (λ e. rw e) (λ e. rw e), by-test (eqb n 0) (λ e. rw e) (λ e. rw e))
+beside (plain LightOn) v c = (refl, refl)
+beside (plain LightAutoStart) v c = (refl, refl)
+beside (plain LightAuto) v c = (refl, refl)
+beside (plain DefaultDuration) v c = (refl, refl)
+beside (plain KeypadSet) v c = (refl, refl)
+beside (plain KeypadCleared) v c = (refl, refl)
+beside (plain (Contrast n)) v c = (refl, refl)
+beside (plain ContrastAsked) v c = (refl, refl)
+beside (plain HookAsked) v c = (refl, refl)
+beside (plain VersionAsked) v c = (refl, refl)
+beside (plain ClearLine) v c = (refl, refl)
+beside (plain (Inverse n)) v c = (refl, refl)
+beside (draw r columns) v c = (refl, refl)
 
 beside-at : (o : Order) (v : List ℕ) (c : Core) (f : Field) → putBefore o v c f ≡ putAfter o v c f
 beside-at o v c f =
     let none : Beside = record { stands = []; inside = true; does = c } in
-    sym (at-place (putBefore o v c) none f) ∙ ap (λ (l : List Beside). getD l (number f) none) (beside o v c) ∙ at-place (putAfter o v c) none f
+    sym (at-place (putBefore o v c) none f) ∙ ap (λ (l : List Beside). getD l (number f) none) (beside o v c .0) ∙ at-place (putAfter o v c) none f
 
 -- A field that an order may not set is as it was.
 pub stays : (o : Order) (f : Field) (c : Core) → sets o f ≡ false → read f (carryOut o c) ≡ read f c
@@ -98,6 +98,16 @@ unfolding carryOut
 stays o f c h =
     either-way (λ (d : Core). read f d ≡ read f c) (inRangeInMode (c .settings .screen .mode) o)
     (λ e. rw h at (ap (λ (b : Beside). b .stands) (beside-at o [] c f))) (λ e. refl)
+
+-- So no order changes the edition, and no frame does.
+one-bit : (a b : Bool) → _≡_ {A = List ℕ} (bit a ∷ []) (bit b ∷ []) → a ≡ b
+one-bit true true e = refl
+one-bit true false e = absurd (omega (arith, ap (λ (l : List ℕ). getD l 0 0) e))
+one-bit false true e = absurd (omega (arith, ap (λ (l : List ℕ). getD l 0 0) e))
+one-bit false false e = refl
+
+pub edition-stays : (o : Order) (c : Core) → carryOut o c .edition .sister ≡ c .edition .sister
+edition-stays o c = one-bit (carryOut o c .edition .sister) (c .edition .sister) (stays o sister c (beside o [] c .1))
 
 -- An order goes the same way whatever stands in a field that it does not touch.
 pub apart : (o : Order) (f : Field) (v : List ℕ) (c : Core) → touches o f ≡ false → carryOut o (put f v c) ≡ put f v (carryOut o c)
