@@ -10,7 +10,7 @@ use Rattle.frame_table.specs.Numbers.{numbersAfter}
 use Rattle.frame_table.specs.Reader as reader
 use Rattle.command.specs.Table.{classes, nextStates}
 use Rattle.command.specs.Pick.{withNumber, displayOf, lightOf, contrastOf, afterI, cursorSign, afterBracket, commandOf}
-use Rattle.command.specs.Reading.{isText, labelRead, readBy, readOf, opensPicture, rowAndData, drawnRow, pictureOf, orderOf}
+use Rattle.command.specs.Reading.{isText, labelRead, readWith, readOf, opensPicture, rowAndData, drawnRow, pictureOf, orderOf}
 use Rattle.parting.specs.Cut.{cut}
 use Rattle.choice.specs.declared.Choice.{Choice}
 use Rattle.choice.specs.declared.Rule.the-variants.{None, NoScreen, LabelMissing, QuestionMark, FrameOpen}
@@ -80,5 +80,5 @@ table =
     ∷ []
 
 pub cases : map (λ (c : Choice × Choice). c .0) table ≡ map (λ (c : Choice × Choice). c .1) table
-unfolding digitOf padded hexOf timesOf items columnsOf numbersAfter reader.readBy classes nextStates withNumber displayOf lightOf contrastOf afterI cursorSign afterBracket commandOf isText labelRead readBy readOf opensPicture rowAndData drawnRow pictureOf orderOf cut judgedFrom choiceOf
+unfolding digitOf padded hexOf timesOf items columnsOf numbersAfter reader.readWith classes nextStates withNumber displayOf lightOf contrastOf afterI cursorSign afterBracket commandOf isText labelRead readWith readOf opensPicture rowAndData drawnRow pictureOf orderOf cut judgedFrom choiceOf
 cases = refl

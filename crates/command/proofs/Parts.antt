@@ -12,7 +12,7 @@ use lib.Seq.{take-all, length-take-le}
 use Rattle.command.specs.Pick.{byteAt}
 use Rattle.frame_table.specs.Reader as reader
 use Rattle.command.specs.First.{opensLabel, first}
-use Rattle.command.specs.Reading.{isText, onlyIf, sideOf, labelRead, readBy}
+use Rattle.command.specs.Reading.{isText, onlyIf, sideOf, labelRead, readWith}
 
 -- the part from n on is what `drop` leaves
 pub part-rest : (n : ℕ) (s : List ℕ) → take (length s - n) (drop n s) ≡ drop n s
@@ -39,12 +39,12 @@ label-long (a ∷ b ∷ c ∷ f) e = omega arith
 
 -- the reading by whether the frame is a label's
 module _ (class next f : List ℕ) where
-  pub label-read : opensLabel f ≡ true → onlyIf (isText (take (length f - 3) (drop 3 f))) (sideOf (byteAt f 2)) ≡ readBy class next f
-  unfolding readBy labelRead
+  pub label-read : opensLabel f ≡ true → onlyIf (isText (take (length f - 3) (drop 3 f))) (sideOf (byteAt f 2)) ≡ readWith class next f
+  unfolding readWith labelRead
   label-read e = rw (part-rest 3 f, e)
 
-  pub table-read : opensLabel f ≡ false → reader.readBy first class next f ≡ readBy class next f
-  unfolding readBy
+  pub table-read : opensLabel f ≡ false → reader.readWith first class next f ≡ readWith class next f
+  unfolding readWith
   table-read e = rw e
 
 pub part-start : (n : ℕ) (s : List ℕ) → n ≤ length s → n ≡ length (take n s)

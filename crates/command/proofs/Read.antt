@@ -19,10 +19,10 @@ picked f r = commandOf (byteAt f 0) (byteAt f 1) (byteAt f 2) (r .numbers .befor
 
 module _ (class next f : List ℕ) (r : Found) (e : r ≡ foundIn class next 24 f) where
   abbrev here : Reading
-  here = reader.readBy first class next f
+  here = reader.readWith first class next f
 
   read-is : here ≡ cond (leb 20 (foundIn class next 24 f .state)) (picked f (foundIn class next 24 f)) Bad
-  unfolding reader.readBy foundIn
+  unfolding reader.readWith foundIn
   read-is = rw (heads-three f)
 
   read-found : here ≡ cond (leb 20 (r .state)) (picked f r) Bad

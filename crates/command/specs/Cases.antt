@@ -16,7 +16,7 @@ use Rattle.frame_table.specs.Numbers.{numbersAfter}
 use Rattle.frame_table.specs.Reader as reader
 use Rattle.command.specs.Table.{classes, nextStates}
 use Rattle.command.specs.Pick.{withNumber, displayOf, lightOf, contrastOf, afterI, cursorSign, afterBracket, commandOf}
-use Rattle.command.specs.Reading.{isText, labelRead, readBy, readOf, opensPicture, rowAndData, drawnRow, pictureOf, orderOf}
+use Rattle.command.specs.Reading.{isText, labelRead, readWith, readOf, opensPicture, rowAndData, drawnRow, pictureOf, orderOf}
 use Rattle.command.specs.declared.Command.the-variants.{DisplayOff, DisplayOn, Mode, CursorShown, CursorHidden, Clear, Position, LabelsEmpty, IconS, IconU, IconF, IconR, IconP, IconW, Private, Handsfree, HandsfreeOfNote, Mute, KeyTimes, Buzzer, Light, LightOn, LightAutoStart, LightAuto, DefaultDuration, KeypadSet, KeypadCleared, Contrast, ContrastAsked, HookAsked, VersionAsked, ClearLine, Inverse}
 use Rattle.command.specs.declared.Side.the-variants.{Left, Right}
 
@@ -307,5 +307,5 @@ table =
     ∷ []
 
 pub cases : map (λ (c : Found × Found). c .0) table ≡ map (λ (c : Found × Found). c .1) table
-unfolding digitOf padded hexOf timesOf items columnsOf numbersAfter reader.readBy classes nextStates withNumber displayOf lightOf contrastOf afterI cursorSign afterBracket commandOf isText labelRead readBy readOf opensPicture rowAndData drawnRow pictureOf orderOf
+unfolding digitOf padded hexOf timesOf items columnsOf numbersAfter reader.readWith classes nextStates withNumber displayOf lightOf contrastOf afterI cursorSign afterBracket commandOf isText labelRead readWith readOf opensPicture rowAndData drawnRow pictureOf orderOf
 cases = refl

@@ -26,7 +26,7 @@ use Rattle.frame_table.specs.Reader.{no-other}
 use Rattle.frame_table.specs.Reader as commands
 use Rattle.lists.specs.Tests.{by-test}
 use Rattle.command.specs.First.{opensLabel, first, tested}
-use Rattle.command.specs.Reading.{butLast, isText, labelRead, readBy, readOf, opensPicture, rowWith, rowAndData, drawnRow, pictureOf, orderDrawn, orderOf}
+use Rattle.command.specs.Reading.{butLast, isText, labelRead, readWith, readOf, opensPicture, rowWith, rowAndData, drawnRow, pictureOf, orderDrawn, orderOf}
 use Rattle.command.specs.declared.Command.{Command}
 use Rattle.command.specs.declared.Side.{Side}
 use Rattle.command.specs.declared.Side.the-variants.{Left, Right}
@@ -86,13 +86,13 @@ plain-opens c f s =
     (sym (label-heads f) ∙ w .0, no-picture f (w .1))
 
 plain-order : (c : Command) (f : List ℕ) → Spells (plain c) f → orderOf f ≡ some (plain c)
-unfolding orderOf readOf readBy
+unfolding orderOf readOf readWith
 plain-order c f s =
     let w = plain-opens c f s in
     rw (w .1, w .0, commands.complete first tested c f s)
 
 pub complete : (o : Order) (f : List ℕ) → Spells o f → orderOf f ≡ some o
-unfolding orderOf opensPicture readOf readBy labelRead pictureOf
+unfolding orderOf opensPicture readOf readWith labelRead pictureOf
 complete (plain c) f s = plain-order c f s
 complete (label Left t) f (signs s (codes h k end)) = label-order f refl (rw (append-nil t, text-read t h k)) (append-nil t)
 complete (label Right t) f (signs s (codes h k end)) = label-order f refl (rw (append-nil t, text-read t h k)) (append-nil t)

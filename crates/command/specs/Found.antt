@@ -17,7 +17,7 @@ use Rattle.picture.specs.Reading.{items, few, columnsOf, columnsIn}
 use Rattle.command.specs.Order.{label}
 use Rattle.command.specs.Grammar.{Spells}
 use Rattle.command.specs.Facts.{LabelText, read-label, label-length}
-use Rattle.command.specs.Reading.{endsWith, butLast, readBy, readOf, opensPicture, rowWith, noPicture, rowAndData, drawnRow, pictureOf, orderRead, orderDrawn, orderFound, orderBy, orderOf}
+use Rattle.command.specs.Reading.{endsWith, butLast, readWith, readOf, opensPicture, rowWith, noPicture, rowAndData, drawnRow, pictureOf, orderRead, orderDrawn, orderFound, orderBy, orderOf}
 use Rattle.frame_table.specs.Reader.{by-reading}
 use Rattle.frame_table.specs.Reader as reader
 use Rattle.frame_table.specs.Opens.{heads}
@@ -64,7 +64,7 @@ picture-no-label (a ∷ b ∷ c ∷ rest) e = rw (eqb-true a (code "G") (both {a
 
 -- A frame that opens as a picture is bad to read_command.
 pub picture-no-command : (f : List ℕ) → opensPicture f ≡ true → readOf f ≡ Bad
-unfolding readOf readBy
+unfolding readOf readWith
 picture-no-command f e =
     rw (picture-no-label f e)
     (by-reading first tested (λ (x : Reading). x ≡ Bad) f refl (λ c s. absurd (true≢false (sym e ∙ plain-opens c f s .1))))
@@ -106,8 +106,8 @@ picks-none (a ∷ []) r = refl
 picks-none (a ∷ b ∷ []) r = refl
 picks-none (a ∷ b ∷ c ∷ more) r = simp (label-in, never)
 
-pub label-by : (class next f : List ℕ) {side : Side} → readBy class next f ≡ Label side → readOf f ≡ Label side
-unfolding readOf readBy reader.readBy
+pub label-by : (class next f : List ℕ) {side : Side} → readWith class next f ≡ Label side → readOf f ≡ Label side
+unfolding readOf readWith reader.readWith
 label-by class next f {side} e =
     by-test (opensLabel f) (λ l. rw l (rw l at e))
     (λ l. absurd (true≢false (sym (ap isLabel (rw l at e)) ∙ picks (leb (first .table .good) (stateFrom class next (first .table .states) 1 f)))))

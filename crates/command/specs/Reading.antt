@@ -46,11 +46,11 @@ unfoldable pub labelRead : ℕ → List ℕ → Reading
 labelRead sign t = onlyIf (isText t) (sideOf sign)
 
 -- a frame that is no picture, by a table of classes and one of next states; and by the first edition's
-unfoldable pub readBy : List ℕ → List ℕ → List ℕ → Reading
-readBy class next f = cond (opensLabel f) (labelRead (getD f 2 0) (drop 3 f)) (reader.readBy first class next f)
+unfoldable pub readWith : List ℕ → List ℕ → List ℕ → Reading
+readWith class next f = cond (opensLabel f) (labelRead (getD f 2 0) (drop 3 f)) (reader.readWith first class next f)
 
 unfoldable pub readOf : List ℕ → Reading
-readOf f = readBy classes nextStates f
+readOf f = readWith classes nextStates f
 
 -- Picture frames --------------------------------------------------------------------------------------------------
 
@@ -98,7 +98,7 @@ abbrev pub orderFound : Reading → List ℕ → Option Order
 orderFound reading f = cond (opensPicture f) (orderDrawn (pictureOf f)) (orderRead reading (drop 3 f))
 
 abbrev pub orderBy : List ℕ → List ℕ → List ℕ → Option Order
-orderBy class next f = orderFound (readBy class next f) f
+orderBy class next f = orderFound (readWith class next f) f
 
 unfoldable pub orderOf : List ℕ → Option Order
 orderOf f = orderFound (readOf f) f

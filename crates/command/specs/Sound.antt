@@ -22,7 +22,7 @@ use Rattle.command.specs.Grammar.{text, Matches, end, signs, one-digit, 
 use Rattle.frame_table.specs.Spelling.{either}
 use Rattle.frame_table.specs.Reader.{by-reading}
 use Rattle.command.specs.First.{opensLabel, first, tested}
-use Rattle.command.specs.Reading.{endsWith, butLast, isText, labelRead, readBy, readOf, opensPicture, rowWith, rowAndData, drawnRow, pictureOf, orderRead, orderDrawn, orderOf}
+use Rattle.command.specs.Reading.{endsWith, butLast, isText, labelRead, readWith, readOf, opensPicture, rowWith, rowAndData, drawnRow, pictureOf, orderRead, orderDrawn, orderOf}
 use Rattle.command.specs.declared.Reading.{Reading}
 use Rattle.command.specs.declared.PictureFrame.{PictureFrame}
 
@@ -73,7 +73,7 @@ label-told (a ∷ b ∷ c ∷ t) e =
     rw (eqb-true a (code "I") (v .0), eqb-true b (code "K") (v .1)) (label-frame c t (w .1))
 
 told : (f : List ℕ) → Told f (readOf f)
-unfolding readOf readBy
+unfolding readOf readWith
 told f =
     cond-if (Told f) (opensLabel f) (λ e. label-told f e)
     (λ e. by-reading first tested (λ (x : Reading). Told f x) f tt (λ c s. s))

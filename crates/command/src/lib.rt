@@ -5,7 +5,7 @@ ghost use mathlib.Core.Path.{_≡_};
 ghost use Rattle.command.specs.Pick.{byteAt, withNumber, displayOf, lightOf, contrastOf, afterI, cursorSign, afterBracket, commandOf};
 ghost use Rattle.frame_table.specs.Reader as reader;
 ghost use Rattle.command.specs.First.{opensLabel, first};
-ghost use Rattle.command.specs.Reading.{isText, onlyIf, sideOf, readBy, readOf};
+ghost use Rattle.command.specs.Reading.{isText, onlyIf, sideOf, readWith, readOf};
 use frame_table::Classes;
 use frame_table::NextStates;
 use lists::BLANK;
@@ -251,7 +251,7 @@ fn only_if(good: bool, reading: Reading) -> Reading
 
 // The command that a frame spells by a table of classes and one of next states.
 fn read_table(class: &Classes, next: &NextStates, f: &[u8]) -> Reading
-    ensures same { λ r. ⌜ r ≡ reader.readBy first (now (class .entry)) (now (next .entry)) (now (f .entry)) ⌝ }
+    ensures same { λ r. ⌜ r ≡ reader.readWith first (now (class .entry)) (now (next .entry)) (now (f .entry)) ⌝ }
 {
     let found = frame_table::run(class, next, STATES, f);
     if found.state < FIRST_GOOD {
@@ -286,7 +286,7 @@ fn opens_label(f: &[u8]) -> bool
 // What read_command finds, where the two tables that are lent are CLASSES and NEXT_STATES: a constant is copied by whoever names it, so
 // whoever reads many frames lends them, and copies them once.
 pub fn read_lent(class: &Classes, next: &NextStates, f: &[u8]) -> Reading
-    ensures same { λ r. ⌜ r ≡ readBy (now (class .entry)) (now (next .entry)) (now (f .entry)) ⌝ }
+    ensures same { λ r. ⌜ r ≡ readWith (now (class .entry)) (now (next .entry)) (now (f .entry)) ⌝ }
 {
     if opens_label(f) {
         return only_if(is_text(&f[3..]), side_label(byte_at(f, 2)));

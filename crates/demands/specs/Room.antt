@@ -30,7 +30,7 @@ use Rattle.command.specs.Order.{Order, plain}
 use Rattle.command.specs.Grammar.{Spells}
 use Rattle.frame_table.specs.Reader as reader
 use Rattle.command.specs.Table.{classes, nextStates}
-use Rattle.command.specs.Reading.{readBy, readOf, opensPicture, orderOf}
+use Rattle.command.specs.Reading.{readWith, readOf, opensPicture, orderOf}
 use Rattle.command.specs.Agree.{agree, bad-frame}
 use Rattle.command.specs.declared.Command.the-variants.{ContrastAsked, HookAsked, VersionAsked}
 use Rattle.record.specs.Core.{Core, coreOf}
@@ -208,7 +208,7 @@ empty-parted zero = goes-on {part = closed []} empty tt ends
 empty-parted (suc n) = goes-on {part = abandoned []} empty opens (empty-parted n)
 
 empty-bad : (o : Order) → Spells o [] → ⊥
-unfolding orderOf opensPicture readOf readBy reader.readBy classes nextStates
+unfolding orderOf opensPicture readOf readWith reader.readWith classes nextStates
 empty-bad = bad-frame [] .0 refl
 
 -- A bad frame that CR closes, or ESC abandons, is asked, and what follows is done from the same core.

@@ -21,7 +21,7 @@ use Rattle.picture.specs.Writing.{dataWritten}
 use Rattle.line.specs.Lines.{emptyLine, added, findsRoom, roomWith}
 use Rattle.command.specs.InRange.{rowsNamed, firstOut, numbersOf, commandInRange, mostRows}
 use Rattle.frame_table.specs.Run.{foundIn}
-use Rattle.command.specs.Reading.{readBy, readOf, orderBy, opensPicture, pictureOf}
+use Rattle.command.specs.Reading.{readWith, readOf, orderBy, opensPicture, pictureOf}
 use Rattle.verdict.specs.Verdict.{verdictOf}
 use Rattle.effect_modes.specs.Modes.{toMode, atLevel}
 use Rattle.effect.specs.Obey.{Obeys, core}
@@ -365,7 +365,7 @@ pub backlight-in-range-says : Says BacklightInRange.ended BacklightInRangeReads.
 backlight-in-range-says κs a q e w = (refl, refl)
 
 -- record_small_ranges::small_in_range
-pub small-in-range-says : Says SmallInRange.ended SmallInRangeReads.requires SmallInRangeReads.ensures (λ κs a q e. q ≡ smallInRange (a .0) (a .1 .0) (a .1 .1 .0))
+pub small-in-range-says : Says SmallInRange.ended SmallInRangeReads.requires SmallInRangeReads.ensures (λ κs a q e. q ≡ smallInRange (a .0) (a .1 .0))
 small-in-range-says κs a q e w = (refl, refl)
 
 -- record_ranges::in_range
@@ -432,7 +432,7 @@ pub run-table-says : Says RunTable.ended RunTableReads.requires RunTableReads.en
 run-table-says κs a q e w = (refl, refl)
 
 -- command::read_lent
-pub read-lent-says : Says ReadLent.ended ReadLentReads.requires ReadLentReads.ensures (λ κs a q e. q ≡ readBy (now (a .0)) (now (a .1 .0)) (now (a .1 .1 .0)))
+pub read-lent-says : Says ReadLent.ended ReadLentReads.requires ReadLentReads.ensures (λ κs a q e. q ≡ readWith (now (a .0)) (now (a .1 .0)) (now (a .1 .1 .0)))
 read-lent-says κs a q e w = (refl, refl)
 
 -- command::read_command

@@ -13,7 +13,7 @@ use Rattle.frame_table.specs.Numbers.{numbersAfter}
 use Rattle.frame_table.specs.Reader as reader
 use Rattle.command.specs.Table.{classes, nextStates}
 use Rattle.command.specs.Pick.{withNumber, displayOf, lightOf, contrastOf, afterI, cursorSign, afterBracket, commandOf}
-use Rattle.command.specs.Reading.{isText, labelRead, readBy, readOf, opensPicture, rowAndData, drawnRow, pictureOf, orderOf}
+use Rattle.command.specs.Reading.{isText, labelRead, readWith, readOf, opensPicture, rowAndData, drawnRow, pictureOf, orderOf}
 use Rattle.record.specs.Core.{Core, coreOf}
 use Rattle.effect.specs.Effect.{blanks, drawn, carryOut, storeText}
 use Rattle.effect.specs.Obey.{obeyOrder}
@@ -111,5 +111,5 @@ table =
     ∷ []
 
 pub cases : map (λ (c : List ℕ × List ℕ). c .0) table ≡ map (λ (c : List ℕ × List ℕ). c .1) table
-unfolding digitOf padded hexOf timesOf items columnsOf numbersAfter reader.readBy classes nextStates withNumber displayOf lightOf contrastOf afterI cursorSign afterBracket commandOf isText labelRead readBy readOf opensPicture rowAndData drawnRow pictureOf orderOf blanks drawn carryOut storeText
+unfolding digitOf padded hexOf timesOf items columnsOf numbersAfter reader.readWith classes nextStates withNumber displayOf lightOf contrastOf afterI cursorSign afterBracket commandOf isText labelRead readWith readOf opensPicture rowAndData drawnRow pictureOf orderOf blanks drawn carryOut storeText
 cases = refl

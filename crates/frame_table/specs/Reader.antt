@@ -63,12 +63,12 @@ module _ (e : Reader) where
   Spells c f = Matches (e .form c) f
 
   -- WHAT THE READER FINDS, by a table of classes and one of next states; and by its own
-  unfoldable pub readBy : List ℕ → List ℕ → List ℕ → e .Reading
-  readBy class next f =
+  unfoldable pub readWith : List ℕ → List ℕ → List ℕ → e .Reading
+  readWith class next f =
       cond (leb (e .table .good) (stateFrom class next (e .table .states) 1 f)) (e .pick (heads (e .depth) f) (numbersFrom (pair 0 0) f)) (e .bad)
 
   abbrev pub reading : List ℕ → e .Reading
-  reading f = readBy (e .table .class) (e .table .next) f
+  reading f = readWith (e .table .class) (e .table .next) f
 
   -- The tests of a kind with two numbers. Its form is signs and numbers, it is in the table, each of its numbers begins anew; whatever first
   -- bytes it may have pick it, and are no label's and no picture's; whatever the numbers, its marks are the same, and it has these
@@ -188,7 +188,7 @@ module _ (e : Reader) (t : Tested e) where
   fit c s = matched-fits (passes c .plain) s
 
   pub complete : (c : e .Command) (f : List ℕ) → Spells e c f → reading e f ≡ e .plain c
-  unfolding readBy accepts
+  unfolding readWith accepts
   complete c f s =
       let w = passes c in
       let P : List ℕ → Type 0 = λ x. e .pick x (numbersTold (pair 0 0) (e .form c)) ≡ e .plain c in
@@ -227,7 +227,7 @@ module _ (e : Reader) (t : Tested e) where
       (λ g. spelt-in ks f (λ m n. others-of (same m n)) g)
 
   refused : (f : List ℕ) → accepts (e .table) f ≡ false → reading e f ≡ e .bad
-  unfolding readBy accepts
+  unfolding readWith accepts
   refused f g = rw g
 
   -- What is read is bad, or a command that is spelt.

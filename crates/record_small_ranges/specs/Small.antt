@@ -1,28 +1,26 @@
 -- The record's ranges but those of its arrays, and how the range of the whole record is made of them. Assumes nothing.
 use mathlib.Core.Path.{_≡_, refl, sym, ap}
-use mathlib.Core.Bool.{Bool, true, false, not, _&&_, and-true}
+use mathlib.Core.Bool.{Bool, true, false, _&&_, and-true}
 use Rattle.record.specs.declared.Record.{Record}
 use Rattle.record.specs.declared.Settings.{Settings}
 use Rattle.record.specs.declared.Held.{Held}
-use Rattle.record.specs.declared.Edition.{Edition}
-use Rattle.record.specs.Range.{textInRange, labelInRange, pictureInRange, plainInRange, heldInRange, frameInRange, editionUnused, inRange}
+use Rattle.record.specs.Range.{textInRange, labelInRange, pictureInRange, plainInRange, heldInRange, settingsInRange, frameInRange}
 
-abbrev pub smallInRange : Settings → Held → Edition → Bool
-smallInRange p held e = plainInRange p && heldInRange held && (editionUnused e && not (e .sister))
+abbrev pub smallInRange : Settings → Held → Bool
+smallInRange p held = plainInRange p && heldInRange held
 
--- The record has the labels, the text, the picture and the frame between them; it does not matter where they stand.
+-- The record has the labels, the text and the picture before the held key; it does not matter where they stand.
 and-none : (a : Bool) → (a && false) ≡ false
 and-none true = refl
 and-none false = refl
 
-later : (a h u n l m t g f : Bool) → (a && h && (u && n) && l && m && t && g && f) ≡ (a && l && m && t && g && h && f && u && n)
-later false h u n l m t g f = refl
-later true false u n l m t g f = rw (and-none (l && m && t && g))
-later true true false n l m t g f = rw (and-true (l && m && t && g), and-none (l && m && t && g && f))
-later true true true false l m t g f = rw (and-true (l && m && t && g), and-true (l && m && t && g && f), and-none (l && m && t && g && f))
-later true true true true l m t g f = rw (and-true (l && m && t && g), and-true (l && m && t && g && f), and-true (l && m && t && g && f))
+later : (a h l m t g : Bool) → (a && h && l && m && t && g) ≡ (a && l && m && t && g && h)
+later false h l m t g = refl
+later true true l m t g = sym (and-true (l && m && t && g))
+later true false l m t g = sym (and-none (l && m && t && g))
 
-pub small-and-arrays : (r : Record) → (smallInRange (r .settings) (r .held) (r .edition) && labelInRange (r .settings .left) && labelInRange (r .settings .right) && textInRange (r .text) && pictureInRange (r .picture) && frameInRange (r .frame)) ≡ inRange r
-unfolding inRange
+pub small-and-arrays : (r : Record) → (smallInRange (r .settings) (r .held) && labelInRange (r .settings .left) && labelInRange (r .settings .right) && textInRange (r .text) && pictureInRange (r .picture) && frameInRange (r .frame))
+    ≡ (settingsInRange (r .settings) && textInRange (r .text) && pictureInRange (r .picture) && heldInRange (r .held) && frameInRange (r .frame))
 small-and-arrays r =
-    later (plainInRange (r .settings)) (heldInRange (r .held)) (editionUnused (r .edition)) (not (r .edition .sister)) (labelInRange (r .settings .left)) (labelInRange (r .settings .right)) (textInRange (r .text)) (pictureInRange (r .picture)) (frameInRange (r .frame))
+    ap (λ (z : Bool). z && frameInRange (r .frame))
+    (later (plainInRange (r .settings)) (heldInRange (r .held)) (labelInRange (r .settings .left)) (labelInRange (r .settings .right)) (textInRange (r .text)) (pictureInRange (r .picture)))

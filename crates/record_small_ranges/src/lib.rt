@@ -1,16 +1,13 @@
 // Whether the small fields of a record, all but its arrays, are within their ranges: the definitions of document 01's table are the
 // record's.
 ghost use mathlib.Core.Path.{_≡_};
-ghost use mathlib.Core.Bool.{not, _&&_};
-ghost use Rattle.record.specs.Range.{modeInRange, overlayInRange, cursorInRange, iconsInRange, volumeInRange, timesInRange, buzzerInRange, backlightInRange, contrastInRange, inverseInRange, heldInRange, keysUnused, editionUnused};
+ghost use Rattle.record.specs.Range.{modeInRange, overlayInRange, cursorInRange, iconsInRange, volumeInRange, timesInRange, buzzerInRange, backlightInRange, contrastInRange, inverseInRange, heldInRange};
 ghost use Rattle.record_small_ranges.specs.Small.{smallInRange};
 use record::AUTO;
 use record::Backlight;
-use record::Edition;
 use record::HANDSFREE;
 use record::Held;
 use record::Icons;
-use record::Keys;
 use record::LARGE;
 use record::Screen;
 use record::Settings;
@@ -95,22 +92,9 @@ fn held_in_range(h: Held) -> bool
     (h.down & (h.key <= 18)) | (!h.down & (h.key == 0) & (h.tick.0 == 0) & !h.long)
 }
 
-fn keys_unused(k: Keys) -> bool
-    ensures { λ r. ⌜ r ≡ keysUnused k ⌝ }
-{
-    (k.stage == 0) & (k.key == 0) & (k.tick.0 == 0) & (k.down == 0)
-}
-
-// The first edition: nothing of the sister's is used.
-fn is_first(e: Edition) -> bool
-    ensures { λ r. ⌜ r ≡ (editionUnused e && not (e .sister)) ⌝ }
-{
-    (e.brightness == 0) & (e.speaker == 0) & !e.pwm & !e.ptt & keys_unused(e.keys) & !e.sister
-}
-
 // All of them at once, in the order of document 01's table.
-pub fn small_in_range(p: Settings, held: Held, edition: Edition) -> bool
-    ensures same { λ r. ⌜ r ≡ smallInRange p held edition ⌝ }
+pub fn small_in_range(p: Settings, held: Held) -> bool
+    ensures same { λ r. ⌜ r ≡ smallInRange p held ⌝ }
 {
     let marks = p.inverse;
     mode_in_range(p.screen.mode)
@@ -124,5 +108,4 @@ pub fn small_in_range(p: Settings, held: Held, edition: Edition) -> bool
         & contrast_in_range(p.contrast)
         & inverse_in_range(marks)
         & held_in_range(held)
-        & is_first(edition)
 }

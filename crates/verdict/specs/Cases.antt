@@ -9,7 +9,7 @@ use Rattle.frame_table.specs.Numbers.{numbersAfter}
 use Rattle.frame_table.specs.Reader as reader
 use Rattle.command.specs.Table.{classes, nextStates}
 use Rattle.command.specs.Pick.{withNumber, displayOf, lightOf, contrastOf, afterI, cursorSign, afterBracket, commandOf}
-use Rattle.command.specs.Reading.{isText, labelRead, readBy, readOf, opensPicture, rowAndData, drawnRow, pictureOf, orderOf}
+use Rattle.command.specs.Reading.{isText, labelRead, readWith, readOf, opensPicture, rowAndData, drawnRow, pictureOf, orderOf}
 use Rattle.verdict.specs.declared.Verdict.{Verdict}
 use Rattle.verdict.specs.declared.Verdict.the-variants.{Bad, PassedOver, Obeyed}
 use Rattle.verdict.specs.Verdict.{verdictOf}
@@ -58,5 +58,5 @@ table =
     ∷ []
 
 pub cases : map (λ (c : Verdict × Verdict). c .0) table ≡ map (λ (c : Verdict × Verdict). c .1) table
-unfolding digitOf padded hexOf timesOf items columnsOf numbersAfter reader.readBy classes nextStates withNumber displayOf lightOf contrastOf afterI cursorSign afterBracket commandOf isText labelRead readBy readOf opensPicture rowAndData drawnRow pictureOf orderOf verdictOf
+unfolding digitOf padded hexOf timesOf items columnsOf numbersAfter reader.readWith classes nextStates withNumber displayOf lightOf contrastOf afterI cursorSign afterBracket commandOf isText labelRead readWith readOf opensPicture rowAndData drawnRow pictureOf orderOf verdictOf
 cases = refl

@@ -16,17 +16,15 @@ small-in-range-spec = tie.close (tie.spec
     (λ c κs. tt)
     (λ c κs. tt)
     (λ c κs. tt)
-    (λ c κs. tt)
     (λ c. λ i.
-    c .before .before .before .before .before .before .before .before .before .before .before .mode-in-range .ensures i
-    && c .before .before .before .before .before .before .before .before .before .before .overlay-in-range .ensures i
-    && c .before .before .before .before .before .before .before .before .before .cursor-in-range .ensures i
-    && c .before .before .before .before .before .before .before .before .icons-in-range .ensures i
-    && c .before .before .before .before .before .before .before .volume-in-range .ensures i
-    && c .before .before .before .before .before .before .times-in-range .ensures i
-    && c .before .before .before .before .before .buzzer-in-range .ensures i
-    && c .before .before .before .before .backlight-in-range .ensures i
-    && c .before .before .before .contrast-in-range .ensures i
-    && c .before .before .inverse-in-range .ensures i
-    && c .before .held-in-range .ensures i
-    && c .is-first .ensures i))
+    c .before .before .before .before .before .before .before .before .before .before .mode-in-range .ensures i
+    && c .before .before .before .before .before .before .before .before .before .overlay-in-range .ensures i
+    && c .before .before .before .before .before .before .before .before .cursor-in-range .ensures i
+    && c .before .before .before .before .before .before .before .icons-in-range .ensures i
+    && c .before .before .before .before .before .before .volume-in-range .ensures i
+    && c .before .before .before .before .before .times-in-range .ensures i
+    && c .before .before .before .before .buzzer-in-range .ensures i
+    && c .before .before .before .backlight-in-range .ensures i
+    && c .before .before .contrast-in-range .ensures i
+    && c .before .inverse-in-range .ensures i
+    && c .held-in-range .ensures i))
