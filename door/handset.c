@@ -110,10 +110,12 @@ static bool light_has_flags(const struct handset_backlight *light)
 static bool has_flags(const struct handset *h)
 {
     const struct handset_settings *s = &h->small.settings;
+    const struct handset_edition *e = &h->small.edition;
     for (size_t row = 0; row < HANDSET_TEXT_ROWS; row++)
         if (!is_flag(&s->inverse[row])) return false;
     return is_flag(&s->screen.display) && is_flag(&s->shown) && is_flag(&s->volume.mute) && is_flag(&s->volume.hidden) &&
-           light_has_flags(&s->backlight) && is_flag(&s->hook) && is_flag(&h->small.held.down) && is_flag(&h->small.held.long_stage);
+           light_has_flags(&s->backlight) && is_flag(&s->hook) && is_flag(&h->small.held.down) && is_flag(&h->small.held.long_stage) &&
+           is_flag(&e->sister) && is_flag(&e->pwm) && is_flag(&e->ptt);
 }
 
 /* ---- The calls ---- */

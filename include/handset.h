@@ -21,7 +21,7 @@
 #include <stdint.h>
 
 /* The number of this interface. It rises when a struct, a call or the meaning of a number changes. */
-#define HANDSET_INTERFACE 2
+#define HANDSET_INTERFACE 3
 
 /* How a call ended wants to be looked at: a compiler that can says where a program does not. */
 #if defined(__cplusplus) && __cplusplus >= 201703L
@@ -96,6 +96,14 @@ enum handset_state {
     HANDSET_FRAME_NONE = 0,
     HANDSET_FRAME_OPEN = 1,
     HANDSET_FRAME_OVERLONG = 2 /* more than 250 bytes; none of them is kept */
+};
+
+/* The stage of the sister's keys: struct handset_keys. */
+enum handset_stage {
+    HANDSET_STAGE_NONE = 0,
+    HANDSET_STAGE_SHORT = 1,
+    HANDSET_STAGE_LONG = 2,
+    HANDSET_STAGE_FALSE = 3 /* a second key was pressed while one was down */
 };
 
 /* Keys [6]. In a key log a key by itself is its press; with HANDSET_RELEASE added it is its release. */
@@ -330,12 +338,34 @@ struct handset_held {
     bool long_stage;          /* whether its stage is long; else it is short */
 };
 
+/* The sister's keys that are down. What a stage does not use is 0, and in the first edition all of it. */
+struct handset_keys {
+    uint8_t stage;            /* enum handset_stage: 0 none, 1 short, 2 long, 3 false */
+    uint8_t key;              /* of short and long: 0 to 20 */
+    struct handset_tick tick; /* of short and long: 0 to 65,535 */
+    uint32_t down;            /* of false: a bit for each of keys 0 to 20 that is down, the lowest for key 0; one or more of them */
+};
+
+/*
+ * Which handset it is, and what only the sister, that of AN1900, has. In the first edition all of it is 0, and no call changes that. The
+ * sister's frames are not read yet: until they are, every call refuses a record of hers, whatever else it holds. The ranges are hers.
+ */
+struct handset_edition {
+    bool sister;              /* whether it is the sister */
+    uint8_t brightness;       /* 0 to 100 */
+    uint8_t speaker;          /* the speaker's volume: 0 to 7 */
+    bool pwm;                 /* whether the light goes by PWM: only with on and auto */
+    bool ptt;                 /* whether PTT is pressed */
+    struct handset_keys keys; /* her held keys */
+};
+
 /* All of the record but its three arrays. */
 struct handset_small {
-    struct handset_settings settings; /* everything but text, picture, held key and frame */
+    struct handset_settings settings; /* everything but text, picture, held key, frame and edition */
     struct handset_held held;         /* the key that is held down, or none */
     uint8_t state;                    /* of the frame: enum handset_state, 0 none, 1 open, 2 overlong */
     uint8_t len;                      /* of the frame: 0 to 250, and 0 unless it is open */
+    struct handset_edition edition;   /* 0 in the first edition */
 };
 
 /*

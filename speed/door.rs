@@ -2,10 +2,10 @@
 //! so the same declarations serve on every processor.
 
 use crate::reader::{Fed, Reader};
-use std::mem::{size_of, MaybeUninit};
+use std::mem::{offset_of, size_of, MaybeUninit};
 
 /// The header's HANDSET_INTERFACE.
-pub const INTERFACE: u32 = 2;
+pub const INTERFACE: u32 = 3;
 
 #[repr(C)]
 #[derive(Clone, Copy, Debug, PartialEq)]
@@ -89,11 +89,32 @@ pub struct Held {
 
 #[repr(C)]
 #[derive(Clone, Copy, Debug, PartialEq)]
+pub struct Keys {
+    pub stage: u8,
+    pub key: u8,
+    pub tick: u16,
+    pub down: u32,
+}
+
+#[repr(C)]
+#[derive(Clone, Copy, Debug, PartialEq)]
+pub struct Edition {
+    pub sister: bool,
+    pub brightness: u8,
+    pub speaker: u8,
+    pub pwm: bool,
+    pub ptt: bool,
+    pub keys: Keys,
+}
+
+#[repr(C)]
+#[derive(Clone, Copy, Debug, PartialEq)]
 pub struct Small {
     pub settings: Settings,
     pub held: Held,
     pub state: u8,
     pub len: u8,
+    pub edition: Edition,
 }
 
 #[repr(C)]
@@ -267,7 +288,7 @@ pub fn is_of_this_interface() -> bool {
 }
 
 /// Whether a record is as long in the archive as here: one that is stored at power-on in a larger place ends where it does here, with
-/// the last byte of an empty frame.
+/// the last byte of an empty frame. The padding behind it is left alone.
 pub fn is_as_long() -> bool {
     const UNTOUCHED: u8 = 0xA5;
     const EMPTY: u8 = 0;
@@ -277,6 +298,6 @@ pub fn is_as_long() -> bool {
         handset_power_on(place.as_mut_ptr().cast());
         &*place.as_ptr().cast::<[u8; 2 * size_of::<Handset>()]>()
     };
-    let (record, behind) = bytes.split_at(size_of::<Handset>());
+    let (record, behind) = bytes.split_at(offset_of!(Handset, frame) + 250);
     record.last() == Some(&EMPTY) && behind.iter().all(|&byte| byte == UNTOUCHED)
 }

@@ -67,6 +67,21 @@ struct Held {
     long: bool,
 }
 
+// What only the sister has, and whether it is she: nothing changes it, but each call looks at it.
+struct Edition {
+    sister: bool,
+    brightness: u8,
+    speaker: u8,
+    pwm: bool,
+    ptt: bool,
+    stage: u8,
+    key: u8,
+    tick: u16,
+    down: u32,
+}
+
+const FIRST: Edition = Edition { sister: false, brightness: 0, speaker: 0, pwm: false, ptt: false, stage: 0, key: 0, tick: 0, down: 0 };
+
 // All that a frame can change.
 struct Display {
     on: bool,
@@ -105,6 +120,7 @@ pub struct Handset {
     reading: Reading,
     len: usize,
     frame: [u8; LIMIT],
+    edition: Edition,
 }
 
 fn number(digits: &[u8]) -> Option<u16> {
@@ -461,6 +477,7 @@ impl Reader for Handset {
             reading: Reading::Text,
             len: 0,
             frame: [0; LIMIT],
+            edition: FIRST,
         }
     }
 
@@ -486,8 +503,18 @@ impl Reader for Handset {
         };
         let Held { down, key, tick, long } = self.held;
         let held = door::Held { down, key, tick, long_stage: long };
-        let small = door::Small { settings, held, state: self.reading as u8, len: self.len as u8 };
+        let Edition { sister, brightness, speaker, pwm, ptt, stage, key, tick, down } = self.edition;
+        let keys = door::Keys { stage, key, tick, down };
+        let edition = door::Edition { sister, brightness, speaker, pwm, ptt, keys };
+        let small = door::Small { settings, held, state: self.reading as u8, len: self.len as u8, edition };
         door::Handset { small, text: d.text, picture: d.picture, frame: self.frame }
+    }
+}
+
+impl Edition {
+    fn is_first(&self) -> bool {
+        let keys = self.stage == 0 && self.key == 0 && self.tick == 0 && self.down == 0;
+        !self.sister && self.brightness == 0 && self.speaker == 0 && !self.pwm && !self.ptt && keys
     }
 }
 
@@ -497,6 +524,7 @@ impl Handset {
         let held = if h.down { h.key <= 18 } else { h.key == 0 && h.tick == 0 && !h.long };
         self.display.in_range()
             && held
+            && self.edition.is_first()
             && self.len <= LIMIT
             && (self.reading == Reading::Frame || self.len == 0)
             && self.frame[..self.len].iter().fold(true, |ok, &b| ok & (b != ESCAPE) & (b != CARRIAGE_RETURN))

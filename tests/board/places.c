@@ -1,7 +1,7 @@
 /*
- * What is lent may lie at any place that its type allows: a record at every even address, bytes at every address. A processor that loads
- * several words at once wants more than that, and then no call may take it for granted. So all calls are made on things at even places
- * that are no multiple of four, and at odd ones, and must do what they do at the best places. A line for each test.
+ * What is lent may lie at any place that its type allows: a record at every multiple of four, bytes at every address. A processor that
+ * loads several words at once wants more than that, and then no call may take it for granted. So all calls are made on a record at a
+ * multiple of four that is none of eight, and on bytes at odd places, and must do what they do at the best places. A line for each test.
  */
 #include "handset.h"
 
@@ -37,7 +37,7 @@ static struct {
 
 static struct {
     uint64_t eight;
-    uint16_t two;
+    uint32_t four;
     struct handset phone;
     uint64_t again;
     uint8_t one;
@@ -168,7 +168,7 @@ int main(void)
     const struct lent all_moved = {&worst.phone, &worst.light, &worst.bytes};
     uint32_t wanted = all_calls(&at_best);
     verdict(wanted == all_calls(&at_best), "twice at the best places");
-    verdict(wanted == all_calls(&phone_moved), "a record at an even place that is no multiple of four");
+    verdict(wanted == all_calls(&phone_moved), "a record at a place that is no multiple of eight");
     verdict(wanted == all_calls(&all_moved), "and all else at odd places");
     return 0;
 }

@@ -57,7 +57,15 @@ static void begin(void)
 /* the places inside that belong to no field */
 static bool padding(size_t at)
 {
-    return (at > AT(h.small.held.long_stage) && at < AT(h.small.state)) || (at > AT(part.kind) && at < AT(part.end));
+    return (at > AT(h.small.held.long_stage) && at < AT(h.small.state)) || (at > AT(h.small.len) && at < AT(h.small.edition)) ||
+           (at > AT(h.small.edition.ptt) && at < AT(h.small.edition.keys)) ||
+           (at >= AT(h.frame) + HANDSET_FRAME_SIZE && at < AT(h) + sizeof now.h) || (at > AT(part.kind) && at < AT(part.end));
+}
+
+/* the places that nothing may set: no call changes the edition, and what only the sister has is unused in the first */
+static bool fixed(size_t at)
+{
+    return at >= AT(h.small.edition) && at < AT(h.small.edition) + sizeof now.h.small.edition && !padding(at);
 }
 
 static bool as_wanted(void)
@@ -322,11 +330,11 @@ static void try_fields(void)
     try_arrays();
     try_picture();
     for (size_t at = 0; at < sizeof reached; at++) {
-        if (reached[at] || padding(at)) continue;
-        printf("  nothing has set the place %d of struct handset\n", (int)at);
+        if (reached[at] != fixed(at) || padding(at)) continue;
+        printf("  %s has set the place %d of struct handset\n", fixed(at) ? "something" : "nothing", (int)at);
         ok = false;
     }
-    verdict(ok, "field", "every place of the record was set by something");
+    verdict(ok, "field", "every place of the record was set by something, but none of the edition");
 }
 
 static void try_sizes(void)
@@ -464,10 +472,18 @@ static const struct spoilt fields[] = {
     {"the last code of the text", AT(h.text[103]), {0, 1, 2, 31}},
     {"the last column of the picture", AT(h.picture[671]), {32, 33, 128, 255}},
     {"the last byte of the frame", AT(h.frame[249]), {1, 2, 128, 255}},
+    {"the brightness", AT(h.small.edition.brightness), {1, 50, 100, 255}},
+    {"the speaker's volume", AT(h.small.edition.speaker), {1, 3, 7, 255}},
+    {"the stage of the sister's keys", AT(h.small.edition.keys.stage), {1, 2, 3, 255}},
+    {"the sister's key", AT(h.small.edition.keys.key), {1, 20, 128, 255}},
+    {"the low byte of her tick", AT(h.small.edition.keys.tick), {1, 2, 128, 255}},
+    {"the high byte of her tick", AT(h.small.edition.keys.tick) + 1, {1, 2, 128, 255}},
+    {"the first byte of her keys that are down", AT(h.small.edition.keys.down), {1, 2, 128, 255}},
+    {"the last byte of her keys that are down", AT(h.small.edition.keys.down) + 3, {1, 2, 128, 255}},
 };
 
-/* In text mode 5 and with a key held since tick 0 every flag may be 0 or 1. So a number that was taken for one of these is not refused
- * for something else. */
+/* In text mode 5 and with a key held since tick 0 every flag may be 0 or 1, but for those of the edition. So a number that was taken for
+ * one of these is not refused for something else. */
 static void spoil(const struct spoilt *field, uint8_t value)
 {
     prepare(FRAME("ID5") FRAME("IEA"));
@@ -514,7 +530,10 @@ static void try_flag(const struct spoilt *flag)
     bool ok = true;
     for (uint8_t value = 0; value <= 1; value++) {
         spoil(flag, value);
-        ok = holds(handset_in_range(&now.h), "handset_in_range", value) && ok;
+        if (value == 1 && fixed(flag->at))
+            ok = all_refuse(flag, value) && ok;
+        else
+            ok = holds(handset_in_range(&now.h), "handset_in_range", value) && ok;
     }
     verdict(ok, "taken", flag->field);
     try_spoilt(flag);

@@ -36,7 +36,7 @@
  * 1,024 ticks and 1,024 edges, 300 codes or 300 columns.
  *
  * What it prints. A line is a word and bytes, in upper case; one with no bytes is the word alone. NUMBER is document 01's, a byte; a flag
- * is 0 or 1. USED and WRITTEN are two bytes, and so is TICK; all else is one, but for arrays.
+ * is 0 or 1. USED and WRITTEN are two bytes, and so is a TICK; all else is one, but for arrays.
  *
  *   P, O and S       the letter and 00
  *   R                R 01 in range, R 00 not
@@ -73,6 +73,8 @@
  *   backlight MODE DURATION LEFT KEYPAD                    MODE 0 off, 1 on, 2 auto
  *   switches CONTRAST HOOK MARKS                           HOOK 1 is on-hook; MARKS are five flags, of text rows 0 to 4
  *   keys DOWN KEY TICK STAGE TIME1 TIME2                   STAGE 0 short, 1 long
+ *   edition SISTER BRIGHTNESS SPEAKER PWM PTT STAGE KEY TICK DOWN    what only the sister has. STAGE 0 none, 1 short, 2 long, 3 false;
+ *                                                          DOWN is four bytes: keys 0 to 7 in the first, key 0 the lowest bit
  *   frame STATE LENGTH                                     STATE 0 none, 1 open, 2 overlong
  *   bytes FRAME                                            all 250 places
  *   text CODES                                             80 places
@@ -80,7 +82,7 @@
  *   picture COLUMNS                                        672 places
  *
  * Fields of S, with the places of an array in brackets; any other field has only place 0. Of a value the low eight bits are
- * taken, all sixteen for the held tick; a flag is set by any value but 0. The numbers are decimal here.
+ * taken, all sixteen for a tick; a flag is set by any value but 0. The numbers are decimal here.
  *
  *    0 display (flag)    1 text mode         2 overlay            3 cursor shown (flag)  4 row              5 column
  *    6 text [80]         7 left length       8 left codes [7]     9 right length        10 right codes [7] 11 picture [672]
@@ -89,6 +91,8 @@
  *   24 buzzer           25 backlight mode   26 duration          27 seconds left        28 keypad (flag)   29 key held (flag)
  *   30 held key         31 held tick        32 stage long (flag) 33 frame state         34 frame length    35 frame bytes [250]
  *   36 large line [24]  37 contrast         38 on-hook (flag)    39 inverse mark [5] (flags)
+ *   40 sister (flag)    41 brightness       42 speaker volume    43 PWM (flag)          44 PTT (flag)      45 stage of her keys
+ *   46 her key          47 her tick         48 her keys that are down [4]
  *
  * Commands of W, in decimal: 0 display off, 1 display on, 2 text mode or overlay A, 3 cursor shown, 4 cursor not shown, 5 clear,
  * 6 cursor to row A, column B, 7 both labels empty, 8 to 13 icon S, U, F, R, P, W to A, 14 private volume A, 15 handsfree volume
@@ -150,8 +154,9 @@ enum kind { BYTE, FLAG, TICK };
 
 #define AT(field) offsetof(struct handset, field)
 #define SETTING(field) AT(small.settings.field)
+#define EDITION(field) AT(small.edition.field)
 
-/* By the numbers of S. */
+/* By the numbers of S. A set of keys is set byte by byte, as it lies in memory: the driver runs where the lowest comes first. */
 static const struct field {
     size_t at;
     uint16_t places;
@@ -197,6 +202,15 @@ static const struct field {
     [37] = {SETTING(contrast), 1, BYTE},
     [38] = {SETTING(hook), 1, FLAG},
     [39] = {SETTING(inverse), HANDSET_TEXT_ROWS, FLAG},
+    [40] = {EDITION(sister), 1, FLAG},
+    [41] = {EDITION(brightness), 1, BYTE},
+    [42] = {EDITION(speaker), 1, BYTE},
+    [43] = {EDITION(pwm), 1, FLAG},
+    [44] = {EDITION(ptt), 1, FLAG},
+    [45] = {EDITION(keys.stage), 1, BYTE},
+    [46] = {EDITION(keys.key), 1, BYTE},
+    [47] = {EDITION(keys.tick), 1, TICK},
+    [48] = {EDITION(keys.down), 4, BYTE},
 };
 
 enum { FIELD_COUNT = sizeof fields / sizeof fields[0] };
@@ -215,6 +229,7 @@ static const struct line {
     {"backlight", 4, {25, 26, 27, 28}},
     {"switches", 3, {37, 38, 39}},
     {"keys", 6, {29, 30, 31, 32, 22, 23}},
+    {"edition", 9, {40, 41, 42, 43, 44, 45, 46, 47, 48}},
     {"frame", 2, {33, 34}},
     {"bytes", 1, {35}},
     {"text", 1, {6}},
@@ -231,9 +246,10 @@ static void say_line(const struct line *line, const struct handset *h)
     for (size_t i = 0; i < line->count; i++) {
         const struct field *field = &fields[line->fields[i]];
         if (field->kind == TICK) {
-            uint8_t tick[] = {TWO(h->small.held.tick.tick)};
-            memcpy(said + length, tick, sizeof tick);
-            length += sizeof tick;
+            uint16_t tick;
+            memcpy(&tick, (const uint8_t *)h + field->at, sizeof tick);
+            said[length++] = (uint8_t)(tick >> 8);
+            said[length++] = (uint8_t)tick;
         } else {
             memcpy(said + length, (const uint8_t *)h + field->at, field->places);
             length += field->places;
@@ -300,7 +316,7 @@ static void set(void)
         return;
     }
     if (field->kind == TICK)
-        record.small.held.tick.tick = value;
+        memcpy((uint8_t *)&record + field->at, &value, sizeof value);
     else
         ((uint8_t *)&record)[field->at + place] = (uint8_t)(field->kind == FLAG ? value != 0 : value);
     SAY("S", 0);

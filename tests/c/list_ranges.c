@@ -2,8 +2,10 @@
  * Finds by trial which values the range question takes in each field of the record, and prints a line a field in the order of document
  * 01's table. A record is put to the question for each value, the other fields as the line says (at power-on where it says nothing). Of
  * an array every place named is tried with every value, and so is a flag: C can't keep a program from one that is neither 0 nor 1.
- * Behind them is a line for each call that is lent a record: which values it takes in the record's flags. All others it must refuse with
- * number 1, leave what it was lent as it was, and store zero as its answer; a line on which it does not says so.
+ * A record of the sister is refused, so of hers one line tells all: her power-on record is tried with every value at every place.
+ * Behind them are lines for each call that is lent a record: which values it takes in the record's flags, and in those of the edition.
+ * All others it must refuse with number 1, leave what it was lent as it was, and store zero as its answer; a line on which it does not
+ * says so.
  */
 #include "handset.h"
 
@@ -18,13 +20,14 @@ static struct handset_settings *const settings = &record.small.settings;
 
 /* ---- A line ---- */
 
-/* Where the run of values that are taken began, if one is open. */
-static bool open_run;
+/* Where the run of values that are taken began, if one is open; whether any value was taken. */
+static bool open_run, any_taken;
 static unsigned first;
 
 static void begin(const char *name)
 {
     printf("%s:", name);
+    any_taken = false;
 }
 
 static void end_run(unsigned next)
@@ -41,7 +44,7 @@ static void add(unsigned value, size_t takers, size_t places)
     if (takers < places)
         end_run(value);
     else if (!open_run) {
-        open_run = true;
+        open_run = any_taken = true;
         first = value;
     }
 }
@@ -49,7 +52,7 @@ static void add(unsigned value, size_t takers, size_t places)
 static void end(unsigned values)
 {
     end_run(values);
-    putchar('\n');
+    printf("%s\n", any_taken ? "" : " none");
 }
 
 /* ---- Values that are in range ---- */
@@ -72,9 +75,8 @@ static void list(const char *name, void *field, size_t places)
     end(BYTE_VALUES);
 }
 
-static void list_tick(const char *name)
+static void list_tick(const char *name, struct handset_tick *tick)
 {
-    struct handset_tick *tick = &record.small.held.tick;
     begin(name);
     for (unsigned value = 0; value < TICK_VALUES; value++) {
         tick->tick = (uint16_t)value;
@@ -212,9 +214,9 @@ static void list_held(void)
     held->down = true;
     list("held key when held", &held->key, 1);
     held->down = false;
-    list_tick("held tick with none");
+    list_tick("held tick with none", &held->tick);
     held->down = true;
-    list_tick("held tick when held");
+    list_tick("held tick when held", &held->tick);
     held->down = false;
     list("stage with none (0 short, 1 long)", &held->long_stage, 1);
     held->down = true;
@@ -239,6 +241,37 @@ static void list_frame(void)
     fill(record.frame, HANDSET_FRAME_SIZE, &record.small.len, 100);
     list("frame used places", record.frame, 100);
     list("frame unused places", record.frame + 100, HANDSET_FRAME_SIZE - 100);
+    fill(record.frame, HANDSET_FRAME_SIZE, &record.small.len, 0);
+    record.small.state = HANDSET_FRAME_NONE;
+}
+
+/* The sister's power-on record. */
+static void become_sister(void)
+{
+    struct handset_edition *edition = &record.small.edition;
+    edition->sister = edition->pwm = true;
+    edition->brightness = 50;
+    edition->speaker = 3;
+    settings->backlight.mode = HANDSET_LIGHT_AUTO;
+    settings->times.time2.tenths = 12;
+}
+
+/* The set of keys is tried byte by byte: all of its values would take too long. */
+static void list_edition(void)
+{
+    struct handset_edition *edition = &record.small.edition;
+    struct handset_keys *keys = &edition->keys;
+    list("sister", &edition->sister, 1);
+    list("brightness", &edition->brightness, 1);
+    list("speaker volume", &edition->speaker, 1);
+    list("PWM flag", &edition->pwm, 1);
+    list("PTT", &edition->ptt, 1);
+    list("stage of the sister's keys (0 none)", &keys->stage, 1);
+    list("key of the sister's keys", &keys->key, 1);
+    list_tick("tick of the sister's keys", &keys->tick);
+    list("set of the sister's keys that are down, 4 places", &keys->down, sizeof keys->down);
+    become_sister();
+    list("any place of the sister's record", &record, sizeof record);
 }
 
 /* ---- Flags that calls take ---- */
@@ -303,7 +336,7 @@ static uint8_t column_seen(void)
     return handset_column_seen(&record, 0, 0, HANDSET_LIT, &column);
 }
 
-/* That of the backlight is first, since one call is lent no other. */
+/* That of the backlight is first, since one call is lent no other. Those of the edition are apart: 1 is out of their range. */
 static bool *const flags[] = {
     &record.small.settings.backlight.keypad,
     &record.small.settings.screen.display,
@@ -319,13 +352,24 @@ static bool *const flags[] = {
     &record.small.held.down,
     &record.small.held.long_stage,
 };
+static bool *const edition_flags[] = {
+    &record.small.edition.sister,
+    &record.small.edition.pwm,
+    &record.small.edition.ptt,
+};
 
-enum { FLAG_COUNT = sizeof flags / sizeof flags[0] };
+static const struct group {
+    const char *name;
+    bool *const *flags;
+    size_t count;
+} of_record = {"flags, 13 places, by ", flags, sizeof flags / sizeof flags[0]},
+  of_edition = {"flags of the edition, 3 places, by ", edition_flags, sizeof edition_flags / sizeof edition_flags[0]},
+  of_light = {"keypad flag by ", flags, 1};
 
 struct call {
     const char *name;
     uint8_t (*make)(void);
-    size_t flag_count;
+    const struct group *group;
     void *answer; /* what it stores its answer at, NULL if it has none */
     size_t size;
 };
@@ -336,6 +380,21 @@ static bool all_are(uint8_t value, const void *places, size_t count)
     for (size_t i = 0; i < count; i++)
         if (bytes[i] != value) return false;
     return true;
+}
+
+static bool same_places(const struct handset *one, const struct handset *other, size_t from, size_t end)
+{
+    return memcmp((const uint8_t *)one + from, (const uint8_t *)other + from, end - from) == 0;
+}
+
+/* The padding may have changed: its value means nothing. */
+#define AT(field) offsetof(struct handset, field)
+static bool same(const struct handset *one, const struct handset *other)
+{
+    return same_places(one, other, AT(small), AT(small.held.long_stage) + 1) &&
+           same_places(one, other, AT(small.state), AT(small.len) + 1) &&
+           same_places(one, other, AT(small.edition), AT(small.edition.ptt) + 1) &&
+           same_places(one, other, AT(small.edition.keys), AT(frame) + HANDSET_FRAME_SIZE);
 }
 
 /* Whether the call takes the record. If not, it must have done nothing. */
@@ -350,41 +409,42 @@ static bool takes(const struct call *call)
     record = before;
     if (number == HANDSET_DONE) return true;
     if (number != HANDSET_FIELD_OUT_OF_RANGE) printf(" (number %u)", number);
-    if (memcmp(&after, &before, sizeof before) != 0 || !all_are(UNSTORED, room, sizeof room)) printf(" (something was changed)");
+    if (!same(&after, &before) || !all_are(UNSTORED, room, sizeof room)) printf(" (something was changed)");
     if (!all_are(0, call->answer, call->size)) printf(" (an answer is not zero)");
     return false;
 }
 
 /* A key is held, so that its stage may be either. */
-static void list_flags(const struct call *call)
+static void list_flags(const struct call *call, const struct group *group)
 {
     handset_power_on(&record);
     record.small.held.down = true;
+    printf("%s", group->name);
     begin(call->name);
     for (unsigned value = 0; value < BYTE_VALUES; value++) {
         size_t takers = 0;
-        for (size_t i = 0; i < call->flag_count; i++) {
-            bool before = *flags[i];
-            *(uint8_t *)flags[i] = (uint8_t)value;
+        for (size_t i = 0; i < group->count; i++) {
+            bool before = *group->flags[i];
+            *(uint8_t *)group->flags[i] = (uint8_t)value;
             takers += takes(call);
-            *flags[i] = before;
+            *group->flags[i] = before;
         }
-        add(value, takers, call->flag_count);
+        add(value, takers, group->count);
     }
     end(BYTE_VALUES);
 }
 
 static const struct call calls[] = {
-    {"flags, 13 places, by handset_feed", feed, FLAG_COUNT, counts, sizeof counts},
-    {"flags, 13 places, by handset_take_log", take_log, FLAG_COUNT, counts, sizeof counts},
-    {"flags, 13 places, by handset_second", second, FLAG_COUNT, NULL, 0},
-    {"keypad flag by handset_light_second", light_second, 1, NULL, 0},
-    {"flags, 13 places, by handset_hook", hook, FLAG_COUNT, NULL, 0},
-    {"flags, 13 places, by handset_room_needed", room_needed, FLAG_COUNT, counts, sizeof counts[0]},
-    {"flags, 13 places, by handset_sms_seen", sms_seen, FLAG_COUNT, &panel, sizeof panel},
-    {"flags, 13 places, by handset_volume_seen", volume_seen, FLAG_COUNT, &panel, sizeof panel},
-    {"flags, 13 places, by handset_row_seen", row_seen, FLAG_COUNT, &row, sizeof row},
-    {"flags, 13 places, by handset_column_seen", column_seen, FLAG_COUNT, &column, sizeof column},
+    {"handset_feed", feed, &of_record, counts, sizeof counts},
+    {"handset_take_log", take_log, &of_record, counts, sizeof counts},
+    {"handset_second", second, &of_record, NULL, 0},
+    {"handset_light_second", light_second, &of_light, NULL, 0},
+    {"handset_hook", hook, &of_record, NULL, 0},
+    {"handset_room_needed", room_needed, &of_record, counts, sizeof counts[0]},
+    {"handset_sms_seen", sms_seen, &of_record, &panel, sizeof panel},
+    {"handset_volume_seen", volume_seen, &of_record, &panel, sizeof panel},
+    {"handset_row_seen", row_seen, &of_record, &row, sizeof row},
+    {"handset_column_seen", column_seen, &of_record, &column, sizeof column},
 };
 
 int main(void)
@@ -405,6 +465,10 @@ int main(void)
     list_marks();
     list_held();
     list_frame();
-    for (size_t i = 0; i < sizeof calls / sizeof calls[0]; i++) list_flags(&calls[i]);
+    list_edition();
+    for (size_t i = 0; i < sizeof calls / sizeof calls[0]; i++) {
+        list_flags(&calls[i], calls[i].group);
+        if (calls[i].group == &of_record) list_flags(&calls[i], &of_edition);
+    }
     return 0;
 }

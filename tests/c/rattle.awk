@@ -18,6 +18,7 @@ function c_name(type,    owner) {
 function c_type(type) {
     if (type == "u8") return "uint8_t"
     if (type == "u16") return "uint16_t"
+    if (type == "u32") return "uint32_t"
     if (type == "usize") return "uint64_t"
     if (type == "bool") return "bool"
     return "struct " c_name(type)

@@ -36,11 +36,13 @@ struct image {
 /* the functions, as C sees them: declared by the table, then asked by it */
 #define ASK_U8(at, struct_, field, type) uint8_t at(struct image image);
 #define ASK_U16(at, struct_, field, type) uint16_t at(struct image image);
+#define ASK_U32(at, struct_, field, type) uint32_t at(struct image image);
 #define ASK_USIZE(at, struct_, field, type) uint64_t at(struct image image);
 #define ASK_BOOL(at, struct_, field, type) bool at(struct image image);
 #include ASKED
 #undef ASK_U8
 #undef ASK_U16
+#undef ASK_U32
 #undef ASK_USIZE
 #undef ASK_BOOL
 
@@ -85,6 +87,7 @@ static void tell(const char *struct_, const char *field, const char *type, int p
 
 #define ASK_U8(at, struct_, field, type) tell(#struct_, #field, type, place_of(at(told()), 1));
 #define ASK_U16(at, struct_, field, type) tell(#struct_, #field, type, place_of(at(told()), 2));
+#define ASK_U32(at, struct_, field, type) tell(#struct_, #field, type, place_of(at(told()), 4));
 #define ASK_USIZE(at, struct_, field, type) tell(#struct_, #field, type, place_of(at(told()), 8));
 #define ASK_BOOL(at, struct_, field, type) tell(#struct_, #field, type, place_of_flag(at));
 

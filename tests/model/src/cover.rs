@@ -51,7 +51,11 @@ refused <R|F|N|K|C|H|Q|U|M|V> for <refusable> alone
 refused B for <backlight mode|duration|left> alone
 field <field> set at its <first|last> place
 field <flag> set to <0|1|2 or more>
+refused <R|F|N|K|C|H|Q|U|M|V> for the sister as delivered
+<brightness|speaker volume|sister's stage|sister's key|sister's keys down> <1|255> refused
+sister's tick <1|65535> refused
 field inverse mark place <0..4> set to <0|1>
+field sister's keys down place <0..3> set to <1|255>
 row 4 refused in mode <0|1>
 row 5 refused in mode <5|6>
 row 1 refused in mode 10
@@ -638,6 +642,9 @@ impl Cover {
         let (row, mode) = (&FIELDS[usize::from(field)], before.mode);
         let name = row.name;
         see!(self, "refused {letter} for {name} alone");
+        if before.edition == sister_power_on().edition {
+            see!(self, "refused {letter} for the sister as delivered");
+        }
         let value = get(before, field);
         match row.rests_on {
             ["text mode"] => see!(self, "{name} {value} refused in mode {mode}"),

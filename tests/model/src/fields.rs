@@ -4,6 +4,10 @@
 //!
 //! A field whose range rests on another field is judged only while that other
 //! field is in range; the record is refused either way.
+//!
+//! The sister's frames are not read yet, and until they are a record of hers is
+//! refused: so the edition is a field with a range. In the first edition all
+//! that only she has is unused.
 
 use crate::record::*;
 use Spot::{Byte, Flag, Word};
@@ -87,6 +91,16 @@ fields! { r, p:
     "contrast", Byte(r.contrast), 1, [], (matches!(r.contrast, 1..=20));
     "hook", Flag(r.hook), 1, [], (any);
     "inverse mark", Flag(r.marks[p]), TEXT_ROWS, [], (r.marks.iter().filter(|&&mark| mark).count() <= 1);
+    "sister", Flag(r.edition.sister), 1, [], (!r.edition.sister);
+    "brightness", Byte(r.edition.brightness), 1, ["sister"], (r.edition.sister || r.edition.brightness == 0);
+    "speaker volume", Byte(r.edition.speaker), 1, ["sister"], (r.edition.sister || r.edition.speaker == 0);
+    "PWM", Flag(r.edition.pwm), 1, ["sister"], (r.edition.sister || !r.edition.pwm);
+    "PTT", Flag(r.edition.ptt), 1, ["sister"], (r.edition.sister || !r.edition.ptt);
+    "sister's stage", Byte(r.edition.keys.stage), 1, ["sister"], (r.edition.sister || r.edition.keys.stage == 0);
+    "sister's key", Byte(r.edition.keys.key), 1, ["sister"], (r.edition.sister || r.edition.keys.key == 0);
+    "sister's tick", Word(r.edition.keys.tick), 1, ["sister"], (r.edition.sister || r.edition.keys.tick == 0);
+    "sister's keys down", Byte(r.edition.keys.down[p]), 4, ["sister"],
+        (r.edition.sister || r.edition.keys.down == [0; 4]);
 }
 
 fn label_codes(label: &Label) -> bool {

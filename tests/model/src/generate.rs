@@ -11,7 +11,7 @@ use crate::grammar::{named, Command, In, MOST_ROWS};
 use crate::record::*;
 use crate::rng::Rng;
 use crate::script::{command_count, parse, perform, with_pairs, Answer, Call, BYTES, LETTERS, ROOM};
-use crate::seen::{layout, PHASES};
+use crate::seen::{layout, Phase, PHASES};
 use crate::{keys, stream, writers};
 
 /// The letters of all calls; X stands for lines that can't be taken.
@@ -709,7 +709,7 @@ impl Generator {
         // A byte's value is taken modulo 256, and a flag is set by any but 0.
         let most = values(field)[values(field).len() - 1];
         let value = match most {
-            255 if self.rng.one_in(20) => value + 256 * self.rng.between(1, 255) as u16,
+            255 if self.rng.one_in(10) => value + 256 * self.rng.between(1, 255) as u16,
             1 if value == 1 && self.rng.one_in(8) => self.rng.pick(&[2, 256, 65_535]),
             _ => value,
         };
@@ -750,6 +750,11 @@ impl Generator {
         }
         let number = field(name);
         let now = contents(&mut self.record, number);
+        let [_, all] = self.values_for(number, 0, true);
+        if all == now {
+            // It holds the one value of its range, as the edition does.
+            return;
+        }
         match FIELDS[usize::from(number)].rests_on.first() {
             // Its first places are in use, as many as the other field says;
             // all others hold zero.
@@ -808,7 +813,14 @@ impl Generator {
             self.sweep_field();
             return self.restore(&mut kept);
         }
-        let fields = if self.rng.one_in(5) { self.rng.between(2, 5) } else { 1 };
+        let fields = match self.rng.below(30) {
+            0..=5 => self.rng.between(2, 5),
+            6 | 7 => 0,
+            _ => 1,
+        };
+        if fields == 0 {
+            self.become_sister();
+        }
         for _ in 0..fields {
             // Where there are more places, more can be wrong.
             let (all, least) = (refusable(), self.rng.pick(&[1, 1, 1, 2]));
@@ -820,7 +832,7 @@ impl Generator {
             }
         }
         for _ in 0..self.rng.between(2, 6) {
-            match self.rng.below(20) {
+            match self.rng.below(22) {
                 0 | 19 => drop(self.emit(Call::InRange)),
                 1..=3 => {
                     let pieces = self.rng.below(4);
@@ -842,6 +854,8 @@ impl Generator {
                 12 => self.choice_checks(),
                 13 => self.parts(),
                 14 => self.verdicts(),
+                20 => drop(self.emit(Call::Sms { phase: Phase::Lit })),
+                21 => drop(self.emit(Call::Volume)),
                 _ => self.question(),
             }
         }
@@ -849,6 +863,20 @@ impl Generator {
             return self.power();
         }
         self.restore(&mut kept);
+    }
+
+    /// The values with which the sister is powered on, where hers are others;
+    /// perhaps with another value in something that only she has.
+    fn become_sister(&mut self) {
+        let sister = sister_power_on();
+        for name in ["sister", "brightness", "speaker volume", "PWM", "backlight mode", "Time1", "Time2"] {
+            self.put(field(name), 0, get(&sister, field(name)));
+        }
+        if self.rng.one_in(3) {
+            let number = self.rng.between(field("brightness").into(), FIELDS.len() - 1) as u16;
+            let (place, value) = (self.rng.below(places(number)), self.rng.pick(&values(number)));
+            self.put(number, place, value);
+        }
     }
 
     /// All values at the edges of a field's range, in it and out of it.
@@ -938,18 +966,18 @@ fn misfit(rng: &mut Rng) -> Vec<u8> {
     let fill = rng.pick(&[0, ESC, b'A', any]);
     let mut bytes = vec![0; least];
     bytes.resize(least + rng.below(4).min(more), fill);
-    let kind = rng.below(24);
+    let kind = rng.below(25);
     match kind {
         0 | 1 | 18..=20 => bytes.truncate(rng.below(least.max(1))),
         2 | 3 | 21..=23 => bytes.resize(least + more + rng.pick(&[1, 1, 2]), fill),
         // A room or a count too great; a field, a command, a side or a phase
         // that is none.
         5 if least > 1 => bytes[..2].copy_from_slice(&rng.pick(&[[1, 0x2D], [255, 255]])),
-        4 | 5 if more > 0 => bytes.resize(rng.pick(&[32_767, 32_767, 8191, 40_000]), fill),
+        4 | 5 | 24 if more > 0 => bytes.resize(rng.pick(&[32_767, 32_767, 8191, 40_000]), fill),
         6 if least > 3 => bytes[2..4].copy_from_slice(&rng.pick(&[[4, 1], [255, 255], [0, 9]])),
         6 | 7 if least > 0 => {
             let at = rng.pick(&[least - 1, 2.min(least - 1)]);
-            bytes[at] = rng.pick(&[2, 2, any, command_count() as u8]);
+            bytes[at] = rng.pick(&[2, 2, any, command_count() as u8, command_count() as u8]);
         }
         _ => (),
     }

@@ -227,7 +227,7 @@ pub fn picture_data_short(seed: u64) -> Held {
 }
 
 /// Contrast and marks are changed by their own frames alone, obeyed; the hook
-/// switch by none, nor by keys and seconds.
+/// switch and the edition by none, nor by keys and seconds.
 pub fn own_frames(seed: u64) -> Held {
     let mut rng = Rng::new(seed ^ 0x0F7);
     let start = random_record(seed);
@@ -252,13 +252,13 @@ pub fn own_frames(seed: u64) -> Held {
             _ => (),
         }
         stream::take(&mut record, &part);
-        let now = (record.contrast, record.hook, record.marks);
-        hold!(now == (contrast, start.hook, marks), "{part:?} changed {now:?}");
+        let now = (record.contrast, record.hook, record.marks, record.edition);
+        hold!(now == (contrast, start.hook, marks, start.edition), "{part:?} changed {now:?}");
     }
-    let other = (record.contrast, record.hook, record.marks);
+    let other = (record.contrast, record.hook, record.marks, record.edition);
     keys::call(&mut record, &[1, 700, 701], &[3, 255, 131], &mut [0; 4]);
     script::second(&mut record);
-    hold!(other == (record.contrast, record.hook, record.marks), "keys and seconds");
+    hold!(other == (record.contrast, record.hook, record.marks, record.edition), "keys and seconds");
     Ok(())
 }
 

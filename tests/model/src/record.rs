@@ -61,6 +61,28 @@ pub struct Frame {
     pub bytes: [u8; FRAME],
 }
 
+/// The sister's keys that are down. stage: 0 none, 1 short, 2 long, 3 false.
+/// down: a bit a key, keys 0 to 7 in the first byte, key 0 the lowest bit.
+#[derive(Clone, Copy, PartialEq, Eq, Debug)]
+pub struct Keys {
+    pub stage: u8,
+    pub key: u8,
+    pub tick: u16,
+    pub down: [u8; 4],
+}
+
+/// Which handset it is, and what only the sister (AN1900) has: in the first
+/// edition all of it is unused.
+#[derive(Clone, Copy, PartialEq, Eq, Debug)]
+pub struct Edition {
+    pub sister: bool,
+    pub brightness: u8,
+    pub speaker: u8,
+    pub pwm: bool,
+    pub ptt: bool,
+    pub keys: Keys,
+}
+
 /// Places of the icons in `Record::icons`.
 pub const ICON_S: usize = 0;
 pub const ICON_U: usize = 1;
@@ -95,6 +117,7 @@ pub struct Record {
     pub marks: [bool; TEXT_ROWS],
     pub held: Held,
     pub frame: Frame,
+    pub edition: Edition,
 }
 
 pub const NO_LABEL: Label = Label { length: 0, codes: [0; LABEL] };
@@ -102,6 +125,10 @@ pub const NO_LABEL: Label = Label { length: 0, codes: [0; LABEL] };
 pub const NO_KEY: Held = Held { down: false, key: 0, tick: 0, long: false };
 
 pub const NO_FRAME: Frame = Frame { state: 0, length: 0, bytes: [0; FRAME] };
+
+pub const NO_KEYS: Keys = Keys { stage: 0, key: 0, tick: 0, down: [0; 4] };
+
+pub const FIRST: Edition = Edition { sister: false, brightness: 0, speaker: 0, pwm: false, ptt: false, keys: NO_KEYS };
 
 /// At power-on no key repeats, the contrast is the note's middle value, and
 /// the handset lies in its rest.
@@ -129,12 +156,24 @@ pub fn power_on() -> Record {
         marks: [false; TEXT_ROWS],
         held: NO_KEY,
         frame: NO_FRAME,
+        edition: FIRST,
     }
 }
 
 /// The power-on record of the former defaults: Time2 alone is another.
 pub fn former_power_on() -> Record {
     Record { time2: 12, ..power_on() }
+}
+
+/// The sister's power-on record: the note's times, the light in auto with PWM,
+/// and values of her own.
+pub fn sister_power_on() -> Record {
+    let first = former_power_on();
+    Record {
+        backlight: Backlight { mode: 2, ..first.backlight },
+        edition: Edition { sister: true, brightness: 50, speaker: 3, pwm: true, ..FIRST },
+        ..first
+    }
 }
 
 /// The label that holds these codes (at most seven).

@@ -426,7 +426,7 @@ fn put(out: &mut Vec<u8>, word: &str, bytes: &[u8]) {
 }
 
 /// The lines of a record: each has a word and fields, one after the other.
-const PRINTED: [(&str, &str); 13] = [
+const PRINTED: [(&str, &str); 14] = [
     ("screen", "display,text mode,overlay,cursor shown,row,column"),
     ("labels", "left label length,right label length"),
     ("left", "left label codes"),
@@ -435,6 +435,10 @@ const PRINTED: [(&str, &str); 13] = [
     ("backlight", "backlight mode,duration,left,keypad flag"),
     ("switches", "contrast,hook,inverse mark"),
     ("keys", "held,held key,held tick,stage,Time1,Time2"),
+    (
+        "edition",
+        "sister,brightness,speaker volume,PWM,PTT,sister's stage,sister's key,sister's tick,sister's keys down",
+    ),
     ("frame", "frame state,frame length"),
     ("bytes", "frame bytes"),
     ("text", "text"),
@@ -449,7 +453,7 @@ fn print_lines(out: &mut Vec<u8>, record: &Record, words: &[&str]) {
         let mut bytes = vec![];
         for name in names.split(',') {
             for value in contents(&mut record, field(name)) {
-                let from = usize::from(name != "held tick");
+                let from = usize::from(!name.ends_with("tick"));
                 bytes.extend(&value.to_be_bytes()[from..]);
             }
         }
