@@ -96,26 +96,28 @@ struct handset_part proved_part_at(const uint8_t *bytes, uint64_t bytes_len, uin
 
 /* ---- The flags of a record ---- */
 
-/* Looked at as bytes: a bool must not be read before it is known to be one. */
-static bool is_flag(const bool *flag)
+/* Looked at as a byte: a bool must not be read before it is known to be one. */
+static uint8_t byte_of(const bool *flag)
 {
-    return *(const uint8_t *)flag <= 1;
+    return *(const uint8_t *)flag;
 }
 
 static bool light_has_flags(const struct handset_backlight *light)
 {
-    return is_flag(&light->keypad);
+    return byte_of(&light->keypad) <= 1;
 }
 
+/* All flags at once, since every call asks: a bit above the lowest stays, whichever of them has it. */
 static bool has_flags(const struct handset *h)
 {
     const struct handset_settings *s = &h->small.settings;
+    const struct handset_held *k = &h->small.held;
     const struct handset_edition *e = &h->small.edition;
-    for (size_t row = 0; row < HANDSET_TEXT_ROWS; row++)
-        if (!is_flag(&s->inverse[row])) return false;
-    return is_flag(&s->screen.display) && is_flag(&s->shown) && is_flag(&s->volume.mute) && is_flag(&s->volume.hidden) &&
-           light_has_flags(&s->backlight) && is_flag(&s->hook) && is_flag(&h->small.held.down) && is_flag(&h->small.held.long_stage) &&
-           is_flag(&e->sister) && is_flag(&e->pwm) && is_flag(&e->ptt);
+    unsigned all = byte_of(&s->screen.display) | byte_of(&s->shown) | byte_of(&s->volume.mute) | byte_of(&s->volume.hidden) |
+                   byte_of(&s->backlight.keypad) | byte_of(&s->hook) | byte_of(&k->down) | byte_of(&k->long_stage) |
+                   byte_of(&e->sister) | byte_of(&e->pwm) | byte_of(&e->ptt);
+    for (size_t row = 0; row < HANDSET_TEXT_ROWS; row++) all |= byte_of(&s->inverse[row]);
+    return all <= 1;
 }
 
 /* ---- The calls ---- */

@@ -1,6 +1,6 @@
 //! A second, independent program of the handset's rules, made from the papers
 //! alone, and a tester that holds another program against it. Of the change
-//! requests it has T-01 to T-05, T-09 and T-11.
+//! requests it has T-01 to T-05, T-09 and T-11, and of T-06 the record.
 //!
 //! The model is written plainly, to be read beside the paper: `record`,
 //! `fields` (a table: where a field stands and its range), `grammar`,
