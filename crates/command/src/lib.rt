@@ -7,7 +7,6 @@ ghost use Rattle.frame_table.specs.Reader as reader;
 ghost use Rattle.command.specs.First.{opensLabel, first};
 ghost use Rattle.command.specs.Reading.{isText, onlyIf, sideOf, readWith, readOf};
 use frame_table::Classes;
-use frame_table::NextStates;
 use lists::BLANK;
 use picture::Columns;
 use record::LONGEST_LABEL;
@@ -86,6 +85,10 @@ pub const CLASSES: Classes = *b"\
     @@@@@@@@@@@@@@@@\
     @@@@@@@@@@@@@@@@\
     @@@@@@@@@@@@@@@@";
+
+pub type NextStates = [u8; ENTRIES];
+
+pub const ENTRIES: usize = 408;
 
 // The next state: a row for each class from @ on, a column for each state from @ on, which refuses; A is the start.
 pub const NEXT_STATES: NextStates = *b"\

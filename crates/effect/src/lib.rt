@@ -16,10 +16,10 @@ ghost use Rattle.effect.specs.Effect.{blanks, labelOf, muted, lightAt, m
 ghost use Rattle.effect.specs.Obey.{answerFor, core, Obeys};
 use answer::Answer;
 use command::Command;
+use command::NextStates;
 use command::Reading;
 use command::Side;
 use frame_table::Classes;
-use frame_table::NextStates;
 use lists::BLANK;
 use picture::Columns;
 use picture::MOST_COLUMNS;

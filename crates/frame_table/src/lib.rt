@@ -10,11 +10,6 @@ ghost use Rattle.frame_table.specs.Run.{foundIn};
 // The tables hold letters, so that they can be read aloud: @ is 0, A is 1, B is 2 and so on.
 pub type Classes = [u8; 256];
 
-// A row for each class from @ on, and in it a column for each state from @ on.
-pub type NextStates = [u8; ENTRIES];
-
-pub const ENTRIES: usize = 408;
-
 // The last two numbers of a frame: the last, and the one before its last ';'.
 pub struct Numbers {
     pub before: u16,
@@ -30,21 +25,26 @@ pub struct Found {
 // The state in which a frame begins. State 0 refuses.
 const START: usize = 1;
 
-fn letter(x: u8) -> usize
+fn letter(x: u8) -> u8
     ensures same { λ r. ⌜ r ≡ x % 64 ⌝ }
     ensures small { λ r. ⌜ r ≤ 63 ⌝ }
 {
-    (x % 64) as usize
+    x % 64
 }
 
-// The state after one byte more; what is not in the table refuses.
+// The state after one byte more; what is not in the table refuses. A product of 32 bits: a small processor has none of 64.
 fn state_after(class: &Classes, next: &[u8], states: u8, state: usize, b: u8) -> usize
     requires { ⌜ state ≤ 63 ⌝ }
     ensures same { λ r. ⌜ r ≡ stateAfter (now (class .entry)) (now (next .entry)) states state b ⌝ }
     ensures small { λ r. ⌜ r ≤ 63 ⌝ }
 {
-    let at = letter(class[b as usize]) * states as usize + state;
-    if at < next.len() { letter(next[at]) } else { 0 }
+    let row = letter(class[b as usize]) as u32 * states as u32;
+    let at = row as usize + state;
+    if at < next.len() {
+        letter(next[at]) as usize
+    } else {
+        0
+    }
 }
 
 fn is_digit(b: u8) -> bool
@@ -61,7 +61,7 @@ fn with_digit(n: u16, digit: u8) -> u16
 }
 
 // The state to which a frame leads, and its numbers.
-pub fn run(class: &Classes, next: &NextStates, states: u8, f: &[u8]) -> Found
+pub fn run(class: &Classes, next: &[u8], states: u8, f: &[u8]) -> Found
     ensures same { λ r. ⌜ r ≡ foundIn (now (class .entry)) (now (next .entry)) states (now (f .entry)) ⌝ }
 {
     let mut state = START;

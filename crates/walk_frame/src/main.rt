@@ -6,10 +6,10 @@
 // is not, what could have stood there. Each line asks the proved reader how far the bytes up to here lead. With --table the table itself
 // is printed, as it stands in docs/RULES.md.
 use command::CLASSES;
+use command::ENTRIES;
 use command::FIRST_GOOD;
 use command::NEXT_STATES;
 use command::STATES;
-use frame_table::ENTRIES;
 
 const LAST_CLASS: u8 = 16;
 

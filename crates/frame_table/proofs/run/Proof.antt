@@ -27,26 +27,26 @@ run-spec =
     μ-loop
     (λ c. (omega arith, omega arith, refl))
     (λ c. search needs)
-    (λ c κs. c .before .before .before .loop .inv .1)
+    (λ c κs. c .before .before .loop .inv .1)
     (λ c. search needs)
     (λ c κs. search needs)
     (λ c. leb-true _ _ (both (sym (c .before .is-digit .ensures) ∙ c .if1 .taken) .0))
     (λ c κs. search needs)
     (λ c. omega arith)
-    (λ c. let l = c .before .before .before .before .before .before .before in
-    let a = l .before .before .args in
+    (λ c. let l = c .before .before .before .before .before .before in
+    let a = l .before .before .before .args in
     let s = c .before .before .before .state-after .ensures in
-    (omega arith, s .1, l .loop .inv .2 ∙ turn (a .class .now) (a .next .now) (a .states) (l .loop .state) _ (a .f .now) (l .loop .i) (c .before .before .before .before .before .before .loop-test .taken) (s .0) (by-digit _ _ _ (sym (c .before .before .is-digit .ensures) ∙ c .before .if1 .taken) (c .with-digit .ensures))))
+    (omega arith, s .1, l .loop .inv .2 ∙ turn (a .class .now) (a .next .now) (a .states) (l .loop .state) _ (a .f .now) (l .loop .i) (c .before .before .before .before .before .loop-test .taken) (s .0) (by-digit _ _ _ (sym (c .before .before .is-digit .ensures) ∙ c .before .if1 .taken) (c .with-digit .ensures))))
     (λ c. omega arith)
-    (λ c. let l = c .before .before .before .before .before .before .before in
-    let a = l .before .before .args in
+    (λ c. let l = c .before .before .before .before .before .before in
+    let a = l .before .before .before .args in
     let s = c .before .before .before .state-after .ensures in
-    (omega arith, s .1, l .loop .inv .2 ∙ turn (a .class .now) (a .next .now) (a .states) (l .loop .state) _ (a .f .now) (l .loop .i) (c .before .before .before .before .before .before .loop-test .taken) (s .0) (by-semicolon _ _ _ (sym (c .before .before .is-digit .ensures) ∙ c .before .if1 .left) (c .if2 .taken))))
+    (omega arith, s .1, l .loop .inv .2 ∙ turn (a .class .now) (a .next .now) (a .states) (l .loop .state) _ (a .f .now) (l .loop .i) (c .before .before .before .before .before .loop-test .taken) (s .0) (by-semicolon _ _ _ (sym (c .before .before .is-digit .ensures) ∙ c .before .if1 .left) (c .if2 .taken))))
     (λ c. omega arith)
-    (λ c. let l = c .before .before .before .before .before .before .before in
-    let a = l .before .before .args in
+    (λ c. let l = c .before .before .before .before .before .before in
+    let a = l .before .before .before .args in
     let s = c .before .before .before .state-after .ensures in
-    (omega arith, s .1, l .loop .inv .2 ∙ turn (a .class .now) (a .next .now) (a .states) (l .loop .state) _ (a .f .now) (l .loop .i) (c .before .before .before .before .before .before .loop-test .taken) (s .0) (by-other _ _ _ (sym (c .before .before .is-digit .ensures) ∙ c .before .if1 .left) (c .if2 .left))))
+    (omega arith, s .1, l .loop .inv .2 ∙ turn (a .class .now) (a .next .now) (a .states) (l .loop .state) _ (a .f .now) (l .loop .i) (c .before .before .before .before .before .loop-test .taken) (s .0) (by-other _ _ _ (sym (c .before .before .is-digit .ensures) ∙ c .before .if1 .left) (c .if2 .left))))
     (λ c. let l = c .before .loop in
-    let a = c .before .before .before .args in
+    let a = c .before .before .before .before .args in
     sym (l .inv .2 ∙ turned (a .class .now) (a .next .now) (a .states) (l .state) (pair (l .before) (l .last)) (a .f .now) (l .i) (c .loop-test .left))))

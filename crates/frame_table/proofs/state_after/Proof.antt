@@ -19,8 +19,11 @@ state-after-spec =
     (λ c κs. search needs)
     (λ c. record { fits = omega (arith, small (c .letter .result) (c .before .before .before .args .states) (omega arith) (omega arith)) })
     (λ c. record { fits = omega (arith, small (c .letter .result) (c .before .before .before .args .states) (omega arith) (omega arith)) })
+    (λ c. record { fits = omega (arith, small (c .letter .result) (c .before .before .before .args .states) (omega arith) (omega arith)) })
+    (λ c. record { fits = omega (arith, small (c .letter .result) (c .before .before .before .args .states) (omega arith) (omega arith)) })
     (λ c. search needs)
     (λ c κs. search needs)
+    (λ c. search needs)
     (λ c. (c .letter2 .ensures .0 ∙ rw (c .before .before .before .letter .ensures .0), c .letter2 .ensures .1))
     (λ c. let a = c .before .before .before .before .args in
     (sym (rw (← c .before .letter .ensures .0) (ap (λ (x : ℕ). x % 64) (List·getD-eq-default (a .next .now) 0 (omega (arith, c .if1 .left))))), omega arith)))
