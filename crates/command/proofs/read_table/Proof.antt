@@ -10,13 +10,13 @@ read-table-spec =
     (tie.spec
     (λ c κs. search needs)
     (λ c. let r = c .before .before in
-    let a = r .before .before .args in refused (a .class .now) (a .next .now) (a .f .now) (r .run .result) (r .run .ensures) (c .if1 .taken))
+    let a = r .before .before .before .args in refused (a .class .now) (a .next .now) (a .f .now) (r .run .result) (r .run .ensures) (c .if1 .taken))
     (λ c κs. search needs)
     (λ c κs. search needs)
     (λ c κs. search needs)
     (λ c κs. search needs)
     (λ c. let t = c .before .before .before .before in
     let r = t .before .before in
-    let a = r .before .before .args in
+    let a = r .before .before .before .args in
     read (a .class .now) (a .next .now) (a .f .now) (r .run .result) (r .run .ensures) (t .if1 .left)
     (rw (← c .before .before .before .byte-at .ensures, ← c .before .before .byte-at2 .ensures, ← c .before .byte-at3 .ensures) (c .command-of .ensures))))
