@@ -27,6 +27,7 @@ use Rattle.effect_modes.specs.Modes.{toMode, atLevel}
 use Rattle.effect.specs.Obey.{Obeys, core}
 use Rattle.record.specs.declared.Record.{Record}
 use Rattle.answer.specs.Answers.{answerBytes, isSilence, countAfter, bufferAfter as saidAfter, heads}
+use Rattle.sister_answer.specs.Told.{toldBytes}
 use Rattle.hook.specs.Hook.{hooked}
 use Rattle.hook.specs.Hook as Hooks
 use Rattle.stream_places.specs.Places.{emptied}
@@ -135,6 +136,8 @@ use Rattle.answer.proofs.say as Say
 use Rattle.answer.proofs.say.Reads as SayReads
 use Rattle.answer.proofs.count as Count
 use Rattle.answer.proofs.count.Reads as CountReads
+use Rattle.sister_answer.proofs.tell as Tell
+use Rattle.sister_answer.proofs.tell.Reads as TellReads
 use Rattle.hook.proofs.hook_lent as HookLent
 use Rattle.hook.proofs.hook_lent.Reads as HookLentReads
 use Rattle.hook.proofs.hook as HookCall
@@ -476,6 +479,12 @@ say-says κs a q e w = (refl, refl)
 -- answer::count
 pub count-says : Says Count.ended CountReads.requires CountReads.ensures (λ κs a q e. q ≡ heads (now (a .0)))
 count-says κs a q e w = (refl, refl)
+
+-- sister_answer::tell
+pub tell-says : SaysBoth Tell.ended TellReads.requires TellReads.ensures
+    (λ κs a q e. q ≡ countAfter (now (a .0)) (a .1 .0) (toldBytes (a .1 .1 .0)))
+    (λ κs a q e. now (e .0) ≡ saidAfter (now (a .0)) (a .1 .0) (toldBytes (a .1 .1 .0)))
+tell-says κs a q e w = (refl, refl)
 
 -- hook::hook_lent
 pub hook-lent-says : Says HookLent.ended HookLentReads.requires HookLentReads.ensures (λ κs a q e. q ≡ Hooks.lentOf (hooked (together (a .0) (now (a .1 .0)) (now (a .1 .1 .0)) (now (a .1 .1 .1 .0))) (a .1 .1 .1 .1 .0)))

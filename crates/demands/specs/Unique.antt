@@ -92,6 +92,8 @@ use Rattle.answer.proofs.say as Say
 use Rattle.answer.proofs.say.Reads as SayReads
 use Rattle.answer.proofs.count as Count
 use Rattle.answer.proofs.count.Reads as CountReads
+use Rattle.sister_answer.proofs.tell as Tell
+use Rattle.sister_answer.proofs.tell.Reads as TellReads
 use Rattle.hook.proofs.hook_lent as HookLent
 use Rattle.hook.proofs.hook_lent.Reads as HookLentReads
 use Rattle.hook.proofs.hook as HookCall
@@ -401,6 +403,10 @@ say-one = equal-and-left Say.ended _ _ _ _
 -- answer::count
 pub count-one : OneResult Count.ended CountReads.Learnt
 count-one = equal Count.ended _
+
+-- sister_answer::tell
+pub tell-one : OneEnd Tell.ended (List ℕ) TellReads.Learnt (λ κs e. now (e .0))
+tell-one = equal-and-left Tell.ended _ _ _ _
 
 -- hook::hook_lent
 pub hook-lent-one : OneResult HookLent.ended HookLentReads.Learnt
