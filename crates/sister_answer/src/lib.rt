@@ -53,6 +53,7 @@ fn opened(letters: &[u8]) -> Line
     add(add(add(empty(), &[ESCAPE]), letters), b": ")
 }
 
+// No value of signs is longer than the version.
 fn with_signs(letters: &[u8], signs: &[u8]) -> Line
     requires { ⌜ length (now letters) ≤ 3 ⌝ }
     requires { ⌜ length (now signs) ≤ 24 ⌝ }
@@ -87,6 +88,7 @@ fn with_either(letters: &[u8], test: bool, one: u8, other: u8) -> Line
     with_signs(letters, &[other])
 }
 
+// A line has room for every answer, so that what is built in it is the whole answer.
 fn line_of(told: Told) -> Line
     ensures { λ r. ⌜ r ≡ added emptyLine (toldBytes told) ⌝ }
 {
