@@ -42,9 +42,9 @@ const KEYS: usize = 19;
 const LAST_KEY: u8 = 18;
 
 // Edge bytes: a key's number is its press, 128 more its release, and 255 a poll.
-const RELEASES: u8 = 128;
+pub const RELEASES: u8 = 128;
 
-const POLL: u8 = 255;
+pub const POLL: u8 = 255;
 
 // Which of a key's codes: a column of the table.
 pub enum Stage {
@@ -136,8 +136,9 @@ fn nothing(held: Held, light: Backlight) -> Keyed
     }
 }
 
-fn light_up(light: Backlight) -> Backlight
-    ensures { λ b. ⌜ b ≡ lit light ⌝ }
+// The seconds that a press starts anew, in auto.
+pub fn light_up(light: Backlight) -> Backlight
+    ensures same { λ b. ⌜ b ≡ lit light ⌝ }
 {
     if light.mode == AUTO {
         let duration = light.duration;
@@ -169,8 +170,8 @@ fn press(held: Held, light: Backlight, now: u16, key: u8) -> Keyed
 }
 
 // Whether the held key has been held at least as long as the time.
-fn over(time: Tenths, now: u16, held: Tick) -> bool
-    ensures { λ b. ⌜ b ≡ overOf time now (held .0) ⌝ }
+pub fn over(time: Tenths, now: u16, held: Tick) -> bool
+    ensures same { λ b. ⌜ b ≡ overOf time now (held .0) ⌝ }
 {
     in_ticks(time) <= elapsed(now, held)
 }
