@@ -37,7 +37,8 @@ use Rattle.stream.specs.Stream.{lentOf, fedOf, answersAfter}
 use Rattle.parting.specs.Count.{escapes}
 use Rattle.answer_room.specs.Needed.{roomNeeded}
 use Rattle.lists.specs.Every.{every}
-use Rattle.key_entry.specs.Rules.{listed, keyed}
+use Rattle.key_entry.specs.Rules.{listed, lit, over, keyed}
+use Rattle.sister_entry.specs.Rules as Sister
 use Rattle.key_log.specs.Log.{Outcome, outcome, handedBack, lentOf as loggedLent, bufferAfter}
 use Rattle.seconds.specs.Seconds.{passed, lightPassed}
 use Rattle.seconds.specs.Seconds as Seconds
@@ -162,8 +163,16 @@ use Rattle.choice.proofs.check as CheckChoice
 use Rattle.choice.proofs.check.Reads as CheckChoiceReads
 use Rattle.key_entry.proofs.all_listed as AllListed
 use Rattle.key_entry.proofs.all_listed.Reads as AllListedReads
+use Rattle.key_entry.proofs.light_up as LightUp
+use Rattle.key_entry.proofs.light_up.Reads as LightUpReads
+use Rattle.key_entry.proofs.over as OverTime
+use Rattle.key_entry.proofs.over.Reads as OverTimeReads
 use Rattle.key_entry.proofs.take_entry as TakeEntry
 use Rattle.key_entry.proofs.take_entry.Reads as TakeEntryReads
+use Rattle.sister_entry.proofs.all_listed as SisterListed
+use Rattle.sister_entry.proofs.all_listed.Reads as SisterListedReads
+use Rattle.sister_entry.proofs.take_entry as SisterEntry
+use Rattle.sister_entry.proofs.take_entry.Reads as SisterEntryReads
 use Rattle.key_log.proofs.take_log_lent as TakeLogLent
 use Rattle.key_log.proofs.take_log_lent.Reads as TakeLogLentReads
 use Rattle.key_log.proofs.take_log as TakeLog
@@ -547,9 +556,26 @@ check-choice-says κs a q e w = (refl, refl)
 pub all-listed-says : Says AllListed.ended AllListedReads.requires AllListedReads.ensures (λ κs a q e. q ≡ every listed (now (a .0)))
 all-listed-says κs a q e w = (refl, refl)
 
+-- key_entry::light_up
+pub light-up-says : Says LightUp.ended LightUpReads.requires LightUpReads.ensures (λ κs a q e. q ≡ lit (a .0))
+light-up-says κs a q e w = (refl, refl)
+
+-- key_entry::over
+pub over-says : Says OverTime.ended OverTimeReads.requires OverTimeReads.ensures (λ κs a q e. q ≡ over (a .0) (a .1 .0) (a .1 .1 .0 .0))
+over-says κs a q e w = (refl, refl)
+
 -- key_entry::take_entry
 pub take-entry-says : Says TakeEntry.ended TakeEntryReads.requires TakeEntryReads.ensures (λ κs a q e. q ≡ keyed (a .0) (a .1 .0) (a .1 .1 .0) (a .1 .1 .1 .0) (a .1 .1 .1 .1 .0))
 take-entry-says κs a q e w = (refl, refl)
+
+-- sister_entry::all_listed
+pub sister-listed-says : Says SisterListed.ended SisterListedReads.requires SisterListedReads.ensures (λ κs a q e. q ≡ every Sister.listed (now (a .0)))
+sister-listed-says κs a q e w = (refl, refl)
+
+-- sister_entry::take_entry
+pub sister-entry-says : Says SisterEntry.ended SisterEntryReads.requires SisterEntryReads.ensures
+    (λ κs a q e. q ≡ Sister.keyed (a .0) (a .1 .0) (a .1 .1 .0) (a .1 .1 .1 .0) (a .1 .1 .1 .1 .0) (a .1 .1 .1 .1 .1 .0) (a .1 .1 .1 .1 .1 .1 .0))
+sister-entry-says κs a q e w = (refl, refl)
 
 -- key_log::take_log_lent: the same call, of the record that the small fields and the lent arrays make
 abbrev logged : (κs : Lfts (TakeLogLent.ended .signature .lifetimes)) → ArgsD (TakeLogLent.ended .signature) κs → Outcome

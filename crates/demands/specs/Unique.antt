@@ -118,8 +118,16 @@ use Rattle.choice.proofs.check as CheckChoice
 use Rattle.choice.proofs.check.Reads as CheckChoiceReads
 use Rattle.key_entry.proofs.all_listed as AllListed
 use Rattle.key_entry.proofs.all_listed.Reads as AllListedReads
+use Rattle.key_entry.proofs.light_up as LightUp
+use Rattle.key_entry.proofs.light_up.Reads as LightUpReads
+use Rattle.key_entry.proofs.over as OverTime
+use Rattle.key_entry.proofs.over.Reads as OverTimeReads
 use Rattle.key_entry.proofs.take_entry as TakeEntry
 use Rattle.key_entry.proofs.take_entry.Reads as TakeEntryReads
+use Rattle.sister_entry.proofs.all_listed as SisterListed
+use Rattle.sister_entry.proofs.all_listed.Reads as SisterListedReads
+use Rattle.sister_entry.proofs.take_entry as SisterEntry
+use Rattle.sister_entry.proofs.take_entry.Reads as SisterEntryReads
 use Rattle.key_log.proofs.take_log_lent as TakeLogLent
 use Rattle.key_log.proofs.take_log_lent.Reads as TakeLogLentReads
 use Rattle.key_log.proofs.take_log as TakeLog
@@ -459,9 +467,25 @@ check-choice-one = equal CheckChoice.ended _
 pub all-listed-one : OneResult AllListed.ended AllListedReads.Learnt
 all-listed-one = equal AllListed.ended _
 
+-- key_entry::light_up
+pub light-up-one : OneResult LightUp.ended LightUpReads.Learnt
+light-up-one = equal LightUp.ended _
+
+-- key_entry::over
+pub over-one : OneResult OverTime.ended OverTimeReads.Learnt
+over-one = equal OverTime.ended _
+
 -- key_entry::take_entry
 pub take-entry-one : OneResult TakeEntry.ended TakeEntryReads.Learnt
 take-entry-one = equal TakeEntry.ended _
+
+-- sister_entry::all_listed
+pub sister-listed-one : OneResult SisterListed.ended SisterListedReads.Learnt
+sister-listed-one = equal SisterListed.ended _
+
+-- sister_entry::take_entry
+pub sister-entry-one : OneResult SisterEntry.ended SisterEntryReads.Learnt
+sister-entry-one = equal SisterEntry.ended _
 
 -- key_log::take_log_lent
 pub take-log-lent-one : OneEnd TakeLogLent.ended (List ℕ) TakeLogLentReads.Learnt (λ κs e. now (e .1 .1 .1 .1 .1 .1 .0))

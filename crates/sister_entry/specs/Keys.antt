@@ -35,7 +35,7 @@ withoutKey down key = cond (isDown down key) (down - bitOf key) down
 
 -- Laws ------------------------------------------------------------------------------------------------------------
 
-low-bit : (key : ℕ) → key ≤ 20 → 2 ^ key < 2 ^ 21
+pub low-bit : (key : ℕ) → key ≤ 20 → 2 ^ key < 2 ^ 21
 low-bit key low = pow-lt {j = 21} (omega arith)
 
 -- The bit of a key, shifted to its place, does not run over.

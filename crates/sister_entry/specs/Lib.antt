@@ -1,2 +1,4 @@
 pub mod Keys
 pub mod Rules
+pub mod Cases
+pub mod Ranges
