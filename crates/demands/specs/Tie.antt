@@ -169,8 +169,6 @@ use Rattle.key_entry.proofs.over as OverTime
 use Rattle.key_entry.proofs.over.Reads as OverTimeReads
 use Rattle.key_entry.proofs.take_entry as TakeEntry
 use Rattle.key_entry.proofs.take_entry.Reads as TakeEntryReads
-use Rattle.sister_entry.proofs.all_listed as SisterListed
-use Rattle.sister_entry.proofs.all_listed.Reads as SisterListedReads
 use Rattle.sister_entry.proofs.take_entry as SisterEntry
 use Rattle.sister_entry.proofs.take_entry.Reads as SisterEntryReads
 use Rattle.key_log.proofs.take_log_lent as TakeLogLent
@@ -567,10 +565,6 @@ over-says κs a q e w = (refl, refl)
 -- key_entry::take_entry
 pub take-entry-says : Says TakeEntry.ended TakeEntryReads.requires TakeEntryReads.ensures (λ κs a q e. q ≡ keyed (a .0) (a .1 .0) (a .1 .1 .0) (a .1 .1 .1 .0) (a .1 .1 .1 .1 .0))
 take-entry-says κs a q e w = (refl, refl)
-
--- sister_entry::all_listed
-pub sister-listed-says : Says SisterListed.ended SisterListedReads.requires SisterListedReads.ensures (λ κs a q e. q ≡ every Sister.listed (now (a .0)))
-sister-listed-says κs a q e w = (refl, refl)
 
 -- sister_entry::take_entry
 pub sister-entry-says : Says SisterEntry.ended SisterEntryReads.requires SisterEntryReads.ensures

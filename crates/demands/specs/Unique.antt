@@ -124,8 +124,6 @@ use Rattle.key_entry.proofs.over as OverTime
 use Rattle.key_entry.proofs.over.Reads as OverTimeReads
 use Rattle.key_entry.proofs.take_entry as TakeEntry
 use Rattle.key_entry.proofs.take_entry.Reads as TakeEntryReads
-use Rattle.sister_entry.proofs.all_listed as SisterListed
-use Rattle.sister_entry.proofs.all_listed.Reads as SisterListedReads
 use Rattle.sister_entry.proofs.take_entry as SisterEntry
 use Rattle.sister_entry.proofs.take_entry.Reads as SisterEntryReads
 use Rattle.key_log.proofs.take_log_lent as TakeLogLent
@@ -478,10 +476,6 @@ over-one = equal OverTime.ended _
 -- key_entry::take_entry
 pub take-entry-one : OneResult TakeEntry.ended TakeEntryReads.Learnt
 take-entry-one = equal TakeEntry.ended _
-
--- sister_entry::all_listed
-pub sister-listed-one : OneResult SisterListed.ended SisterListedReads.Learnt
-sister-listed-one = equal SisterListed.ended _
 
 -- sister_entry::take_entry
 pub sister-entry-one : OneResult SisterEntry.ended SisterEntryReads.Learnt

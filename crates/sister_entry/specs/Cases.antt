@@ -12,7 +12,7 @@ use Rattle.sister_entry.specs.declared.SisterKeyed.{SisterKeyed}
 use Rattle.sister_entry.specs.declared.Message.{Message}
 use Rattle.sister_entry.specs.declared.Message.the-variants.{None, False, Event}
 use Rattle.sister_entry.specs.Keys.{bitOf, isDown, withKey, withoutKey}
-use Rattle.sister_entry.specs.Rules.{signOf, listed, before, noneDown, heldSince, falseWith, started, pressedBeside, keyPressed, leftDown, keyReleased, due, polled, lifted, putBack, pttPressed, pttReleased, pressed, released, entered, keyed}
+use Rattle.sister_entry.specs.Rules.{signOf, listed, before, noneDown, heldSince, falseWith, started, pressedBeside, keyPressed, leftDown, keyReleased, due, longSince, polled, lifted, putBack, pttPressed, pttReleased, pressed, released, entered, keyed}
 
 -- a log: tick and edge of each entry
 abbrev pub Log : Type 0
@@ -119,5 +119,5 @@ pub cases :
     (map (λ (c : List ℕ × List ℕ). c .0) messages ≡ map (λ (c : List ℕ × List ℕ). c .1) messages)
     × (map (λ (c : SisterKeyed × SisterKeyed). c .0) states ≡ map (λ (c : SisterKeyed × SisterKeyed). c .1) states)
     × (map (λ (c : Bool × Bool). c .0) edges ≡ map (λ (c : Bool × Bool). c .1) edges)
-unfolding elapsed bitOf isDown withKey withoutKey signOf started pressedBeside keyPressed leftDown keyReleased due polled lifted putBack pttPressed pttReleased pressed released entered
+unfolding elapsed bitOf isDown withKey withoutKey signOf started pressedBeside keyPressed leftDown keyReleased due longSince polled lifted putBack pttPressed pttReleased pressed released entered
 cases = (refl, refl, refl)

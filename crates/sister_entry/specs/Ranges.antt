@@ -18,7 +18,7 @@ use Rattle.key_entry.specs.Rules.{releases, isPoll, lit}
 use Rattle.sister_entry.specs.declared.SisterKeyed.{SisterKeyed}
 use Rattle.sister_entry.specs.declared.Message.{Message}
 use Rattle.sister_entry.specs.Keys.{isKey, noKeys, bitOf, isDown, withKey, withoutKey, low-bit}
-use Rattle.sister_entry.specs.Rules.{hookNumber, isPress, isRelease, before, stageShort, stageLong, stageFalse, stageNone, heldSince, falseWith, isHeld, withKeys, withHook, withPtt, started, pressedBeside, keyPressed, leftDown, keyReleased, due, polled, lifted, putBack, pttPressed, pttReleased, pressed, released, entered, keyed}
+use Rattle.sister_entry.specs.Rules.{hookNumber, isPress, isRelease, before, stageShort, stageLong, stageFalse, stageNone, heldSince, falseWith, isHeld, withKeys, withHook, withPtt, started, pressedBeside, keyPressed, leftDown, keyReleased, due, longSince, polled, lifted, putBack, pttPressed, pttReleased, pressed, released, entered, keyed}
 
 -- Sets of keys ----------------------------------------------------------------------------------------------------
 
@@ -101,7 +101,7 @@ pub one-of-five : (P : SisterKeyed → Type 0) (was : SisterKeyed) (times : Time
     → ((hook : Bool) (message : Message) → P (withHook was hook message))
     → ((ptt : Bool) (message : Message) → P (withPtt was ptt message))
     → (edge : ℕ) → P (entered was times now edge)
-unfolding entered pressed released keyPressed pressedBeside keyReleased polled lifted putBack pttPressed pttReleased
+unfolding entered pressed released keyPressed pressedBeside keyReleased longSince polled lifted putBack pttPressed pttReleased
 one-of-five P was times now same start keys hook ptt edge =
     either-way P (isPress edge) (λ press. pressing edge)
     (λ other.

@@ -135,13 +135,15 @@ keyReleased was key =
 unfoldable pub due : Tenths → ℕ → ℕ → Bool
 due time now held = not (eqb (time .0) 0) && over time now held
 
+-- the held key is long, tick now, and this is sent of it
+unfoldable pub longSince : SisterKeyed → ℕ → ℕ → SisterKeyed
+longSince was now event = withKeys was (heldSince stageLong (was .keys .key) now) (Event (signOf (was .keys .key)) event)
+
 -- poll: short, and Time1 is due: l, long, tick now; long, and Time2 is due: r, tick now; else nothing
 unfoldable pub polled : SisterKeyed → Times → ℕ → SisterKeyed
 polled was times now =
-    cond (eqb (was .keys .stage) stageShort && due (times .time1) now (was .keys .tick .0))
-    (withKeys was (heldSince stageLong (was .keys .key) now) (Event (signOf (was .keys .key)) long))
-    (cond (eqb (was .keys .stage) stageLong && due (times .time2) now (was .keys .tick .0))
-    (withKeys was (heldSince stageLong (was .keys .key) now) (Event (signOf (was .keys .key)) again))
+    cond (eqb (was .keys .stage) stageShort && due (times .time1) now (was .keys .tick .0)) (longSince was now long)
+    (cond (eqb (was .keys .stage) stageLong && due (times .time2) now (was .keys .tick .0)) (longSince was now again)
     was)
 
 -- HOOK, on a change alone: its press lifts it, s; its release puts it back on-hook, e. No seconds

@@ -1,9 +1,8 @@
 // One entry of the sister handset's key log: a press, a release or a poll at a tick reading, and the message it sends to the host.
 // The rules are request T-06's, in specs/Rules.antt; the set of keys that are down is specs/Keys.antt.
 ghost use mathlib.Core.Path.{_≡_};
-ghost use Rattle.lists.specs.Every.{every};
 ghost use Rattle.sister_entry.specs.Keys.{bitOf, isDown, withKey, withoutKey};
-ghost use Rattle.sister_entry.specs.Rules.{isRelease, listed, signOf, isHeld, started, pressedBeside, keyPressed, leftDown, keyReleased, due as dueOf, polled, lifted, putBack, pttPressed, pttReleased, pressed, released, entered, keyed};
+ghost use Rattle.sister_entry.specs.Rules.{isRelease, signOf, isHeld, started, pressedBeside, keyPressed, leftDown, keyReleased, due as dueOf, longSince, polled, lifted, putBack, pttPressed, pttReleased, pressed, released, entered, keyed};
 use key_entry::POLL;
 use key_entry::RELEASES;
 use record::Backlight;
@@ -68,26 +67,6 @@ fn is_release(edge: u8) -> bool
         return false;
     }
     edge - RELEASES <= PTT
-}
-
-fn is_listed(edge: u8) -> bool
-    ensures { λ b. ⌜ b ≡ listed edge ⌝ }
-{
-    let release = is_release(edge);
-    (edge <= PTT) | release | (edge == POLL)
-}
-
-// It looks at the whole log, also past the place where the room for messages would end.
-pub fn all_listed(edges: &[u8]) -> bool
-    ensures same { λ b. ⌜ b ≡ every listed (now (edges .entry)) ⌝ }
-{
-    let mut ok = true;
-    let mut i = 0;
-    while i < edges.len() {
-        ok = ok & is_listed(edges[i]);
-        i += 1;
-    }
-    ok
 }
 
 // A record out of range can hold a key without a sign.
@@ -248,36 +227,34 @@ fn due(time: Tenths, now: u16, held: Tick) -> bool
     (time.0 != 0) & over
 }
 
-fn poll(was: SisterKeyed, times: Times, now: u16) -> SisterKeyed
-    ensures { λ k. ⌜ k ≡ polled was times now ⌝ }
+// The held key is long from now on.
+fn long_since(was: SisterKeyed, now: u16, event: u8) -> SisterKeyed
+    ensures { λ k. ⌜ k ≡ longSince was now event ⌝ }
 {
     let key = was.keys.key;
     let sign = sign_of(key);
+    SisterKeyed {
+        keys: Keys {
+            stage: STAGE_LONG,
+            key: key,
+            tick: Tick(now),
+            down: 0,
+        },
+        message: Message::Event(sign, event),
+        ..was
+    }
+}
+
+fn poll(was: SisterKeyed, times: Times, now: u16) -> SisterKeyed
+    ensures { λ k. ⌜ k ≡ polled was times now ⌝ }
+{
     let first = due(times.time1, now, was.keys.tick);
     if (was.keys.stage == STAGE_SHORT) & first {
-        return SisterKeyed {
-            keys: Keys {
-                stage: STAGE_LONG,
-                key: key,
-                tick: Tick(now),
-                down: 0,
-            },
-            message: Message::Event(sign, LONG),
-            ..was
-        };
+        return long_since(was, now, LONG);
     }
     let next = due(times.time2, now, was.keys.tick);
     if (was.keys.stage == STAGE_LONG) & next {
-        return SisterKeyed {
-            keys: Keys {
-                stage: STAGE_LONG,
-                key: key,
-                tick: Tick(now),
-                down: 0,
-            },
-            message: Message::Event(sign, AGAIN),
-            ..was
-        };
+        return long_since(was, now, AGAIN);
     }
     was
 }
