@@ -3,23 +3,14 @@
 use Prim.Native.Nat.{ℕ}
 use mathlib.Core.Bool.{Bool, not}
 use mathlib.Core.List.{List}
-use mathlib.Core.Option.{Option, none, some}
-use mathlib.Core.Path.{_≡_, refl, _∙_}
-use lib.Dec.{ltb}
+use mathlib.Core.Path.{_≡_, refl}
 use lib.ListN.{length}
 use Rattle.lists.specs.Tests.{either-way}
 use Rattle.record.specs.declared.Record.{Record}
-use Rattle.record.specs.Range.{inRange, rowEndOf}
-use Rattle.record.specs.Core.{Core, coreOf}
-use Rattle.command.specs.Order.{Order}
-use Rattle.command.specs.Reading.{orderOf}
-use Rattle.effect.specs.Effect.{storeText}
-use Rattle.effect.specs.Obey.{obeyOrder}
-use Rattle.effect.specs.Untouched.{edition-stays}
-use Rattle.parting.specs.Kept.{Keeps, run-keeps}
-use Rattle.stream.specs.Stream.{handset, stateOf, fedOf, fedBy, refused}
+use Rattle.record.specs.Range.{inRange}
+use Rattle.stream.specs.Stream.{fedOf}
 use Rattle.stream.specs.declared.Fed.{Fed}
-use Rattle.stream.specs.Demand.{fedBack, state-in-range}
+use Rattle.stream.specs.Demand.{fedBack, run-stays}
 use Rattle.key_entry.specs.Rules.{step}
 use Rattle.key_log.specs.Log.{outcome, handedBack}
 use Rattle.key_log.specs.Laws.{log-keeps}
@@ -36,22 +27,11 @@ pub record EditionStays : Type 0 where
 
 -- The proof ---------------------------------------------------------------------------------------------------------
 
-stored-stays : (c : Core) (b : ℕ) → storeText c b .edition .sister ≡ c .edition .sister
-unfolding storeText
-stored-stays c b = either-way (λ (d : Core). d .edition .sister ≡ c .edition .sister) (ltb (c .settings .screen .column) (rowEndOf (c .settings .screen .mode))) (λ e. refl) (λ e. refl)
-
-obeyed-stays : (c : Core) (found : Option Order) → obeyOrder c found .edition .sister ≡ c .edition .sister
-obeyed-stays c none = refl
-obeyed-stays c (some o) = edition-stays o c
-
-keeps : (sister : Bool) → Keeps handset (λ (c : Core). c .edition .sister ≡ sister)
-keeps sister = record { stored = λ core b l h. stored-stays core b ∙ h; obeyed = λ core body p l h. obeyed-stays core (orderOf body) ∙ h }
-
 fed-stays : (r : Record) (bytes : List ℕ) (room : ℕ) → fedOf r bytes room .record .edition .sister ≡ r .edition .sister
 unfolding fedOf
 fed-stays r bytes room =
     either-way (λ (f : Fed). f .record .edition .sister ≡ r .edition .sister) (inRange r)
-    (λ good. run-keeps handset (λ (c : Core). c .edition .sister ≡ r .edition .sister) (keeps (r .edition .sister)) (stateOf r) bytes room (record { holds = refl; frame = state-in-range r good .frame }) .holds)
+    (λ good. run-stays r bytes room good)
     (λ bad. refl)
 
 log-stays : (r : Record) (ticks edges : List ℕ) (room : ℕ) → outcome r ticks edges room .ran .state .edition .sister ≡ r .edition .sister

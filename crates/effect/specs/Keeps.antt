@@ -23,10 +23,12 @@ use Rattle.record.specs.declared.Backlight.{Backlight}
 use Rattle.record.specs.declared.Label.{Label}
 use Rattle.record.specs.declared.Held.{Held}
 use Rattle.record.specs.declared.Frame.{Frame}
-use Rattle.record.specs.Laws.{SettingsRanges, EditionRanges, Ranges, screen-set, shown-set, labels-set, icons-set, volume-set, times-set, buzzer-set, backlight-set, contrast-set, inverse-set}
-use Rattle.record.specs.Range.{large, rowsOf, rowEndOf, lineStart, rowStartOf, isCode, isLowColumn, isUnused, modeInRange, overlayInRange, cursorInRange, textInRange, labelInRange, pictureInRange, iconSInRange, iconUInRange, iconFInRange, iconRInRange, iconPInRange, iconWInRange, iconsInRange, whichInRange, levelInRange, volumeInRange, timesInRange, buzzerInRange, durationInRange, backlightInRange, contrastInRange, inverseInRange, heldInRange, frameInRange}
+use Rattle.record.specs.Laws.{SettingsRanges, EditionRanges, Ranges, screen-set, shown-set, labels-set, icons-set, volume-set, times-set, buzzer-set, backlight-set, contrast-set, inverse-set, of-first}
+use Rattle.record.specs.Range.{large, rowsOf, rowEndOf, lineStart, rowStartOf, isCode, isLowColumn, isUnused, modeInRange, overlayInRange, cursorInRange, textInRange, labelInRange, pictureInRange, iconSInRange, iconUInRange, iconFInRange, iconRInRange, iconPInRange, iconWInRange, iconsInRange, whichInRange, levelInRange, volumeInRange, buzzerInRange, durationInRange, backlightInRange, backlightKept, contrastInRange, contrastKept, inverseInRange, heldKept, frameInRange}
 use Rattle.record.specs.With.{withLeft, withRight, withShown, withIconS, withIconU, withIconF, withIconR, withIconP, withIconW, withContrast, withInverse}
 use Rattle.command.specs.Order.{Order, plain, label, draw}
+use Rattle.command.specs.Kind.{sameKind}
+use Rattle.command.specs.declared.Command.{Command}
 use Rattle.command.specs.InRange.{isOverlay, isColumn, rowsNamed, inRangeInMode}
 use Rattle.command.specs.Grammar.{Spells}
 use Rattle.command.specs.Reading.{orderOf}
@@ -42,7 +44,7 @@ use Rattle.effect.specs.Sets.{every-set, every-sets, every-replicate, se
 
 -- The rows of document 01's table that a core has.
 pub record CoreInRange (c : Core) : Type 0 where
-  pub settings : SettingsRanges (c .settings)
+  pub settings : SettingsRanges (c .edition .sister) (c .edition .pwm) (c .settings)
   pub text : textInRange (c .text) ≡ true
   pub picture : pictureInRange (c .picture) ≡ true
   pub edition : EditionRanges (c .edition)
@@ -54,13 +56,13 @@ core-of-record r k = record { settings = k .settings; text = k .text; picture = 
 abbrev pub recordOf : Core → Held → Frame → Record
 recordOf c held frame = record { settings = c .settings; text = c .text; picture = c .picture; held = held; frame = frame; edition = c .edition }
 
-pub record-of-core : (c : Core) (held : Held) (frame : Frame) → CoreInRange c → heldInRange held ≡ true → frameInRange frame ≡ true → Ranges (recordOf c held frame)
+pub record-of-core : (c : Core) (held : Held) (frame : Frame) → CoreInRange c → heldKept (c .edition .sister) held ≡ true → frameInRange frame ≡ true → Ranges (recordOf c held frame)
 record-of-core c held frame k h f = record { settings = k .settings; text = k .text; picture = k .picture; held = h; frame = f; edition = k .edition }
 
 -- One part changed ------------------------------------------------------------------------------------------------
 
 module _ (c : Core) (k : CoreInRange c) where
-  on-settings : {p : Settings} → SettingsRanges p → CoreInRange (onSettings c p)
+  on-settings : {p : Settings} → SettingsRanges (c .edition .sister) (c .edition .pwm) p → CoreInRange (onSettings c p)
   on-settings h = record { settings = h; text = k .text; picture = k .picture; edition = k .edition }
 
   on-screen : (s : Screen) → modeInRange (s .mode) ≡ true → overlayInRange (s .overlay) ≡ true → cursorInRange s ≡ true → CoreInRange (onScreen c s)
@@ -72,7 +74,7 @@ module _ (c : Core) (k : CoreInRange c) where
   on-volume : (v : Volume) → volumeInRange v ≡ true → CoreInRange (onVolume c v)
   on-volume v h = on-settings (volume-set (k .settings) v h)
 
-  on-backlight : (b : Backlight) → backlightInRange b ≡ true → CoreInRange (onBacklight c b)
+  on-backlight : (b : Backlight) → backlightKept (c .edition .sister) (c .edition .pwm) b ≡ true → CoreInRange (onBacklight c b)
   on-backlight b h = on-settings (backlight-set (k .settings) b h)
 
   on-text : (t : List ℕ) → textInRange t ≡ true → CoreInRange (onText c t)
@@ -175,9 +177,12 @@ mute-keeps c n k = cases (eqb n 0)
         on-volume c k _
         (and-both (both {a = whichInRange (c .settings .volume .which) && levelInRange (c .settings .volume .which) (c .settings .volume .level)} (k .settings .volume) .0) (or-true (eqb (c .settings .volume .which) 0)))
 
--- a backlight mode and a duration in range, with no seconds left unless in auto
-light-keeps : (c : Core) (b : Backlight) → CoreInRange c → leb (b .mode) 2 ≡ true → durationInRange (b .duration .0) ≡ true → (eqb (b .left .0) 0 || eqb (b .mode) 2) ≡ true → CoreInRange (onBacklight c b)
-light-keeps c b k m d l = on-backlight c k b (and-both (and-both m d) l)
+-- a backlight mode and a duration in range, with no seconds left unless in auto, in the first edition
+light-keeps : (c : Core) (b : Backlight) → c .edition .sister ≡ false → CoreInRange c → leb (b .mode) 2 ≡ true → durationInRange (b .duration .0) ≡ true → (eqb (b .left .0) 0 || eqb (b .mode) 2) ≡ true → CoreInRange (onBacklight c b)
+light-keeps c b first k m d l = on-backlight c k b (rw first (and-both (and-both m d) l))
+
+bright : (c : Core) → CoreInRange c → backlightInRange (c .settings .backlight) ≡ true
+bright c k = of-first (c .edition .sister) (c .edition .pwm) (c .settings .backlight) (k .settings .backlight)
 
 duration-of : (b : Backlight) → backlightInRange b ≡ true → durationInRange (b .duration .0) ≡ true
 duration-of b h = both {a = leb (b .mode) 2} (both {a = leb (b .mode) 2 && durationInRange (b .duration .0)} h .0) .1
@@ -188,12 +193,12 @@ mode-of b h = both {a = leb (b .mode) 2} {b = durationInRange (b .duration .0)} 
 left-of : (b : Backlight) → backlightInRange b ≡ true → (eqb (b .left .0) 0 || eqb (b .mode) 2) ≡ true
 left-of b h = both {a = leb (b .mode) 2 && durationInRange (b .duration .0)} h .1
 
-number-keeps : (c : Core) (n : ℕ) → CoreInRange c → (eqb n 0 || durationInRange n) ≡ true → CoreInRange (onBacklight c (lightAt (c .settings .backlight) n))
-number-keeps c n k h = cases (eqb n 0) refl
+number-keeps : (c : Core) (n : ℕ) → c .edition .sister ≡ false → CoreInRange c → (eqb n 0 || durationInRange n) ≡ true → CoreInRange (onBacklight c (lightAt (c .settings .backlight) n))
+number-keeps c n first k h = cases (eqb n 0) refl
   where
     cases : (b : Bool) → eqb n 0 ≡ b → CoreInRange (onBacklight c (cond b (record { mode = 0; duration = c .settings .backlight .duration; left = record { 0 = 0 }; keypad = c .settings .backlight .keypad }) (record { mode = c .settings .backlight .mode; duration = record { 0 = n }; left = c .settings .backlight .left; keypad = c .settings .backlight .keypad })))
-    cases true e = light-keeps c _ k refl (duration-of (c .settings .backlight) (k .settings .backlight)) refl
-    cases false e = light-keeps c _ k (mode-of (c .settings .backlight) (k .settings .backlight)) (or-right h e) (left-of (c .settings .backlight) (k .settings .backlight))
+    cases true e = light-keeps c _ first k refl (duration-of (c .settings .backlight) (bright c k)) refl
+    cases false e = light-keeps c _ first k (mode-of (c .settings .backlight) (bright c k)) (or-right h e) (left-of (c .settings .backlight) (bright c k))
 
 -- a mark that a frame can name
 marks-in-range : (mode n : ℕ) → leb n (rowsNamed mode) ≡ true → inverseInRange (marksOf n) ≡ true
@@ -243,18 +248,27 @@ picture-keeps g row columns r l h =
 
 -- Every order -----------------------------------------------------------------------------------------------------
 
--- what the grammar says of an order's label or columns
-abbrev Carries : Order → Type 0
-Carries (plain c) = _≡_ {A = ℕ} 0 0
-Carries (label side t) = LabelText t
-Carries (draw row columns) = PictureRow row columns
+-- the commands whose numbers and modes go by the first edition's ranges: the sister has others in their place
+abbrev pub setsTimesOrLight : Command → Bool
+setsTimesOrLight c =
+    sameKind c (KeyTimes 0 0) || sameKind c (Light 0) || sameKind c LightOn || sameKind c LightAutoStart || sameKind c LightAuto || sameKind c DefaultDuration
 
-carries : (o : Order) (f : List ℕ) → Spells o f → Carries o
-carries (plain c) f s = refl
-carries (label side t) f s = read-label side s
-carries (draw row columns) f s = read-row s
+-- what the grammar of an edition says of an order: of a command that it is no such one of the sister's, of its label, of its columns
+abbrev pub Carries : Bool → Order → Type 0
+Carries sister (plain c) = setsTimesOrLight c ≡ true → sister ≡ false
+Carries sister (label side t) = LabelText t
+Carries sister (draw row columns) = PictureRow row columns
 
-effect-keeps : (o : Order) (c : Core) → Carries o → CoreInRange c → inRangeInMode (c .settings .screen .mode) o ≡ true → CoreInRange (effect o c)
+carries : {sister : Bool} → sister ≡ false → (o : Order) (f : List ℕ) → Spells o f → Carries sister o
+carries first (plain c) f s = λ h. first
+carries first (label side t) f s = read-label side s
+carries first (draw row columns) f s = read-row s
+
+contrast-kept : (sister : Bool) (n : ℕ) → contrastInRange n ≡ true → contrastKept sister n ≡ true
+contrast-kept true n h = both {a = leb 1 n} h .1
+contrast-kept false n h = h
+
+effect-keeps : (o : Order) (c : Core) → Carries (c .edition .sister) o → CoreInRange c → inRangeInMode (c .settings .screen .mode) o ≡ true → CoreInRange (effect o c)
 effect-keeps (plain DisplayOff) c v k h = let s = k .settings .screen in on-screen c k _ (s .mode) (s .overlay) (s .cursor)
 effect-keeps (plain DisplayOn) c v k h = let s = k .settings .screen in on-screen c k _ (s .mode) (s .overlay) (s .cursor)
 effect-keeps (plain (Mode n)) c v k h = mode-keeps c n k h
@@ -278,16 +292,16 @@ effect-keeps (plain (Private n)) c v k h = level-keeps c 1 n k refl refl h
 effect-keeps (plain (Handsfree n)) c v k h = level-keeps c 2 n k refl refl h
 effect-keeps (plain (HandsfreeOfNote n)) c v k h = level-keeps c 2 n k refl refl h
 effect-keeps (plain (Mute n)) c v k h = mute-keeps c n k
-effect-keeps (plain (KeyTimes time1 time2)) c v k h = on-settings c k (times-set (k .settings) _ h)
+effect-keeps (plain (KeyTimes time1 time2)) c v k h = on-settings c k (times-set (k .settings) _ (rw (v refl) h))
 effect-keeps (plain (Buzzer n)) c v k h = on-settings c k (buzzer-set (k .settings) _ h)
-effect-keeps (plain (Light n)) c v k h = number-keeps c n k h
-effect-keeps (plain LightOn) c v k h = light-keeps c _ k refl (duration-of (c .settings .backlight) (k .settings .backlight)) refl
-effect-keeps (plain LightAutoStart) c v k h = light-keeps c _ k refl (duration-of (c .settings .backlight) (k .settings .backlight)) (or-true (eqb (c .settings .backlight .duration .0) 0))
-effect-keeps (plain LightAuto) c v k h = light-keeps c _ k refl (duration-of (c .settings .backlight) (k .settings .backlight)) (or-true (eqb (c .settings .backlight .left .0) 0))
-effect-keeps (plain DefaultDuration) c v k h = light-keeps c _ k (mode-of (c .settings .backlight) (k .settings .backlight)) refl (left-of (c .settings .backlight) (k .settings .backlight))
+effect-keeps (plain (Light n)) c v k h = number-keeps c n (v refl) k h
+effect-keeps (plain LightOn) c v k h = light-keeps c _ (v refl) k refl (duration-of (c .settings .backlight) (bright c k)) refl
+effect-keeps (plain LightAutoStart) c v k h = light-keeps c _ (v refl) k refl (duration-of (c .settings .backlight) (bright c k)) (or-true (eqb (c .settings .backlight .duration .0) 0))
+effect-keeps (plain LightAuto) c v k h = light-keeps c _ (v refl) k refl (duration-of (c .settings .backlight) (bright c k)) (or-true (eqb (c .settings .backlight .left .0) 0))
+effect-keeps (plain DefaultDuration) c v k h = light-keeps c _ (v refl) k (mode-of (c .settings .backlight) (bright c k)) refl (left-of (c .settings .backlight) (bright c k))
 effect-keeps (plain KeypadSet) c v k h = on-backlight c k _ (k .settings .backlight)
 effect-keeps (plain KeypadCleared) c v k h = on-backlight c k _ (k .settings .backlight)
-effect-keeps (plain (Contrast n)) c v k h = on-settings c k (contrast-set (k .settings) n h)
+effect-keeps (plain (Contrast n)) c v k h = on-settings c k (contrast-set (k .settings) n (contrast-kept (c .edition .sister) n h))
 effect-keeps (plain ContrastAsked) c v k h = k
 effect-keeps (plain HookAsked) c v k h = k
 effect-keeps (plain VersionAsked) c v k h = k
@@ -295,7 +309,7 @@ effect-keeps (plain ClearLine) c v k h = on-text c k _ (cleared-in-range (c .set
 effect-keeps (plain (Inverse n)) c v k h = on-settings c k (inverse-set (k .settings) (marksOf n) (marks-in-range (c .settings .screen .mode) n h))
 effect-keeps (draw row columns) c v k h = on-picture c k _ (picture-keeps (c .picture) row columns (leb-true row 6 h) (v .most) (k .picture))
 
-carry-keeps : (o : Order) (c : Core) → Carries o → CoreInRange c → CoreInRange (carryOut o c)
+pub carry-keeps : (o : Order) (c : Core) → Carries (c .edition .sister) o → CoreInRange c → CoreInRange (carryOut o c)
 unfolding carryOut
 carry-keeps o c v k = cases (inRangeInMode (c .settings .screen .mode) o) refl
   where
@@ -309,7 +323,7 @@ obey-keeps c frame k = cases (orderOf frame) refl
   where
     cases : (found : Option Order) → orderOf frame ≡ found → CoreInRange (obeyOrder c found)
     cases none e = k
-    cases (some o) e = carry-keeps o c (carries o frame (sound frame e)) k
+    cases (some o) e = carry-keeps o c (carries (k .edition .first) o frame (sound frame e)) k
 
 text-stored : (t : List ℕ) (i b : ℕ) → textInRange t ≡ true → 0x20 ≤ b → textInRange (set t i b) ≡ true
 unfolding textInRange

@@ -5,6 +5,7 @@ use native.Mathlib.Omega.{arith}
 use mathlib.Core.Bool.{Bool, true, false, cond}
 use mathlib.Core.List.{List, [], _∷_, _++_, map}
 use mathlib.Core.Logic.{_≢_}
+use mathlib.Core.Option.{Option, none, some}
 use mathlib.Core.Path.{_≡_, refl, ap, sym, _∙_}
 use lib.Dec.{eqb, leb, ltb}
 use lib.ListN.{length, getD, length-map}
@@ -20,6 +21,7 @@ use Rattle.command.specs.InRange.{isOverlay, inRangeInMode}
 use Rattle.command.specs.declared.Command.the-variants.{DisplayOff, DisplayOn, Mode, CursorShown, CursorHidden, Clear, Position, LabelsEmpty, IconS, IconU, IconF, IconR, IconP, IconW, Private, Handsfree, HandsfreeOfNote, Mute, KeyTimes, Buzzer, Light, LightOn, LightAutoStart, LightAuto, DefaultDuration, KeypadSet, KeypadCleared, Contrast, ContrastAsked, HookAsked, VersionAsked, ClearLine, Inverse}
 use Rattle.command.specs.declared.Side.the-variants.{Left, Right}
 use Rattle.effect.specs.Effect.{keptIn, drawn, lineCleared, effect, carryOut, storeText}
+use Rattle.effect.specs.Obey.{obeyOrder}
 use Rattle.effect.specs.Sets.{sets-outside}
 use Rattle.effect.specs.Touched.{sets, touches}
 
@@ -106,8 +108,12 @@ one-bit true false e = absurd (omega (arith, ap (λ (l : List ℕ). getD l 0 0) 
 one-bit false true e = absurd (omega (arith, ap (λ (l : List ℕ). getD l 0 0) e))
 one-bit false false e = refl
 
-pub edition-stays : (o : Order) (c : Core) → carryOut o c .edition .sister ≡ c .edition .sister
+edition-stays : (o : Order) (c : Core) → carryOut o c .edition .sister ≡ c .edition .sister
 edition-stays o c = one-bit (carryOut o c .edition .sister) (c .edition .sister) (stays o sister c (beside o [] c .1))
+
+pub obeyed-stays : (c : Core) (found : Option Order) → obeyOrder c found .edition .sister ≡ c .edition .sister
+obeyed-stays c none = refl
+obeyed-stays c (some o) = edition-stays o c
 
 -- An order goes the same way whatever stands in a field that it does not touch.
 pub apart : (o : Order) (f : Field) (v : List ℕ) (c : Core) → touches o f ≡ false → carryOut o (put f v c) ≡ put f v (carryOut o c)

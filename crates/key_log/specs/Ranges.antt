@@ -54,8 +54,9 @@ pub step-in-range : (r : Record) (e : Entry) → inRange r ≡ true → inRange 
 unfolding step
 step-in-range r e good =
     let k : Ranges r = ranges r good in
-    let fine = keyed-fine (r .held) (r .settings .times) (r .settings .backlight) (e .tick) (e .edge) (k .held) (k .settings .backlight) in
-    in-range _ record { settings = backlight-set (k .settings) _ (fine .1); text = k .text; picture = k .picture; held = fine .0; frame = k .frame; edition = k .edition }
+    let first = k .edition .first in
+    let fine = keyed-fine (r .held) (r .settings .times) (r .settings .backlight) (e .tick) (e .edge) (rw first at (k .held)) (rw first at (k .settings .backlight)) in
+    in-range _ record { settings = backlight-set (k .settings) _ (rw first (fine .1)); text = k .text; picture = k .picture; held = rw first (fine .0); frame = k .frame; edition = k .edition }
 
 -- So every log does.
 pub log-in-range : (r : Record) (ticks edges : List ℕ) (room : ℕ) → inRange r ≡ true → inRange (outcome r ticks edges room .ran .state) ≡ true

@@ -194,36 +194,6 @@ frameInRange f =
     eqb (length (f .bytes)) 250 && leb (f .len) 250 && leb (f .state) 2 && (eqb (f .state) 1 || eqb (f .len) 0)
     && every isFrameByte (slice 0 (f .len) (f .bytes)) && every isUnused (slice (f .len) 250 (f .bytes))
 
--- The whole -------------------------------------------------------------------------------------------------------
-
--- the settings but for the labels
-abbrev pub plainInRange : Settings → Bool
-plainInRange p =
-    screenInRange (p .screen)
-    && iconsInRange (p .icons)
-    && volumeInRange (p .volume)
-    && timesInRange (p .times)
-    && buzzerInRange (p .buzzer .0)
-    && backlightInRange (p .backlight)
-    && contrastInRange (p .contrast)
-    && inverseInRange (p .inverse)
-
-abbrev pub settingsInRange : Settings → Bool
-settingsInRange p = plainInRange p && labelInRange (p .left) && labelInRange (p .right)
-
--- What only the sister has is unused in the first edition: zero
-abbrev pub keysUnused : Keys → Bool
-keysUnused k = eqb (k .stage) 0 && eqb (k .key) 0 && eqb (k .tick .0) 0 && eqb (k .down) 0
-
-abbrev pub editionUnused : Edition → Bool
-editionUnused e = eqb (e .brightness) 0 && eqb (e .speaker) 0 && not (e .pwm) && not (e .ptt) && keysUnused (e .keys)
-
--- the first edition's record
-abbrev pub firstInRange : Record → Bool
-firstInRange r =
-    settingsInRange (r .settings) && textInRange (r .text) && pictureInRange (r .picture) && heldInRange (r .held) && frameInRange (r .frame)
-    && editionUnused (r .edition)
-
 -- The sister's ranges where they are not the first edition's -----------------------------------------------------------
 
 -- contrast: 0 to 20
@@ -250,6 +220,13 @@ sisterBacklight b pwm = backlightInRange b && leb (b .duration .0) 250 && leb (b
 abbrev pub heldUnused : Held → Bool
 heldUnused h = not (h .down) && eqb (h .key) 0 && eqb (h .tick .0) 0 && not (h .long)
 
+-- what only she has is unused in the first edition: zero
+abbrev pub keysUnused : Keys → Bool
+keysUnused k = eqb (k .stage) 0 && eqb (k .key) 0 && eqb (k .tick .0) 0 && eqb (k .down) 0
+
+abbrev pub editionUnused : Edition → Bool
+editionUnused e = eqb (e .brightness) 0 && eqb (e .speaker) 0 && not (e .pwm) && not (e .ptt) && keysUnused (e .keys)
+
 -- held keys: none 0; short 1 or long 2 with one key 0-20 and a tick; false 3: one or more of keys 0-20 down, a bit each, which are used in
 -- this state alone
 abbrev pub keysInRange : Keys → Bool
@@ -258,28 +235,46 @@ keysInRange k =
     || ((eqb (k .stage) 1 || eqb (k .stage) 2) && leb (k .key) 20 && eqb (k .down) 0)
     || (eqb (k .stage) 3 && eqb (k .key) 0 && eqb (k .tick .0) 0 && leb 1 (k .down) && ltb (k .down) (2 ^ 21))
 
--- the sister's record: the rest is as in the first edition
-abbrev pub sisterInRange : Record → Bool
-sisterInRange r =
-    screenInRange (r .settings .screen)
-    && iconsInRange (r .settings .icons)
-    && volumeInRange (r .settings .volume)
-    && sisterTimes (r .settings .times)
-    && buzzerInRange (r .settings .buzzer .0)
-    && sisterBacklight (r .settings .backlight) (r .edition .pwm)
-    && sisterContrast (r .settings .contrast)
-    && inverseInRange (r .settings .inverse)
-    && labelInRange (r .settings .left)
-    && labelInRange (r .settings .right)
-    && textInRange (r .text)
-    && pictureInRange (r .picture)
-    && heldUnused (r .held)
-    && frameInRange (r .frame)
-    && brightnessInRange (r .edition .brightness)
-    && speakerInRange (r .edition .speaker)
-    && keysInRange (r .edition .keys)
+-- By the edition ----------------------------------------------------------------------------------------------------
 
--- every field is within its range. Until her frames are read the sister is refused, whatever her fields hold: with them this line is
--- `cond (r .edition .sister) (sisterInRange r) (firstInRange r)`
+abbrev pub timesKept : Bool → Times → Bool
+timesKept sister t = cond sister (sisterTimes t) (timesInRange t)
+
+abbrev pub backlightKept : Bool → Bool → Backlight → Bool
+backlightKept sister pwm b = cond sister (sisterBacklight b pwm) (backlightInRange b)
+
+abbrev pub contrastKept : Bool → ℕ → Bool
+contrastKept sister n = cond sister (sisterContrast n) (contrastInRange n)
+
+abbrev pub heldKept : Bool → Held → Bool
+heldKept sister h = cond sister (heldUnused h) (heldInRange h)
+
+abbrev pub editionKept : Edition → Bool
+editionKept e = cond (e .sister) (brightnessInRange (e .brightness) && speakerInRange (e .speaker) && keysInRange (e .keys)) (editionUnused e)
+
+-- The whole -------------------------------------------------------------------------------------------------------
+
+-- the settings but for the labels
+abbrev pub plainInRange : Bool → Bool → Settings → Bool
+plainInRange sister pwm p =
+    screenInRange (p .screen)
+    && iconsInRange (p .icons)
+    && volumeInRange (p .volume)
+    && timesKept sister (p .times)
+    && buzzerInRange (p .buzzer .0)
+    && backlightKept sister pwm (p .backlight)
+    && contrastKept sister (p .contrast)
+    && inverseInRange (p .inverse)
+
+abbrev pub settingsInRange : Bool → Bool → Settings → Bool
+settingsInRange sister pwm p = plainInRange sister pwm p && labelInRange (p .left) && labelInRange (p .right)
+
+-- every field is within its range in the record's edition
+abbrev pub keptInRange : Record → Bool
+keptInRange r =
+    settingsInRange (r .edition .sister) (r .edition .pwm) (r .settings) && textInRange (r .text) && pictureInRange (r .picture) && heldKept (r .edition .sister) (r .held)
+    && frameInRange (r .frame) && editionKept (r .edition)
+
+-- Until her frames are read the sister is refused, whatever her fields hold
 unfoldable pub inRange : Record → Bool
-inRange r = firstInRange r && not (r .edition .sister)
+inRange r = keptInRange r && not (r .edition .sister)

@@ -4,12 +4,12 @@ use native.Mathlib.Omega.{arith}
 use mathlib.Core.Path.{_≡_, _∙_}
 use mathlib.Core.Bool.{Bool, true, false, _&&_, _||_, or-true, or-false}
 use lib.Dec.{leb, eqb}
-use borrow.Author.Tests.{eqb-true, eq-eqb}
+use borrow.Author.Tests.{eqb-true, eq-eqb, leb-true, le-leb}
 use Rattle.lists.specs.Both.{both, and-both}
 use Rattle.lists.specs.Tests.{by-test}
 use Rattle.record.specs.Number.{paperNumber}
-use Rattle.record.specs.Laws.{ranges, in-range, backlight-set}
-use Rattle.record.specs.Range.{durationInRange, backlightInRange, inRange}
+use Rattle.record.specs.Laws.{ranges, in-range, backlight-set, of-first}
+use Rattle.record.specs.Range.{durationInRange, backlightInRange, backlightKept, inRange}
 use Rattle.record.specs.declared.Backlight.{Backlight}
 use Rattle.record.specs.declared.Record.{Record}
 use Rattle.record.specs.With.{withSettings}
@@ -28,12 +28,23 @@ lowered-in-range b h =
     let parts : ((leb (b .mode) 2 && durationInRange (b .duration .0)) ≡ true) × ((eqb (b .left .0) 0 || eqb (b .mode) 2) ≡ true) = both h in
     and-both (parts .0) (less-in-range (b .left .0) (eqb (b .mode) 2) (parts .1))
 
+-- .. in either edition
+lowered-kept : (sister pwm : Bool) (b : Backlight) → backlightKept sister pwm b ≡ true → backlightKept sister pwm (lowered b) ≡ true
+lowered-kept true pwm b h =
+    let all = both {a = backlightInRange b && leb (b .duration .0) 250 && leb (b .left .0) 250} h in
+    let short = both {a = backlightInRange b && leb (b .duration .0) 250} (all .0) in
+    let long = both {a = backlightInRange b} (short .0) in
+    and-both
+    (and-both (and-both (lowered-in-range b (long .0)) (long .1)) (le-leb (b .left .0 - 1) 250 (omega (arith, leb-true (b .left .0) 250 (short .1)))))
+    (all .1)
+lowered-kept false pwm b h = lowered-in-range b h
+
 -- A record in range is in range a second later.
 pub dimmed-in-range : (r : Record) → inRange r ≡ true → inRange (dimmed r) ≡ true
 dimmed-in-range r h =
     let k = ranges r h in
     in-range (dimmed r)
-    (record { settings = backlight-set (k .settings) _ (lowered-in-range (r .settings .backlight) (k .settings .backlight)); text = k .text; picture = k .picture; held = k .held; frame = k .frame; edition = k .edition })
+    (record { settings = backlight-set (k .settings) _ (lowered-kept (r .edition .sister) (r .edition .pwm) (r .settings .backlight) (k .settings .backlight)); text = k .text; picture = k .picture; held = k .held; frame = k .frame; edition = k .edition })
 
 -- A record in range is a second further, with number 0, and comes back in range.
 pub second-done : (r : Record) → inRange r ≡ true
@@ -60,7 +71,7 @@ second-refused r h = (rw h, rw h)
 pub in-place-agrees : (r : Record) → inRange r ≡ true
     → lightPassed (r .settings .backlight) ≡ record { number = passed r .number; backlight = passed r .after .settings .backlight }
 unfolding lightPassed passed
-in-place-agrees r h = rw (h, ranges r h .settings .backlight)
+in-place-agrees r h = rw (h, of-first (r .edition .sister) (r .edition .pwm) (r .settings .backlight) (ranges r h .settings .backlight))
 
 -- Put together again with the arrays, what a call hands back where they were lent is what it hands back of a record.
 pub lent-back : (r : Record) → record { number = lentOf (passed r) .number; after = withSettings r (lentOf (passed r) .small .settings) } ≡ passed r

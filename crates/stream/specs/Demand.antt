@@ -3,15 +3,20 @@
 use Prim.Native.Nat.{ℕ, suc, _≤_, _<_}
 use mathlib.Core.Logic.{_⊎_}
 use mathlib.Core.Path.{_≡_, refl, sym, ap, _∙_, subst}
-use mathlib.Core.Bool.{true}
+use mathlib.Core.Bool.{Bool, true}
 use mathlib.Core.List.{List, [], _∷_, _++_}
+use lib.Dec.{ltb}
 use lib.ListN.{length, take, drop, replicate, length-replicate}
 use lib.Seq.{take-append-seam}
 use Rattle.record.specs.Number.{numbered}
 use Rattle.record.specs.declared.Held.{Held}
 use Rattle.record.specs.declared.Record.{Record}
 use Rattle.record.specs.Parts.{together}
-use Rattle.record.specs.Range.{inRange}
+use Rattle.record.specs.Range.{rowEndOf, heldKept, inRange}
+use Rattle.lists.specs.Tests.{either-way}
+use Rattle.command.specs.Reading.{orderOf}
+use Rattle.effect.specs.Effect.{storeText}
+use Rattle.effect.specs.Untouched.{obeyed-stays}
 use Rattle.record.specs.Laws.{ranges, in-range}
 use Rattle.turns.specs.Room.{Ran, Stops, run-stops, only-one}
 use Rattle.turns.specs.Taking.{Taken}
@@ -126,6 +131,18 @@ state-in-range r h = record { holds = core-of-record r (ranges r h); frame = fra
 pub handset-keeps : Keeps handset CoreInRange
 handset-keeps = record { stored = λ core b l h. store-keeps core b h l; obeyed = λ core body p l h. obey-keeps core body h }
 
+-- .. and its edition.
+stored-stays : (c : Core) (b : ℕ) → storeText c b .edition .sister ≡ c .edition .sister
+unfolding storeText
+stored-stays c b = either-way (λ (d : Core). d .edition .sister ≡ c .edition .sister) (ltb (c .settings .screen .column) (rowEndOf (c .settings .screen .mode))) (λ e. refl) (λ e. refl)
+
+pub edition-kept : (sister : Bool) → Keeps handset (λ (c : Core). c .edition .sister ≡ sister)
+edition-kept sister = record { stored = λ core b l h. stored-stays core b ∙ h; obeyed = λ core body p l h. obeyed-stays core (orderOf body) ∙ h }
+
+pub run-stays : (r : Record) (bytes : List ℕ) (room : ℕ) → inRange r ≡ true → run handset (stateOf r) bytes room .state .core .edition .sister ≡ r .edition .sister
+run-stays r bytes room h =
+    run-keeps handset (λ (c : Core). c .edition .sister ≡ r .edition .sister) (edition-kept (r .edition .sister)) (stateOf r) bytes room (record { holds = refl; frame = state-in-range r h .frame }) .holds
+
 -- A record in range, taken apart and put together again, is itself; a state too.
 pub record-same : (r : Record) → inRange r ≡ true → recordOf (r .held) (stateOf r) ≡ r
 record-same r h = λ j. record { settings = r .settings; text = r .text; picture = r .picture; held = r .held; frame = frame-same (r .frame) (ranges r h .frame) j; edition = r .edition }
@@ -139,7 +156,7 @@ unfolding fedOf
 fed-in-range r bytes room h =
     let ran = run handset (stateOf r) bytes room in
     let kept = run-keeps handset CoreInRange handset-keeps (stateOf r) bytes room (state-in-range r h) in
-    rw h (in-range (fedBy (r .held) ran .record) (record-of-core (ran .state .core) (r .held) (keptFrame (ran .state .frame)) (kept .holds) (ranges r h .held) (frame-kept (ran .state .frame) (kept .frame))))
+    rw h (in-range (fedBy (r .held) ran .record) (record-of-core (ran .state .core) (r .held) (keptFrame (ran .state .frame)) (kept .holds) (subst (λ (sister : Bool). heldKept sister (r .held) ≡ true) (sym (run-stays r bytes room h)) (ranges r h .held)) (frame-kept (ran .state .frame) (kept .frame))))
 
 fed-held : (r : Record) (bytes : List ℕ) (room : ℕ) → inRange r ≡ true → fedOf r bytes room .record .held ≡ r .held
 unfolding fedOf

@@ -1,6 +1,6 @@
 -- `record_ranges::in_range_lent` keeps its promise. Assumes nothing.
 use mathlib.Core.Path.{sym, _∙_}
-use mathlib.Core.Bool.{_&&_}
+use mathlib.Core.Bool.{false, _&&_}
 use Rattle.record.specs.Parts.{together}
 use Rattle.record_small_ranges.specs.Small.{small-and-arrays}
 use Rattle.record_ranges.specs.Editions.{first-asked, other-refused}
@@ -28,6 +28,6 @@ in-range-lent-spec = tie.close (tie.spec
     && c .before .picture-in-range .ensures i
     && c .frame-in-range .ensures i
     )
-    ∙ small-and-arrays r ∙ first-asked r (sym (c .before .before .before .before .before .before .before .before .is-first .ensures) ∙ c .before .before .before .before .before .before .before .if1 .taken))
+    ∙ small-and-arrays false false r ∙ first-asked r (sym (c .before .before .before .before .before .before .before .before .is-first .ensures) ∙ c .before .before .before .before .before .before .before .if1 .taken))
     (λ c. let a = c .before .before .args in
     other-refused (together (a .small) (a .text .now) (a .picture .now) (a .frame .now)) (sym (c .before .is-first .ensures) ∙ c .if1 .left)))
