@@ -65,6 +65,7 @@ struct proved_column {
 
 struct handset_small proved_power_on(uint8_t text[104], uint8_t picture[672], uint8_t frame[250]);
 struct handset_small proved_power_on_former(uint8_t text[104], uint8_t picture[672], uint8_t frame[250]);
+struct handset_small proved_sister_power_on(uint8_t text[104], uint8_t picture[672], uint8_t frame[250]);
 bool proved_in_range(struct handset_small small, const uint8_t text[104], const uint8_t picture[672], const uint8_t frame[250]);
 struct proved_fed proved_feed(struct handset_small small, uint8_t text[104], uint8_t picture[672], uint8_t frame[250],
                               const uint8_t *bytes, uint64_t bytes_len, uint8_t *answers, uint64_t answers_len);
@@ -135,6 +136,11 @@ void handset_power_on(struct handset *h)
 void handset_power_on_former(struct handset *h)
 {
     h->small = proved_power_on_former(h->text, h->picture, h->frame);
+}
+
+void handset_sister_power_on(struct handset *h)
+{
+    h->small = proved_sister_power_on(h->text, h->picture, h->frame);
 }
 
 bool handset_in_range(const struct handset *h)

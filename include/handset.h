@@ -21,7 +21,7 @@
 #include <stdint.h>
 
 /* The number of this interface. It rises when a struct, a call or the meaning of a number changes. */
-#define HANDSET_INTERFACE 3
+#define HANDSET_INTERFACE 4
 
 /* How a call ended wants to be looked at: a compiler that can says where a program does not. */
 #if defined(__cplusplus) && __cplusplus >= 201703L
@@ -49,7 +49,8 @@ enum {
     HANDSET_DISPLAY_COLUMNS = 96, /* columns of a display row, and of a picture row */
     HANDSET_BIG_CODES = 8,        /* codes of the large line that are shown big */
     HANDSET_LABEL_SIZE = 7,       /* codes of a label at most */
-    HANDSET_LONGEST_ANSWER = 29,  /* bytes of the longest answer, that of &V: with less room a stream call never gets past &V */
+    HANDSET_LONGEST_ANSWER = 31,  /* bytes of the longest answer, the sister's version; the first edition's has 29. With less room a stream
+                                     call never gets past that question */
     HANDSET_LONGEST_WRITTEN = 200 /* bytes that a writer writes at most: this much room is always enough */
 };
 
@@ -129,7 +130,10 @@ enum handset_key {
     HANDSET_KEY_ON_OFF = 18
 };
 
-/* Edges: the entries of a key log. 0 to 18 press, 128 to 146 release, 255 poll; all others are not listed. */
+/*
+ * Edges: the entries of a key log. 0 to 18 press, 128 to 146 release, 255 poll; all others are not listed. Of the sister 0 to 22 press and
+ * 128 to 150 release: 19 is MUTE, 20 REC/SOS, 21 HOOK, whose press lifts it, and 22 PTT.
+ */
 enum handset_edge {
     HANDSET_PRESS = 0,     /* and a key */
     HANDSET_RELEASE = 128, /* and a key */
@@ -200,7 +204,8 @@ enum handset_kind {
 enum handset_judged {
     HANDSET_VERDICT_BAD = 0,         /* it is answered with '?' */
     HANDSET_VERDICT_PASSED_OVER = 1, /* (its first number that is out of range) it gets silence, and nothing of it is done */
-    HANDSET_VERDICT_OBEYED = 2
+    HANDSET_VERDICT_OBEYED = 2,
+    HANDSET_VERDICT_REFUSED = 3 /* by the record's state: it is answered as a bad one. Of the sister's frames alone */
 };
 
 /* The rules of the choice screen [11]. */
@@ -347,8 +352,9 @@ struct handset_keys {
 };
 
 /*
- * Which handset it is, and what only the sister, that of AN1900, has. In the first edition all of it is 0, and no call changes that. The
- * sister's frames are not read yet: until they are, every call refuses a record of hers, whatever else it holds. The ranges are hers.
+ * Which handset it is, and what only the sister, that of AN1900, has. No call changes which it is. In the first edition all of it is 0.
+ * The ranges are hers; beside them she has contrast 0 to 20, a duration and seconds left of at most 250, key times that may both be 0,
+ * and no key in struct handset_held.
  */
 struct handset_edition {
     bool sister;              /* whether it is the sister */
@@ -441,6 +447,9 @@ void handset_power_on(struct handset *h);
 /* The same with the former defaults of the key times: Time2 is 12, so that a key which is held down repeats. */
 void handset_power_on_former(struct handset *h);
 
+/* Stores the power-on record of the sister, the handset of AN1900, as she is delivered. */
+void handset_sister_power_on(struct handset *h);
+
 /* ---- Calls of a handset. For a record out of range each ends with 1. ---- */
 
 /* Whether all fields of a record are in their ranges. */
@@ -450,14 +459,16 @@ HANDSET_RESULT bool handset_in_range(const struct handset *h);
  * The stream call [3]: takes `count` bytes from the cord and puts answers in the room, which has `size` places. It stops before the
  * byte whose whole answer has no place in the room; else it uses all bytes. `used` is how many it took: offer the others again, before
  * new ones. `written` is how many bytes of the room hold answers: send them; the rest of the room stays as it was. How a stream is cut
- * into calls makes no difference. With less room than HANDSET_LONGEST_ANSWER it never gets past &V. Ends with 0, 1.
+ * into calls makes no difference. With less room than HANDSET_LONGEST_ANSWER it never gets past the question for the version. It goes
+ * by the record's edition; &00 restarts the sister, and the bytes after it are read on. Ends with 0, 1.
  */
 HANDSET_RESULT uint8_t handset_feed(struct handset *h, const uint8_t *bytes, uint64_t count, uint8_t *room, uint64_t size, uint64_t *used,
                                     uint64_t *written);
 
 /*
  * The key log [6]: for each entry a reading of the 10 ms clock and an edge, enum handset_edge. It puts key codes in the room, and stops
- * before the entry whose code has no place there; `used` and `written` as above. The two counts are to be the same: else it ends with 5,
+ * before the entry whose code has no place there; `used` and `written` as above. The sister sends messages of six bytes, each whole, in
+ * place of codes. The two counts are to be the same: else it ends with 5,
  * and with 4 for an edge that is not listed, anywhere in the log. Ends with 0, 1, 4, 5.
  */
 HANDSET_RESULT uint8_t handset_take_log(struct handset *h, const uint16_t *ticks, uint64_t tick_count, const uint8_t *edges,
@@ -466,7 +477,7 @@ HANDSET_RESULT uint8_t handset_take_log(struct handset *h, const uint16_t *ticks
 /* A second passes [7]: one of the backlight's seconds is taken off, if one is left. Ends with 0, 1. */
 HANDSET_RESULT uint8_t handset_second(struct handset *h);
 
-/* The same on a backlight alone, which is judged by its own ranges. Ends with 0, 1. */
+/* The same on a backlight alone, which is judged by the first edition's ranges. Ends with 0, 1. */
 HANDSET_RESULT uint8_t handset_light_second(struct handset_backlight *light);
 
 /* The handset is lifted (on is 0) or hung up (any other number) [7]. Ends with 0, 1. */
@@ -474,7 +485,7 @@ HANDSET_RESULT uint8_t handset_hook(struct handset *h, uint8_t on);
 
 /*
  * How much room the answers to these bytes can need where no frame is a question [3]. For each question add its answer's length: 6
- * at most for IA, 5 for IH, 29 for &V. Ends with 0, 1.
+ * at most for IA, 5 for IH, 29 for &V; of the sister HANDSET_LONGEST_ANSWER at most. Ends with 0, 1.
  */
 HANDSET_RESULT uint8_t handset_room_needed(const struct handset *h, const uint8_t *bytes, uint64_t count, uint64_t *needed);
 

@@ -86,6 +86,10 @@ const ALL: &[Call] = &[
         handset_power_on_former(&mut d.phone);
         DONE
     }),
+    call("handset_sister_power_on", 0, DONE, |d, _| unsafe {
+        handset_sister_power_on(&mut d.phone);
+        DONE
+    }),
     call("handset_in_range", 0, 1, |d, _| unsafe { handset_in_range(&d.phone) as u8 }),
     call("handset_feed", 0, DONE, |d, _| d.phone.feed(b"", &mut d.room).number),
     call("handset_feed, text", CALL, DONE, |d, _| d.feed_text(Handset::feed)),

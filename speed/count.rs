@@ -24,6 +24,16 @@ const SHORT: &str = "ours, calls of 64 bytes";
 const PLAIN_ONE: &str = "plain Rust, one call";
 const PLAIN_SHORT: &str = "plain Rust, calls of 64 bytes";
 
+const SISTER_ONE: &str = "the sister, one call";
+const SISTER_SHORT: &str = "the sister, calls of 64 bytes";
+
+fn on_the_sisters_stream(times: usize, work: impl Fn(&[u8])) {
+    let stream = streams::sisters(crate::OPERATIONS);
+    for _ in 0..times {
+        work(&stream);
+    }
+}
+
 fn on_the_mixed_stream(times: usize, work: impl Fn(&[u8])) {
     let stream = mixed_stream();
     for _ in 0..times {
@@ -38,6 +48,8 @@ pub fn repeat(work: &str, times: usize) {
         SHORT => on_the_mixed_stream(times, |stream| short_calls(door::Handset::feed, stream)),
         PLAIN_ONE => on_the_mixed_stream(times, |stream| one_call(plain::Handset::feed, stream)),
         PLAIN_SHORT => on_the_mixed_stream(times, |stream| short_calls(plain::Handset::feed, stream)),
+        SISTER_ONE => on_the_sisters_stream(times, |stream| one_call(door::Sister::feed, stream)),
+        SISTER_SHORT => on_the_sisters_stream(times, |stream| short_calls(door::Sister::feed, stream)),
         call => (0..times).for_each(|_| calls::make_named(call)),
     }
 }
@@ -79,6 +91,12 @@ pub fn table() {
     let [one, plain_one, short, plain_short] = counts;
     println!("  ours takes {:.2} of the plain reader's, {:.2} in calls of {CALL} bytes", one / plain_one, short / plain_short);
     println!("  a call costs {:.0} beside its bytes", (short - one) / (bytes / CALL) as f64);
+    let hers = streams::sisters(crate::OPERATIONS).len();
+    println!("\nInstructions for the sister's mixed stream, {hers} bytes");
+    for work in [SISTER_ONE, SISTER_SHORT] {
+        let count = instructions(work);
+        println!("  {work:<44}{count:>12.0} {:>7.2} a byte", count / hers as f64);
+    }
     let each: Vec<f64> = calls::names().map(|call| instructions(call) / CALLS as f64).collect();
     println!("\nThe calls of include/handset.h, each by itself, with some 10 instructions of the loop that makes them");
     calls::report("instructions", &each);

@@ -5,7 +5,7 @@ use crate::reader::{Fed, Reader};
 use std::mem::{offset_of, size_of, MaybeUninit};
 
 /// The header's HANDSET_INTERFACE.
-pub const INTERFACE: u32 = 3;
+pub const INTERFACE: u32 = 4;
 
 #[repr(C)]
 #[derive(Clone, Copy, Debug, PartialEq)]
@@ -178,6 +178,7 @@ extern "C" {
     pub fn handset_interface() -> u32;
     pub fn handset_power_on(h: *mut Handset);
     pub fn handset_power_on_former(h: *mut Handset);
+    pub fn handset_sister_power_on(h: *mut Handset);
     pub fn handset_in_range(h: *const Handset) -> bool;
     pub fn handset_feed(h: *mut Handset, bytes: *const u8, count: u64, room: *mut u8, size: u64, used: *mut u64, written: *mut u64) -> u8;
     pub fn handset_take_log(
@@ -261,6 +262,29 @@ impl Reader for Handset {
 
     fn record(&self) -> Handset {
         *self
+    }
+}
+
+/// The handset of AN1900: the same calls, from another power-on record.
+pub struct Sister(Handset);
+
+impl Sister {
+    pub fn feed(&mut self, bytes: &[u8], room: &mut [u8]) -> Fed {
+        self.0.feed(bytes, room)
+    }
+}
+
+impl Reader for Sister {
+    fn power_on() -> Sister {
+        let mut handset = MaybeUninit::uninit();
+        unsafe {
+            handset_sister_power_on(handset.as_mut_ptr());
+            Sister(handset.assume_init())
+        }
+    }
+
+    fn record(&self) -> Handset {
+        self.0
     }
 }
 

@@ -113,6 +113,20 @@ fn in_calls(stream: &[u8], rounds: usize, one_call_took: f64) {
     println!("  ours against one call: {times:.2} times; a call costs {:.0} ns beside its bytes", more / (stream.len() / CALL) as f64);
 }
 
+fn sister(rounds: usize, one_call_took: f64) {
+    let stream = streams::sisters(OPERATIONS);
+    let expected = one_call(door::Sister::feed, &stream);
+    println!("\nThe sister: 20,000 mixed operations of hers, {} bytes", stream.len());
+    let mut all = [
+        Candidate::new("ours, one call", stream.len(), || one_call(door::Sister::feed, &stream)),
+        Candidate::new("ours, calls of 64 bytes", stream.len(), || short_calls(door::Sister::feed, &stream)),
+    ];
+    same("the sister again", expected, one_call(door::Sister::feed, &stream));
+    race(&mut all, rounds);
+    report(&all);
+    println!("  one call against one of the first edition's: {:.2} times", all[0].best / one_call_took);
+}
+
 fn pictures(rounds: usize) {
     let pictures = streams::pictures(2_000);
     same("pictures", one_call(plain::Handset::feed, &pictures), ours(&pictures));
@@ -175,6 +189,7 @@ fn times(rounds: usize) {
     let work = streams::mixed(OPERATIONS);
     let one_call_took = mixed(&work, rounds);
     in_calls(&work.handset, rounds, one_call_took);
+    sister(rounds, one_call_took);
     pictures(rounds);
     parts(&work.handset, rounds);
     choice_screens(rounds);

@@ -77,6 +77,33 @@ pub fn mixed(operations: usize) -> Work {
     work
 }
 
+/// As many operations of the sister's: the same, in her spelling, and now and then a command that only she has.
+pub fn sisters(operations: usize) -> Vec<u8> {
+    let (mut dice, mut work) = fresh();
+    for _ in 0..operations {
+        match dice.below(16) {
+            0 => command(&mut work.handset, b"&D"),
+            1 => {
+                let side = 1 + dice.below(2);
+                let length = dice.below(8);
+                let text = dice.letters(length);
+                command(&mut work.handset, &[format!("IK{side}").as_bytes(), &text[..]].concat());
+            }
+            2 => command(&mut work.handset, format!("IP{}", dice.below(20)).as_bytes()),
+            3 => command(&mut work.handset, format!("IN{}", dice.below(101)).as_bytes()),
+            _ => {
+                let column = dice.below(4);
+                let length = 13 + dice.below(4 - column);
+                let text = dice.codes(length);
+                command(&mut work.handset, format!("&H{};{column}", dice.below(4)).as_bytes());
+                work.handset.extend_from_slice(&text);
+                work.handset.extend_from_slice(b"\r\n");
+            }
+        }
+    }
+    work.handset
+}
+
 /// The mixed operations up to this many bytes.
 pub fn mixed_of(bytes: usize) -> Vec<u8> {
     let (mut dice, mut work) = fresh();

@@ -4,10 +4,10 @@
 # Before that the model's own tests are run, the driver's stored script, and the stored listing of ranges (tests/c/list_ranges.c). The
 # last line has the counts: each test of the model and each script is one.
 # Last the program explain: what it sums up of random streams is what the model counts by its own parting and grammar.
-# usage: tests/differ.sh [SCRIPTS [CALLS]]     (also by SCRIPTS= and CALLS=; 100 scripts of 2,000 calls if nothing is said)
+# usage: tests/differ.sh [SCRIPTS [CALLS]]     (also by SCRIPTS= and CALLS=; 125 scripts of 2,000 calls if nothing is said)
 set -u
 cd "$(dirname "$0")/.." || exit 2
-scripts=${1:-${SCRIPTS:-100}}
+scripts=${1:-${SCRIPTS:-125}}
 calls=${2:-${CALLS:-2000}}
 passed=0 failed=0
 count() { # PASSED FAILED

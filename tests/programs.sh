@@ -70,8 +70,9 @@ ends "./run --help without the kit" 0 '' env PATH="$work/no_kit" ./run jetty --h
 for name in $names; do
     file=''
     case " $readers " in *" $name "*) file=' [FILE]' ;; esac
-    [ $name != show_screen ] || file=" [--pause]$file"
-    [ $name != explain ] || file=" [--all]$file"
+    case $name in list_screen | write_frame) file=" [--sister]$file" ;; esac
+    [ $name != show_screen ] || file=" [--pause] [--sister]$file"
+    [ $name != explain ] || file=" [--all] [--sister]$file"
     [ $name != walk_frame ] || file=' [--table] [FRAME]'
     ends "./run $name --help has status 0 and complains of nothing" 0 '' ./run $name --help
     head -n 1 "$work/out" | says "./run $name --help begins with its usage" "usage: ./run $name$file"
@@ -265,6 +266,92 @@ printf '\eIK1Keep' | program list_screen | same "list_screen: a frame left open 
     same "list_screen: an overlong frame left open has no answer yet" "$work/power_on"
 { cat $stream; printf '\eIK1Older'; } | program list_screen | same "list_screen: an open tail leaves what was heard before it" $whole
 
+# list_screen --sister: her stream, her record, and the words in any order
+cat >"$work/harbour" <<'FIELDS'
+REPLIES 2
+MODE 5 OVER 0 DISPLAY 1
+CURSOR 1 4 12
+TEXT 0 [Harbour office  ]
+TEXT 1 [  Berth 7       ]
+TEXT 2 [  Water 004711  ]
+TEXT 3 [                ]
+TEXT 4 [Read it now?    ]
+LEFT [Read]
+RIGHT [Later]
+ICONS 1 255 0 0 0 0
+VOLUME 0 0 0 0
+FIELDS
+hers=examples/harbour.stream
+for words in "--sister $hers" "$hers --sister" "--sister --sister $hers" "--sister $hers --sister"; do
+    ends "./run list_screen $words" 0 '' ./run list_screen $words </dev/null
+    same "./run list_screen $words: the harbour's fields" "$work/harbour" <"$work/out"
+done
+for words in --sister '--sister --sister'; do
+    ends "./run list_screen $words, from standard input" 0 '' ./run list_screen $words <$hers
+    same "./run list_screen $words, from standard input: the harbour's fields" "$work/harbour" <"$work/out"
+done
+size=$(wc -c <$hers)
+for ((at = 1; at <= size; at++)); do
+    tail -c +$at $hers | head -c 1
+    sleep 0.02
+done | program list_screen --sister | same "list_screen --sister: one byte at a time changes nothing" "$work/harbour"
+program list_screen --sister </dev/null | same "list_screen --sister: empty input is her power-on record" "$work/power_on"
+for name in list_screen show_screen; do
+    usage=$(program $name --help | head -n 1)
+    for refused in --sisters --siste --sister=1 -sister --Sister; do
+        ends "./run $name --sister $refused: the option does not hide the word" 2 "$usage
+this word is not taken: $refused" ./run $name --sister $refused $hers
+        silent "./run $name --sister $refused writes nothing"
+    done
+    ends "./run $name --sister, two files" 2 "$usage
+this word is not taken: two" ./run $name one --sister two
+    ends "./run $name --sister, a file that is missing" 1 "$name: no/such/file: No such file or directory" ./run $name --sister no/such/file
+    silent "./run $name --sister, a file that is missing: nothing is written"
+done
+ends "./run list_screen --pause is another program's option" 2 "usage: ./run list_screen [--sister] [FILE]
+this word is not taken: --pause" ./run list_screen --sister --pause
+
+# list_screen --sister: each edition has its spellings, and those of the other are bad
+sister() { # FRAME...: the fields after these frames of hers
+    printf '\e%s\r' "$@" | program list_screen --sister
+}
+replies() { # TEST COUNT FRAME...
+    local test=$1 count=$2
+    shift 2
+    sister "$@" | head -n 1 | says "$test" "REPLIES $count"
+}
+program list_screen --sister $stream | sed -n -e 1p -e '/^TEXT [01]/p' -e '/^LEFT/p' |
+    says "list_screen --sister: of the first edition's stream mode and position are bad, text and label are hers too" $'REPLIES 3\nTEXT 0 [Meter           ]\nTEXT 1 [                ]\nLEFT [Keep]'
+program list_screen $hers | sed -n -e 1,3p -e '/^LEFT/p' -e '/^ICONS/p' |
+    says "list_screen: of her stream the first edition has her own spellings bad" $'REPLIES 12\nMODE 0 OVER 0 DISPLAY 1\nCURSOR 0 0 16\nLEFT [Read]\nICONS 1 0 0 0 0 0'
+for frame in ID0 IDE IDD '[1;2H' '[K' '&#' '&C' '&V' IA IH II7 IEr; do
+    replies "list_screen --sister: the first edition's $frame is bad" 1 "$frame"
+done
+for frame in IU255 IU3 IDM13 '&C2' '&H5;0' IV8 IN101 IA21 'IT0;5'; do
+    sister "$frame" | same "list_screen --sister: $frame is out of range and passed over" "$work/power_on"
+done
+for frame in '&H?' '&V?' 'KH?' 'KP?' 'IA?' 'IDM?' 'IE?' 'IN?' 'IT?' 'IV?'; do
+    replies "list_screen --sister: $frame is a question" 1 "$frame"
+done
+yes $'\e&V?\r' | head -n 1000 | tr -d '\n' | program list_screen --sister | head -n 1 |
+    says "list_screen --sister: her version asked 1000 times" "REPLIES 1000"
+replies "list_screen --sister: a step up to the end is obeyed, one past it bad" 1 IV6 IV+ IV+
+replies "list_screen --sister: the keypad's letters are bad with PWM, good without" 3 IEe IEc IEs IEA IEe IEc IEs
+
+# list_screen --sister: what is kept, not what her frame has
+modes=(0 1 5 6 10)
+for n in {0..12}; do
+    kept="MODE ${modes[n]:-0} OVER $((n < 5 ? 0 : n + 6)) DISPLAY 1"
+    sister IDM$n | sed -n 2p | says "list_screen --sister: IDM$n" "$kept"
+done
+printf '\e&C1\rText\e&D\r' | program list_screen --sister | sed -n '3p;4p' |
+    says "list_screen --sister: &D clears the text, where the first edition's hides the cursor" $'CURSOR 1 0 0\nTEXT 0 [                ]'
+printf '\e&C\rText\e&D\r' | program list_screen | sed -n '3p;4p' |
+    says "list_screen: the first edition's &D hides the cursor" $'CURSOR 0 0 4\nTEXT 0 [Text            ]'
+sister IU2 | grep '^ICONS' | says "list_screen --sister: IU2 is kept as 255" 'ICONS 0 255 0 0 0 0'
+{ cat $hers; printf '\e&00\r'; } | program list_screen --sister | tail -n +2 |
+    same "list_screen --sister: after a restart the screen is that of power-on" <(tail -n +2 "$work/power_on")
+
 # explain: the first stream of document 01 with two frames more and half of one
 cat >"$work/told" <<'PARTS'
         0  frame    ID0        mode 0, no overlay, position 0,0: nothing changed
@@ -289,6 +376,28 @@ program explain --all "$work/halved" | grep '^ *[0-9]*  skipped' |
        30  skipped  <0A>       nothing done"
 program explain </dev/null | says "explain: an empty stream" \
     "        0  end      text bytes 0, skipped bytes 0, closed frames 0 (obeyed 0, passed over 0, bad 0), abandoned frames 0, answers 0, no tail"
+
+# explain of the sister's stream: her own fields and ranges, a frame that the record's state refuses, a restart, and her mark
+cat >"$work/told" <<'PARTS'
+        0  frame    IN100      brightness 50 to 100
+        7  frame    IN+        refused by the state it is in: answered ? CR LF
+       12  frame    IV8        passed over: speaker volume takes 0 to 7
+       17  frame    IT0;5      passed over: Time1 takes 4 to 50, or 0 where Time2 is 0
+       24  frame    IEA        PWM on to off, seconds left 0 to 30
+       29  frame    IA?        asked: answered ESC IA: 10 CR LF
+       34  frame    &H1;2      position 0,0 to 1,2
+       41  frame    ID5        bad: answered ? CR LF
+       46  frame    &C0        obeyed: nothing changed
+       51  frame    &00        restart to power-on, stored numbers kept, position 1,2 to 0,0, PWM off to on, seconds left 30 to 0
+       56  frame    IK1        abandoned by the ESC at 60: answered ? CR LF
+       60  tail     IK         still open: nothing done yet
+       63  end      text bytes 0, skipped bytes 0, closed frames 10 (obeyed 6, passed over 2, refused 1, bad 1), abandoned frames 1, answers 4, tail at 60
+PARTS
+printf '\e%s\r' IN100 IN+ IV8 'IT0;5' IEA 'IA?' '&H1;2' ID5 '&C0' '&00' >"$work/hers"
+printf '\eIK1\eIK' >>"$work/hers"
+program explain --sister "$work/hers" | same "explain --sister: what the sister handset does" "$work/told"
+program explain --sister </dev/null | says "explain --sister: an empty stream" \
+    "        0  end      text bytes 0, skipped bytes 0, closed frames 0 (obeyed 0, passed over 0, refused 0, bad 0), abandoned frames 0, answers 0, no tail"
 
 # explain: parts that are longer than what it holds
 forty=$(head -c 40 /dev/zero | tr '\0' x)
@@ -365,6 +474,7 @@ choice_screen YES
 depot_digits NO 0 1
 depot_part NO 0 1
 depot_rocker NO 0 1
+harbour NO 0 1
 menu NO 0 1
 meter NO 31 3
 picture NO 0 1
@@ -454,11 +564,12 @@ FIELDS
 sed 's/$/\r/' "$work/script" | program write_frame | program list_screen | same "write_frame: lines that end with CR LF" "$work/fields"
 printf '%s' "$(cat "$work/script")" | program write_frame | program list_screen | same "write_frame: a last line without LF" "$work/fields"
 
-refused() { # LINE REASON: the second of three lines is named with its number, and nothing of it is written
-    printf '%b' "left Mine\n$1\nright Older\n" | program write_frame >"$work/out" 2>"$work/err"
-    says "write_frame refuses '${1:0:24}' by its number" "write_frame: line 2: $2" <"$work/err"
+refused() { # LINE REASON [OPTION]: the second of three lines is named with its number, and nothing of it is written
+    local test="write_frame${3:+ $3}"
+    printf '%b' "left Mine\n$1\nright Older\n" | program write_frame ${3-} >"$work/out" 2>"$work/err"
+    says "$test refuses '${1:0:24}' by its number" "write_frame: line 2: $2" <"$work/err"
     printf '\eIK1Mine\r\n\eIK2Older\r\n' >"$work/others"
-    same "write_frame writes nothing of '${1:0:24}'" "$work/others" <"$work/out"
+    same "$test writes nothing of '${1:0:24}'" "$work/others" <"$work/out"
 }
 refused 'lefty Keep' 'no such command; the line help lists them'
 refused 'ask' 'no such command; the line help lists them'
@@ -504,6 +615,93 @@ for line in 'picture' 'picture 0' 'picture 0 000' "picture 0 $(printf '00%.0s' {
 done
 refused 'text a\tb' 'a text has no code below 0x20'
 refused "text $(printf 'x%.0s' {1..1020})" 'longer than 1024 bytes'
+
+# write_frame --sister: each phrase of hers, and its frame
+cat >"$work/phrases" <<'PHRASES'
+display off: IDMD
+display on: IDME
+clear: &D
+clear line: &K
+at 4 15: &H4;15
+labels empty: IK0
+left Keep: IK1Keep
+right: IK2
+icon S 1: IS1
+icon U 2: IU2
+icon F 6: IF6
+icon R 1: IR1
+icon P 19: IP19
+icon W 3: IW3
+private 10: IL10
+handsfree 10: IJ10
+mute 1: IM1
+buzzer 255: IB255
+contrast 20: IA20
+inverse 5: IZ5
+picture 6 1F00: Gr6,1F00z
+cursor 1: &C1
+restart: &00
+mode 12: IDM12
+light 250: IE250
+light off: IE0
+light on: IEE
+light auto: IEA
+light auto keep: IES
+light pwm on: IEP
+light pwm auto: IEQ
+light restart: IER
+keypad on: IEe
+keypad off start: IEc
+keypad off: IEs
+brightness 100: IN100
+times 0 0: IT0;0
+times 12 0: IT12;0
+speaker 7: IV7
+ask position: &H?
+ask version: &V?
+ask hook: KH?
+ask ptt: KP?
+ask contrast: IA?
+ask mode: IDM?
+ask light: IE?
+ask brightness: IN?
+ask times: IT?
+ask speaker: IV?
+contrast up: IA+
+contrast down: IA-
+brightness up: IN+
+brightness down: IN-
+speaker up: IV+
+speaker down: IV-
+frame IDM13: IDM13
+PHRASES
+sed 's/.*: \(.*\)/\x1B\1\r/' "$work/phrases" >"$work/others"
+sed 's/: .*//' "$work/phrases" >"$work/script"
+program write_frame --sister <"$work/script" | same "write_frame --sister: each phrase is her frame" "$work/others"
+ends "./run write_frame --sister FILE" 0 '' ./run write_frame --sister "$work/script"
+same "./run write_frame --sister FILE writes her frames" "$work/others" <"$work/out"
+printf 'mode 4\nat 0 3\ntext Jetty\nicon U 2\ndance\n' >"$work/script"
+ends "./run write_frame, then --sister, a line that can't be taken: status 1" 1 "write_frame: line 5: no such command; the line help lists them" ./run write_frame "$work/script" --sister
+program list_screen --sister <"$work/out" | sed -n -e 1,2p -e '/^ICONS/p' |
+    says "write_frame --sister | list_screen --sister: the fields are what the words say" $'REPLIES 0\nMODE 10 OVER 0 DISPLAY 1\nICONS 0 255 0 0 0 0'
+for line in 'handsfree note' 'light default' 'cursor show' 'cursor hide'; do
+    refused "$line" 'one number of one to three digits is wanted, and no leading zero' --sister
+done
+refused 'restart now' 'nothing is wanted behind these words' --sister
+refused 'ask' 'no such command; the line help lists them' --sister
+refused 'mode 13' 'out of range: mode is 0-12' --sister
+refused 'cursor 2' 'out of range: cursor is 0-1' --sister
+refused 'light 251' 'out of range: light is 0-250' --sister
+refused 'icon U 255' 'out of range: icon U is 0-2' --sister
+refused 'brightness 101' 'out of range: brightness is 0-100' --sister
+refused 'speaker 8' 'out of range: speaker is 0-7' --sister
+refused 'times 0 5' 'out of range: times are 4-50 and 0 or 4-50, or 0 and 0' --sister
+refused 'at 5 0' 'out of range: at is a row 0-4 and a column 0-15' --sister
+for line in 'restart' 'speaker 5' 'ask mode' 'brightness up'; do
+    refused "$line" 'no such command; the line help lists them'
+done
+refused 'contrast up' 'one number of one to three digits is wanted, and no leading zero'
+
 printf 'frame IK1Keep\nframe IP20\nframe Q\nframe  two  blanks \nframe\n' >"$work/script"
 program write_frame <"$work/script" >"$work/out" 2>"$work/err"
 printf '\eIK1Keep\r\n\eIP20\r\n\eQ\r\n\e two  blanks \r\n\e\r\n' >"$work/others"
@@ -576,6 +774,36 @@ letter() { # the SMS panel's words in the icon bar after these words, lit and in
 printf 'icon U 255\nicon S 1\n' | letter | says "show_screen --pause: the read letter stands in the pauses of the flashing one" $'SMS unread\nSMS read'
 printf 'icon U 255\n' | letter | says "show_screen --pause: with no read message the pause shows nothing" $'SMS unread\nnothing'
 printf 'icon U 1\nicon S 1\n' | letter | says "show_screen --pause: a letter that does not flash has no pause" $'SMS unread\nSMS unread'
+cat >"$work/berth" <<'SCREEN'
+╭────────────────────────────────────────────────╮
+│ H  a  r  b  o  u  r     o  f  f  i  c  e       │
+│                                                │
+│       B  e  r  t  h     7                      │
+│                                                │
+│       W  a  t  e  r     0  0  4  7  1  1       │
+│                                                │
+│                                                │
+│                                                │
+│ R  e  a  d     i  t     n  o  w  ?             │
+│                                                │
+│ R  e  a  d                 L  a  t  e  r       │
+│                                                │
+│                                                │
+│                                                │
+╰────────────────────────────────────────────────╯
+SCREEN
+for words in "--sister $hers" "$hers --sister" "--sister $hers --sister" "--sister --pause $hers"; do
+    ends "./run show_screen $words" 0 '' ./run show_screen $words </dev/null
+    same "./run show_screen $words: the harbour's screen" "$work/berth" <"$work/out"
+done
+program show_screen --sister --sister <$hers | same "show_screen --sister: the same from standard input" "$work/berth"
+program show_screen --sister </dev/null | same "show_screen --sister: empty input is her power-on record" <(program show_screen </dev/null)
+printf '\eIDM4\r0012345678' | program show_screen --sister |
+    same "show_screen --sister: her mode 4 is drawn as mode 10" <(printf '\eID10\r0012345678' | program show_screen)
+printf '\eIU2\r\eIS1\r' >"$work/letter"
+for words in --sister '--sister --pause' '--pause --sister'; do
+    program show_screen $words "$work/letter" | sed -n '2s/.*\(SMS [a-z]*\).*/\1/p'
+done | says "show_screen --sister --pause: her flashing letter, lit and in the pause" $'SMS unread\nSMS read\nSMS read'
 printf 'private 4\nmute 1\nprivate 0\n' | screen | head -n 1 | says "show_screen: IL4, IM1, IL0 shows no volume" "$(printf '%48s' '')"
 printf 'private 4\nmute 1\nprivate 0\nprivate 4\n' | screen | head -n 1 | says "show_screen: then IL4 shows mute" "$(printf '%48s' 'mute ')"
 printf '\eIK1\x80a\xFF\r' | program show_screen | sed -n -e 's/^│ *//' -e '12s/ *│$//p' | says "show_screen: a code that is no ASCII is a dot" ".  a  ."

@@ -2,8 +2,8 @@
  * Tries through include/handset.h what the archive does, so that a field or a number that stands elsewhere in header, door or crate is
  * found. All that a call can be lent is one struct, and there are two of it: `now` is lent, and in `wanted` a test says what is to become
  * of it. Then both are compared byte by byte, so that a call is also held to what it must leave alone.
- *   - Each frame or call that sets a field of a record is tried on its own, and at the end no place of the record may be left that
- *     nothing has set.
+ *   - Each frame or call that sets a field of a record is tried on its own, in each edition what that one has, and at the end no place of
+ *     the record may be left that nothing has set.
  *   - Each field of an answer, and each number that crosses, is tried by a value of its own.
  *   - Each call that takes a record is to refuse one that is out of range, and leave it.
  * FLAGS names a table of every flag of a record, which awk made from the header. A line for each test; tests/c.sh counts them.
@@ -16,8 +16,19 @@
 
 #define COUNT(table) (sizeof(table) / sizeof *(table))
 #define FRAME(body) "\033" body "\r"
+#define TOLD(answer) FRAME(answer) "\n"
+#define MESSAGE(signs) TOLD("K" signs)
 
-enum { ROOM = HANDSET_LONGEST_WRITTEN + 1, PAINT = 0x5A, ESC = 0x1B };
+enum {
+    ROOM = HANDSET_LONGEST_WRITTEN + 1,
+    PAINT = 0x5A,
+    ESC = 0x1B,
+    VERSION_ANSWER = 29, /* that of the first edition: the longest answer is the sister's */
+    MESSAGE_SIZE = 6
+};
+
+/* What only the sister has: two keys, and her switches. */
+enum { KEY_MUTE = 19, KEY_REC = 20, SWITCH_HOOK = 21, SWITCH_PTT = 22 };
 
 struct lent {
     struct handset h;
@@ -62,10 +73,10 @@ static bool padding(size_t at)
            (at >= AT(h.frame) + HANDSET_FRAME_SIZE && at < AT(h) + sizeof now.h) || (at > AT(part.kind) && at < AT(part.end));
 }
 
-/* the places that nothing may set: no call changes the edition, and what only the sister has is unused in the first */
+/* the places that nothing sets: no call changes the edition, and the highest byte of a set of keys has no key */
 static bool fixed(size_t at)
 {
-    return at >= AT(h.small.edition) && at < AT(h.small.edition) + sizeof now.h.small.edition && !padding(at);
+    return at == AT(h.small.edition.sister) || at == AT(h.small.edition.keys.down) + 3;
 }
 
 static bool as_wanted(void)
@@ -138,12 +149,20 @@ static void log_entry(uint16_t tick, uint8_t edge)
     counted(1, "", 0);
 }
 
+/* Whose records are tried. */
+static void (*power_on)(struct handset *) = handset_power_on;
+
+static bool hers(void)
+{
+    return power_on == handset_sister_power_on;
+}
+
 /* A handset after power-on and this stream. All else is painted, so that whatever a call stores there is seen. */
 static void prepare(const char *stream)
 {
     struct handset h;
     memset(&now, PAINT, sizeof now);
-    handset_power_on(&now.h);
+    power_on(&now.h);
     feed(stream, strlen(stream));
     if (now.number != HANDSET_DONE || now.fed.used != strlen(stream)) verdict(false, "prepare", "the next test's stream");
     memcpy(&h, &now.h, sizeof h);
@@ -161,6 +180,7 @@ struct place {
 };
 
 #define SET(field, value) {true, AT(h.small.settings.field), value}
+#define SET_HERS(field, value) {true, AT(h.small.edition.field), value}
 #define SET_LABEL(side, code)                                                                                                          \
     SET(side.len, 7), SET(side.codes[0], code), SET(side.codes[1], code + 1), SET(side.codes[2], code + 2),                            \
         SET(side.codes[3], code + 3), SET(side.codes[4], code + 4), SET(side.codes[5], code + 5), SET(side.codes[6], code + 6)
@@ -212,6 +232,48 @@ static const struct step steps[] = {
     {FRAME("ID5"), "IZ5", {SET(inverse[4], 1)}},
 };
 
+/* The sister's, whose light is in auto by PWM at power-on. */
+static const struct step her_steps[] = {
+    {"", "IDMD", {SET(screen.display, 0)}},
+    {FRAME("IDMD"), "IDME", {SET(screen.display, 1)}},
+    {"", "IDM1", {SET(screen.mode, HANDSET_MODE_1)}},
+    {"", "IDM2", {SET(screen.mode, HANDSET_MODE_5)}},
+    {"", "IDM3", {SET(screen.mode, HANDSET_MODE_6)}},
+    {"", "IDM4", {SET(screen.mode, HANDSET_MODE_LARGE)}},
+    {"", "IDM5", {SET(screen.overlay, HANDSET_OVERLAY_FIRST)}},
+    {"", "IDM12", {SET(screen.overlay, HANDSET_OVERLAY_LAST)}},
+    {FRAME("IDM7"), "IDM0", {SET(screen.overlay, HANDSET_OVERLAY_NONE)}},
+    {"", "&H2;7", {SET(screen.row, 2), SET(screen.column, 7)}},
+    {FRAME("&H2;7"), "&D", {SET(screen.row, 0), SET(screen.column, 0)}},
+    {"", "&C1", {SET(shown, 1)}},
+    {FRAME("&C1"), "&C0", {SET(shown, 0)}},
+    {"", "IK1ABCDEFG", {SET_LABEL(left, 'A')}},
+    {"", "IU2", {SET(icons.u, 255)}},
+    {"", "IJ9", {SET(volume.which, HANDSET_WHICH_HANDSFREE), SET(volume.level, 9)}},
+    {"", "IT0;0", {SET(times.time1.tenths, 0), SET(times.time2.tenths, 0)}},
+    {"", "IE250", {SET(backlight.duration.seconds, 250)}},
+    {"", "IE0", {SET(backlight.mode, HANDSET_LIGHT_OFF), SET_HERS(pwm, 0)}},
+    {"", "IEE", {SET(backlight.mode, HANDSET_LIGHT_ON), SET_HERS(pwm, 0)}},
+    {"", "IES", {SET_HERS(pwm, 0)}},
+    {"", "IEA", {SET_HERS(pwm, 0), SET(backlight.left.seconds, 30)}},
+    {"", "IEP", {SET(backlight.mode, HANDSET_LIGHT_ON)}},
+    {FRAME("IE0"), "IEQ", {SET(backlight.mode, HANDSET_LIGHT_AUTO), SET_HERS(pwm, 1)}},
+    {"", "IER", {SET(backlight.left.seconds, 30)}},
+    {FRAME("IES"), "IEe", {SET(backlight.keypad, 1)}},
+    {FRAME("IES") FRAME("IEe"), "IEs", {SET(backlight.keypad, 0)}},
+    {FRAME("IES") FRAME("IEe"), "IEc", {SET(backlight.keypad, 0), SET(backlight.left.seconds, 30)}},
+    {"", "IA20", {SET(contrast, 20)}},
+    {"", "IA+", {SET(contrast, 11)}},
+    {FRAME("IA1"), "IA-", {SET(contrast, 0)}},
+    {"", "IN100", {SET_HERS(brightness, 100)}},
+    {"", "IN+", {SET_HERS(brightness, 51)}},
+    {"", "IN-", {SET_HERS(brightness, 49)}},
+    {"", "IV7", {SET_HERS(speaker, 7)}},
+    {"", "IV+", {SET_HERS(speaker, 4)}},
+    {"", "IV-", {SET_HERS(speaker, 2)}},
+    {FRAME("IP3") FRAME("IN7") FRAME("IE0"), "&00", {SET(icons.p, 0), SET(backlight.mode, HANDSET_LIGHT_AUTO), SET_HERS(pwm, 1)}},
+};
+
 static void try_step(const struct step *step)
 {
     prepare(step->first);
@@ -260,6 +322,59 @@ static void try_held(void)
     log_entry(0xABCD + 121, HANDSET_RELEASE + HANDSET_KEY_HASH);
     memset(held, 0, sizeof *held);
     check("field", "its release");
+}
+
+/* An entry of the sister's log, and the message that it sends. */
+static void her_entry(uint16_t tick, uint8_t edge, const char *message)
+{
+    log_entry(tick, edge);
+    counted(1, message, strlen(message));
+}
+
+static void try_her_keys(void)
+{
+    struct handset_keys *keys = &wanted.h.small.edition.keys;
+    prepare("");
+    her_entry(0xABCD, HANDSET_PRESS + KEY_REC, MESSAGE("Ns"));
+    keys->stage = HANDSET_STAGE_SHORT;
+    keys->key = KEY_REC;
+    keys->tick.tick = 0xABCD;
+    wanted.h.small.settings.backlight.left.seconds = 30;
+    check("field", "her press");
+    her_entry(0xABCD + 120, HANDSET_POLL, MESSAGE("Nl"));
+    keys->stage = HANDSET_STAGE_LONG;
+    keys->tick.tick = 0xABCD + 120;
+    check("field", "her long key");
+    her_entry(0xABCD + 240, HANDSET_POLL, MESSAGE("Nr"));
+    keys->tick.tick = 0xABCD + 240;
+    check("field", "her key repeats");
+    her_entry(0xABCD + 241, HANDSET_PRESS + HANDSET_KEY_3, MESSAGE("Fx"));
+    memset(keys, 0, sizeof *keys);
+    keys->stage = HANDSET_STAGE_FALSE;
+    keys->down = 1u << KEY_REC | 1u << HANDSET_KEY_3;
+    check("field", "her second key");
+    her_entry(0xABCD + 242, HANDSET_PRESS + HANDSET_KEY_LEFT_SOFT, "");
+    keys->down |= 1;
+    check("field", "her third key");
+    her_entry(0xABCD + 243, HANDSET_RELEASE + KEY_REC, "");
+    her_entry(0xABCD + 244, HANDSET_RELEASE + HANDSET_KEY_LEFT_SOFT, "");
+    keys->down = 1u << HANDSET_KEY_3;
+    check("field", "two of her keys are released");
+    her_entry(0xABCD + 245, HANDSET_RELEASE + HANDSET_KEY_3, "");
+    memset(keys, 0, sizeof *keys);
+    check("field", "her last key is released");
+    her_entry(1, HANDSET_PRESS + SWITCH_PTT, MESSAGE("Ps"));
+    wanted.h.small.edition.ptt = true;
+    check("field", "PTT is pressed");
+    her_entry(2, HANDSET_PRESS + SWITCH_HOOK, MESSAGE("Hs"));
+    wanted.h.small.settings.hook = false;
+    check("field", "HOOK is lifted");
+    her_entry(3, HANDSET_RELEASE + SWITCH_PTT, MESSAGE("Pe"));
+    wanted.h.small.edition.ptt = false;
+    check("field", "PTT is released");
+    her_entry(4, HANDSET_RELEASE + SWITCH_HOOK, MESSAGE("He"));
+    wanted.h.small.settings.hook = true;
+    check("field", "HOOK is put back");
 }
 
 /* Codes that are neither 0, blank, ESC nor CR. */
@@ -329,12 +444,17 @@ static void try_fields(void)
     try_held();
     try_arrays();
     try_picture();
+    power_on = handset_sister_power_on;
+    for (size_t i = 0; i < COUNT(her_steps); i++) try_step(&her_steps[i]);
+    try_hook();
+    try_her_keys();
+    power_on = handset_power_on;
     for (size_t at = 0; at < sizeof reached; at++) {
         if (reached[at] != fixed(at) || padding(at)) continue;
         printf("  %s has set the place %d of struct handset\n", fixed(at) ? "something" : "nothing", (int)at);
         ok = false;
     }
-    verdict(ok, "field", "every place of the record was set by something, but none of the edition");
+    verdict(ok, "field", "every place of the record was set by something, but whose it is by nothing");
 }
 
 static void try_sizes(void)
@@ -355,12 +475,13 @@ static void try_sizes(void)
     verdict(ok, "sizes", "those of the arrays");
 }
 
-static void try_power_on(void (*power_on)(struct handset *), uint8_t time2, const char *test)
+static void try_power_on(void (*on)(struct handset *), uint8_t time2, const char *test)
 {
     struct handset_settings *settings = &wanted.h.small.settings;
+    struct handset_edition *edition = &wanted.h.small.edition;
     memset(&now, PAINT, sizeof now);
     begin();
-    power_on(&now.h);
+    on(&now.h);
     memset(&wanted.h, 0, sizeof wanted.h);
     memset(wanted.h.text, ' ', sizeof wanted.h.text);
     settings->screen.display = true;
@@ -369,6 +490,12 @@ static void try_power_on(void (*power_on)(struct handset *), uint8_t time2, cons
     settings->backlight.duration.seconds = 30;
     settings->contrast = 10;
     settings->hook = true;
+    if (on == handset_sister_power_on) {
+        settings->backlight.mode = HANDSET_LIGHT_AUTO;
+        edition->sister = edition->pwm = true;
+        edition->brightness = 50;
+        edition->speaker = 3;
+    }
     check("power-on", test);
     MAKE(handset_in_range(&now.h), true);
     check("power-on", "it is in range");
@@ -387,23 +514,94 @@ static void try_fed(void)
     check("fed", "all bytes, two answers");
 
     prepare("");
-    MAKE(handset_feed(&now.h, version, 4, now.room, HANDSET_LONGEST_ANSWER - 1, FED), HANDSET_DONE);
+    MAKE(handset_feed(&now.h, version, 4, now.room, VERSION_ANSWER - 1, FED), HANDSET_DONE);
     counted(3, "", 0);
     wanted.h.small.state = HANDSET_FRAME_OPEN;
     wanted.h.small.len = 2;
     memcpy(wanted.h.frame, "&V", 2);
-    check("fed", "a byte less than the longest answer");
-    MAKE(handset_feed(&now.h, version + 3, 1, now.room, HANDSET_LONGEST_ANSWER, FED), HANDSET_DONE);
-    counted(1, FRAME("&VHA209 V.01.01 11.07.2006") "\n", HANDSET_LONGEST_ANSWER);
+    check("fed", "a byte less than the version's answer");
+    MAKE(handset_feed(&now.h, version + 3, 1, now.room, VERSION_ANSWER, FED), HANDSET_DONE);
+    counted(1, FRAME("&VHA209 V.01.01 11.07.2006") "\n", VERSION_ANSWER);
     wanted.h.small.state = HANDSET_FRAME_NONE;
     wanted.h.small.len = 0;
     memset(wanted.h.frame, 0, 2);
-    check("fed", "the longest answer");
+    check("fed", "the version's answer");
 
     prepare("");
     MAKE(handset_room_needed(&now.h, (const uint8_t *)"\033\033\033\r", 4, &now.needed), HANDSET_DONE);
     wanted.needed = 3;
     check("needed", "room for three question marks");
+}
+
+/* The sister's answers, each ended by CR LF. */
+static void try_her_fed(void)
+{
+    static const struct {
+        const char *first, *frame, *answer;
+    } told[] = {
+        {"", "&H?", TOLD("&H: 0;0")},
+        {"", "KH?", TOLD("KH: H")},
+        {"", "KP?", TOLD("KP: p")},
+        {"", "IA?", TOLD("IA: 10")},
+        {"", "IDM?", TOLD("IDM: 0")},
+        {FRAME("IDM10"), "IDM?", TOLD("IDM: 10")},
+        {"", "IE?", TOLD("IE: 2;30")},
+        {FRAME("IE0"), "IE?", TOLD("IE: 4;30")},
+        {"", "IN?", TOLD("IN: 50")},
+        {FRAME("IN100"), "IN?", TOLD("IN: 100")},
+        {"", "IT?", TOLD("IT: 12;12")},
+        {"", "IV?", TOLD("IV: 3")},
+    };
+    static const char *const refused[] = {"Q", "IA", "[K", "IEe", "IEc", "IEs", "II5", "ID0", "&#"};
+    const uint8_t *version = (const uint8_t *)FRAME("&V?");
+    for (size_t i = 0; i < COUNT(told); i++) {
+        prepare(told[i].first);
+        send(told[i].frame);
+        counted(strlen(told[i].frame) + 2, told[i].answer, strlen(told[i].answer));
+        check("her answer", told[i].frame);
+    }
+    for (size_t i = 0; i < COUNT(refused); i++) {
+        prepare("");
+        send(refused[i]);
+        counted(strlen(refused[i]) + 2, "?\r\n", 3);
+        check("her mark", refused[i]);
+    }
+
+    prepare("");
+    MAKE(handset_feed(&now.h, version, 5, now.room, HANDSET_LONGEST_ANSWER - 1, FED), HANDSET_DONE);
+    counted(4, "", 0);
+    wanted.h.small.state = HANDSET_FRAME_OPEN;
+    wanted.h.small.len = 3;
+    memcpy(wanted.h.frame, "&V?", 3);
+    check("fed", "a byte less than the longest answer");
+    MAKE(handset_feed(&now.h, version + 4, 1, now.room, HANDSET_LONGEST_ANSWER, FED), HANDSET_DONE);
+    counted(1, TOLD("&V: HA400 V.01.00 25.09.2006"), HANDSET_LONGEST_ANSWER);
+    wanted.h.small.state = HANDSET_FRAME_NONE;
+    wanted.h.small.len = 0;
+    memset(wanted.h.frame, 0, 3);
+    check("fed", "the longest answer");
+
+    prepare("");
+    MAKE(handset_room_needed(&now.h, (const uint8_t *)"\033\033\033\r", 4, &now.needed), HANDSET_DONE);
+    wanted.needed = 9;
+    check("needed", "room for three of her marks");
+}
+
+static void try_her_log(void)
+{
+    static const uint16_t ticks[] = {1, 2, 3};
+    static const uint8_t edges[] = {HANDSET_PRESS, HANDSET_RELEASE, SWITCH_PTT + 1};
+    prepare(FRAME("IEE"));
+    MAKE(handset_take_log(&now.h, ticks, 2, edges, 2, now.room, 2 * MESSAGE_SIZE, FED), HANDSET_DONE);
+    counted(2, MESSAGE("Ls") MESSAGE("Le"), 2 * MESSAGE_SIZE);
+    check("log", "her press and release");
+    MAKE(handset_take_log(&now.h, ticks, 2, edges, 2, now.room, 2 * MESSAGE_SIZE - 1, FED), HANDSET_DONE);
+    counted(1, MESSAGE("Ls"), MESSAGE_SIZE);
+    wanted.h.small.edition.keys.stage = HANDSET_STAGE_SHORT;
+    wanted.h.small.edition.keys.tick.tick = 1;
+    check("log", "no room for her second message");
+    REFUSED("log", "an edge that is not listed for her", handset_take_log(&now.h, ticks, 3, edges, 3, now.room, ROOM, FED),
+            HANDSET_NOT_LISTED, ANSWER(fed));
 }
 
 static void try_log(void)
@@ -482,14 +680,41 @@ static const struct spoilt fields[] = {
     {"the last byte of her keys that are down", AT(h.small.edition.keys.down) + 3, {1, 2, 128, 255}},
 };
 
+/* Of the sister's record, with no key down. */
+static const struct spoilt her_fields[] = {
+    {"her contrast", AT(h.small.settings.contrast), {21, 22, 128, 255}},
+    {"her brightness", AT(h.small.edition.brightness), {101, 102, 128, 255}},
+    {"her speaker's volume", AT(h.small.edition.speaker), {8, 9, 128, 255}},
+    {"her Time1", AT(h.small.settings.times.time1), {0, 3, 51, 255}},
+    {"her Time2", AT(h.small.settings.times.time2), {1, 3, 51, 255}},
+    {"her duration", AT(h.small.settings.backlight.duration), {0, 251, 252, 255}},
+    {"her seconds", AT(h.small.settings.backlight.left), {251, 252, 254, 255}},
+    {"the held key of her record", AT(h.small.held.key), {1, 2, 18, 255}},
+    {"the stage of her keys", AT(h.small.edition.keys.stage), {3, 4, 128, 255}},
+    {"her key", AT(h.small.edition.keys.key), {1, 20, 128, 255}},
+    {"the low byte of her tick", AT(h.small.edition.keys.tick), {1, 2, 128, 255}},
+    {"the high byte of her tick", AT(h.small.edition.keys.tick) + 1, {1, 2, 128, 255}},
+    {"the first byte of her set of keys", AT(h.small.edition.keys.down), {1, 2, 128, 255}},
+    {"the last byte of her set of keys", AT(h.small.edition.keys.down) + 3, {1, 2, 128, 255}},
+};
+
 /* In text mode 5 and with a key held since tick 0 every flag may be 0 or 1, but for those of the edition. So a number that was taken for
- * one of these is not refused for something else. */
+ * one of these is not refused for something else. The sister's record has no such key. */
 static void spoil(const struct spoilt *field, uint8_t value)
 {
-    prepare(FRAME("ID5") FRAME("IEA"));
-    now.h.small.held.down = true;
+    prepare(hers() ? FRAME("IDM2") FRAME("IEA") : FRAME("ID5") FRAME("IEA"));
+    now.h.small.held.down = !hers();
     ((uint8_t *)&now)[field->at] = value;
     begin();
+}
+
+/* Whether a flag may have this value, 0 or 1. */
+static bool may_be(size_t at, uint8_t value)
+{
+    bool of_edition = at >= AT(h.small.edition) && at < AT(h.small.edition) + sizeof now.h.small.edition;
+    bool of_held = at == AT(h.small.held.down) || at == AT(h.small.held.long_stage);
+    if (hers() && at == AT(h.small.edition.sister)) return value == 1;
+    return value == 0 || !(hers() ? of_held : of_edition);
 }
 
 static bool holds(bool ok, const char *call, uint8_t value)
@@ -522,7 +747,7 @@ static void try_spoilt(const struct spoilt *field)
 {
     bool ok = true;
     for (size_t i = 0; i < COUNT(field->values); i++) ok = all_refuse(field, field->values[i]) && ok;
-    verdict(ok, "refused", field->field);
+    verdict(ok, hers() ? "refused of hers" : "refused", field->field);
 }
 
 static void try_flag(const struct spoilt *flag)
@@ -530,12 +755,12 @@ static void try_flag(const struct spoilt *flag)
     bool ok = true;
     for (uint8_t value = 0; value <= 1; value++) {
         spoil(flag, value);
-        if (value == 1 && fixed(flag->at))
+        if (!may_be(flag->at, value))
             ok = all_refuse(flag, value) && ok;
         else
             ok = holds(handset_in_range(&now.h), "handset_in_range", value) && ok;
     }
-    verdict(ok, "taken", flag->field);
+    verdict(ok, hers() ? "taken of hers" : "taken", flag->field);
     try_spoilt(flag);
 }
 
@@ -838,6 +1063,33 @@ static void try_key(uint8_t key)
     check("key", name);
 }
 
+/* The sister's keys and switches, each by its sign: the messages of its press and of its release. */
+static void try_her_key(uint8_t key)
+{
+    static const char signs[] = "LREAUD1234567890*#OMNHP";
+    static const uint16_t ticks[] = {7, 9};
+    const uint8_t edges[] = {(uint8_t)(HANDSET_PRESS + key), (uint8_t)(HANDSET_RELEASE + key)};
+    const char name[] = {signs[key], 0};
+    char messages[] = MESSAGE("?s") MESSAGE("?e");
+    messages[2] = messages[MESSAGE_SIZE + 2] = signs[key];
+    prepare(FRAME("IEE"));
+    MAKE(handset_take_log(&now.h, ticks, 2, edges, 2, now.room, ROOM, FED), HANDSET_DONE);
+    counted(2, messages, 2 * MESSAGE_SIZE);
+    check("her key", name);
+}
+
+/* What is not told of the first edition alone. */
+static void try_sister(void)
+{
+    power_on = handset_sister_power_on;
+    try_her_fed();
+    try_her_log();
+    for (size_t i = 0; i < COUNT(flags); i++) try_flag(&flags[i]);
+    for (size_t i = 0; i < COUNT(her_fields); i++) try_spoilt(&her_fields[i]);
+    for (uint8_t key = 0; key <= SWITCH_PTT; key++) try_her_key(key);
+    power_on = handset_power_on;
+}
+
 int main(void)
 {
     verdict(handset_interface() == HANDSET_INTERFACE, "interface", "header and archive are of one");
@@ -845,6 +1097,7 @@ int main(void)
     try_fields();
     try_power_on(handset_power_on, 0, "the record");
     try_power_on(handset_power_on_former, 12, "the former record");
+    try_power_on(handset_sister_power_on, 12, "the sister's record");
     try_fed();
     try_log();
     try_lights();
@@ -858,5 +1111,6 @@ int main(void)
     try_picture_rows();
     try_questions();
     for (uint8_t key = 0; key < COUNT(codes); key++) try_key(key);
+    try_sister();
     return 0;
 }

@@ -11,6 +11,7 @@
  *
  *   P                           the power-on record
  *   O                           the power-on record of the former defaults, whose Time2 is 12
+ *   Z                           the power-on record of the sister
  *   S FIELD PLACE VALUE         sets a place of a field to any value, in range or not; FIELD is one byte
  *   R                           whether the record is in range
  *   F ROOM BYTES                the stream call, with no bytes or more
@@ -38,7 +39,7 @@
  * What it prints. A line is a word and bytes, in upper case; one with no bytes is the word alone. NUMBER is document 01's, a byte; a flag
  * is 0 or 1. USED and WRITTEN are two bytes, and so is a TICK; all else is one, but for arrays.
  *
- *   P, O and S       the letter and 00
+ *   P, O, Z and S    the letter and 00
  *   R                R 01 in range, R 00 not
  *   C and H          the letter and NUMBER
  *   N                N NUMBER BOUND, two bytes
@@ -63,7 +64,7 @@
  *                      cell OWNER WHERE VALUE MARK    OWNER, WHERE and MARK 2 to 5 as OWNER, ROW and MARK above; 6 the left label, 8 the
  *                                                right one, WHERE a cell of it, VALUE 0 past its length; 7 the rocker, WHERE 0
  *
- * After the lines of P, O, S, F, K, C and H the whole record follows:
+ * After the lines of P, O, Z, S, F, K, C and H the whole record follows:
  *
  *   screen DISPLAY MODE OVERLAY SHOWN ROW COLUMN           OVERLAY 0 is none; SHOWN, ROW and COLUMN are the cursor's
  *   labels LEFT RIGHT                                      their lengths
@@ -307,6 +308,13 @@ static void power_on_former(void)
     say_record();
 }
 
+static void power_on_sister(void)
+{
+    handset_sister_power_on(&record);
+    SAY("Z", 0);
+    say_record();
+}
+
 static void set(void)
 {
     const struct field *field = &fields[bytes[0]];
@@ -526,6 +534,7 @@ static const struct call {
 } calls[] = {
     {'P', false, 0, 0, 0, 255, power_on},
     {'O', false, 0, 0, 0, 255, power_on_former},
+    {'Z', false, 0, 0, 0, 255, power_on_sister},
     {'S', false, 5, 5, 0, FIELD_COUNT - 1, set},
     {'R', false, 0, 0, 0, 255, in_range},
     {'F', true, 0, MOST_STREAM, 0, 255, feed},

@@ -2,10 +2,9 @@
  * Finds by trial which values the range question takes in each field of the record, and prints a line a field in the order of document
  * 01's table. A record is put to the question for each value, the other fields as the line says (at power-on where it says nothing). Of
  * an array every place named is tried with every value, and so is a flag: C can't keep a program from one that is neither 0 nor 1.
- * A record of the sister is refused, so of hers one line tells all: her power-on record is tried with every value at every place.
- * Behind them are lines for each call that is lent a record: which values it takes in the record's flags, and in those of the edition.
- * All others it must refuse with number 1, leave what it was lent as it was, and store zero as its answer; a line on which it does not
- * says so.
+ * A second block tells the same of the sister's record, from her power-on on. Behind them are lines for each call that is lent a record:
+ * which values it takes in the record's flags, and in those of the edition; then the same of the sister's. All others it must refuse with
+ * number 1, leave what it was lent as it was, and store zero as its answer; a line on which it does not says so.
  */
 #include "handset.h"
 
@@ -17,6 +16,10 @@ enum { BYTE_VALUES = 256, TICK_VALUES = 65536, FILLING = 0x41, UNSTORED = 0xAA }
 
 static struct handset record;
 static struct handset_settings *const settings = &record.small.settings;
+static struct handset_edition *const edition = &record.small.edition;
+
+/* Stands before the names of the sister's lines. */
+static const char *whose = "";
 
 /* ---- A line ---- */
 
@@ -26,7 +29,7 @@ static unsigned first;
 
 static void begin(const char *name)
 {
-    printf("%s:", name);
+    printf("%s%s:", whose, name);
     any_taken = false;
 }
 
@@ -172,11 +175,16 @@ static void list_volume(void)
     list_with("volume hidden with handsfree", HANDSET_WHICH_HANDSFREE, 5, &volume->hidden);
 }
 
-static void list_left(const char *name, uint8_t mode)
+/* A field of the light in a mode; PWM is off. */
+static void list_in_light(const char *name, uint8_t mode, void *field)
 {
+    uint8_t before = settings->backlight.mode;
+    bool pwm = edition->pwm;
     settings->backlight.mode = mode;
-    list(name, &settings->backlight.left, 1);
-    settings->backlight.mode = HANDSET_LIGHT_OFF;
+    edition->pwm = false;
+    list(name, field, 1);
+    settings->backlight.mode = before;
+    edition->pwm = pwm;
 }
 
 static void list_settings(void)
@@ -186,9 +194,9 @@ static void list_settings(void)
     list("buzzer", &settings->buzzer, 1);
     list("backlight mode (0 off, 1 on, 2 auto)", &settings->backlight.mode, 1);
     list("backlight duration", &settings->backlight.duration, 1);
-    list_left("backlight left when off", HANDSET_LIGHT_OFF);
-    list_left("backlight left when on", HANDSET_LIGHT_ON);
-    list_left("backlight left in auto", HANDSET_LIGHT_AUTO);
+    list_in_light("backlight left when off", HANDSET_LIGHT_OFF, &settings->backlight.left);
+    list_in_light("backlight left when on", HANDSET_LIGHT_ON, &settings->backlight.left);
+    list_in_light("backlight left in auto", HANDSET_LIGHT_AUTO, &settings->backlight.left);
     list("keypad flag", &settings->backlight.keypad, 1);
     list("contrast", &settings->contrast, 1);
     list("hook", &settings->hook, 1);
@@ -245,39 +253,66 @@ static void list_frame(void)
     record.small.state = HANDSET_FRAME_NONE;
 }
 
-/* The sister's power-on record. */
-static void become_sister(void)
-{
-    struct handset_edition *edition = &record.small.edition;
-    edition->sister = edition->pwm = true;
-    edition->brightness = 50;
-    edition->speaker = 3;
-    settings->backlight.mode = HANDSET_LIGHT_AUTO;
-    settings->times.time2.tenths = 12;
-}
-
-/* The set of keys is tried byte by byte: all of its values would take too long. */
 static void list_edition(void)
 {
-    struct handset_edition *edition = &record.small.edition;
     struct handset_keys *keys = &edition->keys;
     list("sister", &edition->sister, 1);
     list("brightness", &edition->brightness, 1);
     list("speaker volume", &edition->speaker, 1);
-    list("PWM flag", &edition->pwm, 1);
+    list_in_light("PWM flag when off", HANDSET_LIGHT_OFF, &edition->pwm);
+    list_in_light("PWM flag when on", HANDSET_LIGHT_ON, &edition->pwm);
+    list_in_light("PWM flag in auto", HANDSET_LIGHT_AUTO, &edition->pwm);
     list("PTT", &edition->ptt, 1);
-    list("stage of the sister's keys (0 none)", &keys->stage, 1);
-    list("key of the sister's keys", &keys->key, 1);
-    list_tick("tick of the sister's keys", &keys->tick);
-    list("set of the sister's keys that are down, 4 places", &keys->down, sizeof keys->down);
-    become_sister();
-    list("any place of the sister's record", &record, sizeof record);
+    list("stage of keys with none in the set (0 none, 1 short, 2 long, 3 false)", &keys->stage, 1);
+    keys->down = 1;
+    list("stage of keys with one in the set", &keys->stage, 1);
+    keys->down = 0;
+}
+
+/* The keys in a stage. In the stage false key 0 is in the set. */
+static void list_keys(uint8_t stage, const char *key, const char *tick, const char *set)
+{
+    struct handset_keys *keys = &edition->keys;
+    keys->stage = stage;
+    keys->down = stage == HANDSET_STAGE_FALSE;
+    list(key, &keys->key, 1);
+    list_tick(tick, &keys->tick);
+    if (set != NULL) list(set, &keys->down, sizeof keys->down);
+    keys->stage = HANDSET_STAGE_NONE;
+    keys->down = 0;
+}
+
+/* A set is tried byte by byte, since all of its values would take too long: where the lowest comes first. Keys 0 to 7 are in the first. */
+static void list_sets(void)
+{
+    uint8_t *set = (uint8_t *)&edition->keys.down;
+    edition->keys.stage = HANDSET_STAGE_FALSE;
+    list("set of keys 0-7 when false, with no other key", set, 1);
+    list("set of keys 8-15 when false, with no other key", set + 1, 1);
+    list("set of keys 16-23 when false, with no other key", set + 2, 1);
+    set[0] = 1;
+    list("set of keys 8-15 when false, with key 0", set + 1, 1);
+    list("set of keys 16-23 when false, with key 0", set + 2, 1);
+    list("set of keys 24-31 when false, with key 0", set + 3, 1);
+    set[0] = 0;
+    edition->keys.stage = HANDSET_STAGE_NONE;
+}
+
+/* Her times rest on each other. */
+static void list_times(void)
+{
+    struct handset_times before = settings->times;
+    settings->times.time2.tenths = 0;
+    list("Time1 with Time2 0", &settings->times.time1, 1);
+    settings->times.time1.tenths = 0;
+    list("Time2 with Time1 0", &settings->times.time2, 1);
+    settings->times = before;
 }
 
 /* ---- Flags that calls take ---- */
 
-/* What calls are lent beside the record: a question that is answered, a key that has a code, and places for answers. */
-static const uint8_t question[] = {0x1B, 'I', 'A', '\r'};
+/* What calls are lent beside the record: a frame that is answered in both editions, a key that has a code, and places for answers. */
+static const uint8_t question[] = {0x1B, 'I', 'H', '\r'};
 static const uint16_t ticks[] = {7};
 static const uint8_t edges[] = {HANDSET_PRESS + HANDSET_KEY_1};
 static uint8_t room[HANDSET_LONGEST_ANSWER];
@@ -336,7 +371,10 @@ static uint8_t column_seen(void)
     return handset_column_seen(&record, 0, 0, HANDSET_LIT, &column);
 }
 
-/* That of the backlight is first, since one call is lent no other. Those of the edition are apart: 1 is out of their range. */
+/*
+ * That of the backlight is first, since one call is lent no other; those of the held key are last, which the sister's record has not.
+ * Those of the edition are apart: in the first edition 1 is out of their range, but for the first, which makes it hers.
+ */
 static bool *const flags[] = {
     &record.small.settings.backlight.keypad,
     &record.small.settings.screen.display,
@@ -362,9 +400,16 @@ static const struct group {
     const char *name;
     bool *const *flags;
     size_t count;
-} of_record = {"flags, 13 places, by ", flags, sizeof flags / sizeof flags[0]},
-  of_edition = {"flags of the edition, 3 places, by ", edition_flags, sizeof edition_flags / sizeof edition_flags[0]},
-  of_light = {"keypad flag by ", flags, 1};
+    bool sister; /* whether it is of her record */
+} of_record = {"flags, 13 places, by ", flags, 13, false},
+  of_edition = {"flags of the edition, 3 places, by ", edition_flags, 3, false},
+  of_light = {"keypad flag by ", flags, 1, false},
+  of_sister[] = {
+      {"the sister's flags, 11 places, by ", flags, 11, true},
+      {"the sister's flags of the held key, 2 places, by ", flags + 11, 2, true},
+      {"whether it is the sister, from hers, by ", edition_flags, 1, true},
+      {"the sister's flags of the edition, 2 places, by ", edition_flags + 1, 2, true},
+  };
 
 struct call {
     const char *name;
@@ -414,11 +459,11 @@ static bool takes(const struct call *call)
     return false;
 }
 
-/* A key is held, so that its stage may be either. */
+/* In the first edition a key is held, so that its stage may be either. So a record of hers is refused. */
 static void list_flags(const struct call *call, const struct group *group)
 {
-    handset_power_on(&record);
-    record.small.held.down = true;
+    (group->sister ? handset_sister_power_on : handset_power_on)(&record);
+    record.small.held.down = !group->sister;
     printf("%s", group->name);
     begin(call->name);
     for (unsigned value = 0; value < BYTE_VALUES; value++) {
@@ -447,13 +492,8 @@ static const struct call calls[] = {
     {"handset_column_seen", column_seen, &of_record, &column, sizeof column},
 };
 
-int main(void)
+static void list_record(void)
 {
-    if (handset_interface() != HANDSET_INTERFACE) {
-        printf("header and archive are of two interfaces\n");
-        return 2;
-    }
-    handset_power_on(&record);
     list_screen();
     list_label("left label length", "left label used places", "left label unused places", &settings->left);
     list_label("right label length", "right label used places", "right label unused places", &settings->right);
@@ -466,9 +506,38 @@ int main(void)
     list_held();
     list_frame();
     list_edition();
-    for (size_t i = 0; i < sizeof calls / sizeof calls[0]; i++) {
+    list_keys(HANDSET_STAGE_NONE, "key of keys with none", "tick of keys with none", "set of keys with none, 4 places");
+}
+
+/* What only the sister's record has. */
+static void list_sister(void)
+{
+    list_times();
+    list_keys(HANDSET_STAGE_SHORT, "key of keys when short", "tick of keys when short", "set of keys when short, 4 places");
+    list_keys(HANDSET_STAGE_LONG, "key of keys when long", "tick of keys when long", "set of keys when long, 4 places");
+    list_keys(HANDSET_STAGE_FALSE, "key of keys when false", "tick of keys when false", NULL);
+    list_sets();
+}
+
+int main(void)
+{
+    const size_t count = sizeof calls / sizeof calls[0];
+    if (handset_interface() != HANDSET_INTERFACE) {
+        printf("header and archive are of two interfaces\n");
+        return 2;
+    }
+    handset_power_on(&record);
+    list_record();
+    whose = "the sister's ";
+    handset_sister_power_on(&record);
+    list_record();
+    list_sister();
+    whose = "";
+    for (size_t i = 0; i < count; i++) {
         list_flags(&calls[i], calls[i].group);
         if (calls[i].group == &of_record) list_flags(&calls[i], &of_edition);
     }
+    for (size_t i = 0; i < count; i++)
+        for (size_t k = 0; k < 4 && calls[i].group == &of_record; k++) list_flags(&calls[i], &of_sister[k]);
     return 0;
 }

@@ -18,15 +18,20 @@ enum { PAINTED = 32768, SKIPPED = 256, PAINT = 0xA5, STREAM = 1024 };
 static const char *const frames[] = {
     "IDD", "IDE", "&C", "[2;7H", "IK1ABCDEFG", "IK2abcdefg", "IK0", "IS1", "IU255", "IF6", "IR1", "IP19", "IW3", "IL7", "IJ9", "II3",
     "IM1", "IT4;50", "IB200", "IE77", "IEE", "IES", "IEA", "IER", "IEe", "IEr", "IA20", "IZ1", "IA", "IH", "&V", "[K", "&#", "Q", "IP20",
-    "IP0001", "Gr0,yFFyFFyFFq01z", "Gr6,001122334455a01z", "ID10", "ID13", "ID14", "ID18", "ID5", "Gr7,00z", "IK1ABCDEFGH"};
+    "IP0001", "Gr0,yFFyFFyFFq01z", "Gr6,001122334455a01z", "ID10", "ID13", "ID14", "ID18", "ID5", "Gr7,00z", "IK1ABCDEFGH",
+    /* the sister's own */
+    "IDMD", "IDME", "&C1", "&H2;7", "&D", "&K", "IU2", "IT0;0", "IE250", "IEP", "IEQ", "IEc", "IEs", "IA+", "IA-", "IN100", "IN+", "IN-",
+    "IV7", "IV+", "IV-", "&H?", "&V?", "KH?", "KP?", "IA?", "IDM?", "IE?", "IN?", "IT?", "IV?", "IN101", "&00", "IDM12", "IDM4"};
 static const char screen[] = "\033ID0\r\033ID5\r\033IK1a\r\033IK2b\rtext\033Gr0,00z\r\033IA\r\033IK0\r\033IL5\r\033ID";
 static const uint16_t ticks[] = {1, 200, 400, 500, 600, 610};
 static const uint8_t edges[] = {0, HANDSET_POLL, HANDSET_POLL, HANDSET_RELEASE, 5, HANDSET_RELEASE + 5};
+static const uint8_t her_edges[] = {0, HANDSET_POLL, HANDSET_POLL, 5, 21, 22};
 
 /* what is lent; nothing of it lies on the stack */
 static struct handset phone;
-static uint8_t stream[STREAM], room[256];
+static uint8_t stream[STREAM], room[512];
 static size_t stream_count;
+static const uint8_t *pressed;
 static uint64_t used, written;
 static uint16_t number_out;
 static struct handset_panel panel;
@@ -56,9 +61,10 @@ static void make_stream(void)
     CALL(interface, kept = (uint8_t)handset_interface())                                                                         \
     CALL(power_on, handset_power_on(&phone))                                                                                     \
     CALL(power_on_former, handset_power_on_former(&phone))                                                                       \
+    CALL(sister_power_on, handset_sister_power_on(&phone))                                                                       \
     CALL(in_range, kept = handset_in_range(&phone))                                                                              \
     CALL(feed, kept = handset_feed(&phone, stream, stream_count, room, sizeof room, &used, &written))                            \
-    CALL(take_log, kept = handset_take_log(&phone, ticks, 6, edges, 6, room, sizeof room, &used, &written))                      \
+    CALL(take_log, kept = handset_take_log(&phone, ticks, 6, pressed, 6, room, sizeof room, &used, &written))                    \
     CALL(second, kept = handset_second(&phone))                                                                                  \
     CALL(light_second, kept = handset_light_second(&phone.small.settings.backlight))                                             \
     CALL(hook, kept = handset_hook(&phone, 0))                                                                                   \
@@ -110,9 +116,10 @@ static APART size_t depth_below(const volatile uint8_t *top)
     return (size_t)(top - at);
 }
 
-static APART void prepare(const char *frame)
+static APART void prepare(bool sister, const char *frame)
 {
-    handset_power_on(&phone);
+    pressed = sister ? her_edges : edges;
+    (sister ? handset_sister_power_on : handset_power_on)(&phone);
     kept = handset_feed(&phone, (const uint8_t *)frame, strlen(frame), room, sizeof room, &used, &written);
 }
 
@@ -125,13 +132,19 @@ static APART size_t depth_of(void (*call)(void))
 
 int main(void)
 {
-    static const char *const modes[] = {"\033ID0\r", "\033ID5\r", "\033ID10\r", "\033ID14\r"};
+    static const struct {
+        bool sister;
+        const char *frame;
+    } modes[] = {
+        {false, "\033ID0\r"}, {false, "\033ID5\r"}, {false, "\033ID10\r"}, {false, "\033ID14\r"},
+        {true, "\033IDM0\r"}, {true, "\033IDM2\r"}, {true, "\033IDM4\r"},  {true, "\033IDM8\r"},
+    };
     make_stream();
     for (size_t i = 0; i < COUNT(calls); i++) {
         size_t most = 0;
         for (size_t mode = 0; mode < COUNT(modes); mode++) {
             size_t depth;
-            prepare(modes[mode]);
+            prepare(modes[mode].sister, modes[mode].frame);
             depth = depth_of(calls[i].call);
             if (depth > most) most = depth;
         }

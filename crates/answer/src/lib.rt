@@ -28,9 +28,9 @@ pub fn is_silence(answer: Answer) -> bool
 }
 
 // Bytes behind what is written, if all of them have room there: how much is written then.
-fn put(answers: &mut [u8], written: usize, bytes: &[u8]) -> usize
-    ensures { λ r. ⌜ r ≡ countAfter (now (answers .entry)) written (now (bytes .entry)) ⌝ }
-    ensures { λ r. ⌜ now (answers .exit) ≡ bufferAfter (now (answers .entry)) written (now (bytes .entry)) ⌝ }
+pub fn put(answers: &mut [u8], written: usize, bytes: &[u8]) -> usize
+    ensures same { λ r. ⌜ r ≡ countAfter (now (answers .entry)) written (now (bytes .entry)) ⌝ }
+    ensures buffer { λ r. ⌜ now (answers .exit) ≡ bufferAfter (now (answers .entry)) written (now (bytes .entry)) ⌝ }
 {
     let room = answers.len();
     if room < written {

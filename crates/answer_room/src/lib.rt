@@ -1,9 +1,9 @@
 // How much room for answers a stream call can need, told before it is made: by the ESC bytes that are offered and the frame that is
-// open. It holds where no frame is a question.
+// open, each a mark of the record's edition. It holds where no frame is a question.
 ghost use mathlib.Core.Path.{_≡_};
 ghost use Rattle.record.specs.Parts.{together};
 ghost use Rattle.parting.specs.Count.{escapes};
-ghost use Rattle.answer_room.specs.Needed.{roomNeeded};
+ghost use Rattle.answer_room.specs.Needed.{roomFor, roomNeeded};
 use lists::ESCAPE;
 use record::FrameBytes;
 use record::NO_FRAME;
@@ -13,6 +13,11 @@ use record::Record;
 use record::Small;
 use record::Text;
 use record_ranges::in_range_lent;
+
+// The sister's mark is '?' CR LF.
+const SISTER_MARK: usize = 3;
+
+const GREATEST: usize = 0xFFFF_FFFF_FFFF_FFFF;
 
 pub struct RoomNeeded {
     pub number: Number,
@@ -35,6 +40,19 @@ pub fn escapes_in(bytes: &[u8]) -> usize
     n
 }
 
+// The room for so many marks. The sister's stops at its type's end rather than run over.
+fn room_for(sister: bool, marks: usize) -> usize
+    ensures same { λ n. ⌜ n ≡ roomFor sister marks ⌝ }
+{
+    if sister {
+        if GREATEST / SISTER_MARK < marks {
+            return GREATEST;
+        }
+        return marks * SISTER_MARK;
+    }
+    marks
+}
+
 // The room that a call on this record and these bytes can need. The arrays are only lent to be judged.
 pub fn room_needed_lent<'a>(
     small: Small,
@@ -52,16 +70,13 @@ pub fn room_needed_lent<'a>(
             bytes: 0,
         };
     }
-    let n = escapes_in(bytes);
-    if small.state == NO_FRAME {
-        return RoomNeeded {
-            number: Number::Done,
-            bytes: n,
-        };
+    let mut marks = escapes_in(bytes);
+    if small.state != NO_FRAME {
+        marks += 1;
     }
     RoomNeeded {
         number: Number::Done,
-        bytes: n + 1,
+        bytes: room_for(small.edition.sister, marks),
     }
 }
 

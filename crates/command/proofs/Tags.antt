@@ -8,7 +8,7 @@ use borrow.Author.Tests.{ne-eqb}
 use types.Run.{OneOf, miss}
 use mir.Val.{hasKey}
 use denote.Enum.Declared
-use Rattle.frame_table.specs.Kinds.{of-kind}
+use Rattle.frame_table.specs.Kinds.{alike}
 use Rattle.command.specs.First.{kinds, kind}
 use Rattle.command.specs.Kind.{place, sameKind}
 use Rattle.command.specs.declared.Command.{Command}
@@ -19,10 +19,7 @@ tag c = Declared.tagOf Commands.the-type c
 
 -- A command's tag is the place of its kind.
 tag-is-place : (c : Command) → tag c ≡ place c
-tag-is-place c =
-    let k = kind c in
-    let w = of-kind kinds (λ (f : ℕ → ℕ → Command). tag (f (k .m) (k .n))) (λ (f : ℕ → ℕ → Command). place (f (k .m) (k .n))) refl (k .place) (k .same) in
-    subst (λ (x : Command). tag x ≡ place x) (w .is) (w .same)
+tag-is-place c = alike kinds tag place (λ m n. refl) (kind c)
 
 abbrev isOneOf : ℕ → List ℕ → Bool
 isOneOf at [] = false

@@ -25,7 +25,7 @@ use Rattle.frame_table.specs.Opens.{heads}
 use Rattle.frame_table.specs.Reader.{no-other}
 use Rattle.frame_table.specs.Reader as commands
 use Rattle.lists.specs.Tests.{by-test}
-use Rattle.command.specs.First.{opensLabel, first, tested}
+use Rattle.command.specs.First.{opensLabel, isOtherFrame, first, tested}
 use Rattle.command.specs.Reading.{butLast, isText, labelRead, readWith, readOf, opensPicture, rowWith, rowAndData, drawnRow, pictureOf, orderDrawn, orderOf}
 use Rattle.command.specs.declared.Command.{Command}
 use Rattle.command.specs.declared.Side.{Side}
@@ -64,26 +64,30 @@ draw-read {row} {d} {cs} h draws =
     rw (end-read d (code "z"), before-read d (code "z"), digit-read row h, same, drawing.complete draws) (row-drawn row cs (draws .least))
 
 -- a command's first bytes are no label's and no picture's
-label-heads : (f : List ℕ) → opensLabel (heads 3 f) ≡ opensLabel f
-label-heads [] = refl
-label-heads (a ∷ []) = by-test (eqb a (code "I")) (λ e. rw e) (λ e. rw e)
-label-heads (a ∷ b ∷ []) = by-test (eqb a (code "I")) (λ e. by-test (eqb b (code "K")) (λ g. rw (e, g)) (λ g. rw (e, g))) (λ e. rw e)
-label-heads (a ∷ b ∷ c ∷ f) = refl
+label-heads : (k : ℕ) (f : List ℕ) → opensLabel (heads (suc (suc (suc k))) f) ≡ opensLabel f
+label-heads k [] = refl
+label-heads k (a ∷ []) = by-test (eqb a (code "I")) (λ e. rw e) (λ e. rw e)
+label-heads k (a ∷ b ∷ []) = by-test (eqb a (code "I")) (λ e. by-test (eqb b (code "K")) (λ g. rw (e, g)) (λ g. rw (e, g))) (λ e. rw e)
+label-heads k (a ∷ b ∷ c ∷ f) = refl
 
-no-picture : (f : List ℕ) → eqb (getD (heads 3 f) 0 0) (code "G") ≡ false → opensPicture f ≡ false
+no-picture : (k : ℕ) (f : List ℕ) → eqb (getD (heads (suc k) f) 0 0) (code "G") ≡ false → opensPicture f ≡ false
 unfolding opensPicture
-no-picture [] e = refl
-no-picture (a ∷ []) e = refl
-no-picture (a ∷ b ∷ rest) e = rw e
+no-picture k [] e = refl
+no-picture k (a ∷ []) e = refl
+no-picture k (a ∷ b ∷ rest) e = rw e
 
 neither : {a b : Bool} → (a || b) ≡ false → (a ≡ false) × (b ≡ false)
 neither {a = true} h = absurd (true≢false h)
 neither {a = false} h = (refl, h)
 
+-- told by three first bytes or more
+pub opens-neither : (k : ℕ) (f : List ℕ) → isOtherFrame (heads (suc (suc (suc k))) f) ≡ false → (opensLabel f ≡ false) × (opensPicture f ≡ false)
+opens-neither k f h =
+    let w = neither {a = opensLabel (heads (suc (suc (suc k))) f)} h in
+    (sym (label-heads k f) ∙ w .0, no-picture (suc (suc k)) f (w .1))
+
 pub plain-opens : (c : Command) (f : List ℕ) → Spells (plain c) f → (opensLabel f ≡ false) × (opensPicture f ≡ false)
-plain-opens c f s =
-    let w = neither {a = opensLabel (heads 3 f)} (no-other first tested c f s) in
-    (sym (label-heads f) ∙ w .0, no-picture f (w .1))
+plain-opens c f s = opens-neither 0 f (no-other first tested c f s)
 
 plain-order : (c : Command) (f : List ℕ) → Spells (plain c) f → orderOf f ≡ some (plain c)
 unfolding orderOf readOf readWith

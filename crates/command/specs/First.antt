@@ -152,4 +152,4 @@ unfolding numbersAfter numbersTold beginsEach withNumber displayOf lightOf contr
 kinds-right m n = refl
 
 pub tested : Tested first
-tested = record { table-right = table-right; kinds-right = kinds-right; kind = kind }
+tested = record { table-right = table-right; kinds-right = kinds-right; kind = λ c f s. kind c }

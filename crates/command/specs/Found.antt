@@ -2,7 +2,7 @@
 use Prim.Native.Nat.{ℕ, _-_, _<_, _≤_}
 use Prim.Native.Char.{code}
 use native.Mathlib.Omega.{arith}
-use mathlib.Core.Bool.{Bool, true, false, cond, _&&_, true≢false}
+use mathlib.Core.Bool.{Bool, true, false, cond, true≢false}
 use mathlib.Core.List.{List, [], _∷_}
 use mathlib.Core.Option.{Option, none, some}
 use mathlib.Core.Path.{_≡_, refl, sym, ap, _∙_}
@@ -28,7 +28,7 @@ use Rattle.command.specs.Pick.{withNumber, displayOf, lightOf, contrastO
 use Rattle.command.specs.Table.{classes, nextStates}
 use Rattle.command.specs.First.{opensLabel, pick, first, tested}
 use Rattle.command.specs.Complete.{plain-opens}
-use Rattle.command.specs.Sound.{cond-if, sound}
+use Rattle.command.specs.Sound.{cond-if, by-picture, sound}
 use Rattle.command.specs.declared.Side.{Side}
 use Rattle.command.specs.declared.Reading.{Reading}
 use Rattle.command.specs.declared.Reading.the-variants.{Bad, Plain, Label}
@@ -151,10 +151,4 @@ drawn-fits digit rest =
     (λ z. none-fits)
 
 pub picture-fits : (f : List ℕ) → Fits (pictureOf f)
-unfolding pictureOf
-picture-fits [] = none-fits
-picture-fits (a ∷ []) = none-fits
-picture-fits (a ∷ b ∷ []) = none-fits
-picture-fits (a ∷ b ∷ c ∷ []) = none-fits
-picture-fits (a ∷ b ∷ digit ∷ comma ∷ rest) =
-    cond-if Fits (eqb a (code "G") && eqb b (code "r") && eqb comma (code ",")) (λ e. drawn-fits digit rest) (λ e. none-fits)
+picture-fits f = by-picture Fits f none-fits (λ digit rest e. drawn-fits digit rest)

@@ -11,7 +11,7 @@ use Rattle.command.specs.Grammar.{Piece, sign, number, digit, text, colu
 use Rattle.command.specs.declared.Command.{Command}
 use Rattle.frame_table.specs.Spelling.{isPlain}
 use Rattle.frame_table.specs.Reader as commands
-use Rattle.command.specs.First.{first, tested}
+use Rattle.command.specs.First.{first, kind, tested}
 
 -- no piece is the data of a picture, which may be cut into items in several ways
 abbrev pub NoData : List Piece → Type 0
@@ -22,7 +22,7 @@ NoData (digit r n ∷ ps) = NoData ps
 NoData (text t ∷ ps) = NoData ps
 NoData (columns cs ∷ ps) = ⊥
 
-one-match : (ps : List Piece) {f g : List ℕ} → NoData ps → Matches ps f → Matches ps g → f ≡ g
+pub one-match : (ps : List Piece) {f g : List ℕ} → NoData ps → Matches ps f → Matches ps g → f ≡ g
 one-match [] h end end = refl
 one-match (sign s ∷ ps) h (signs _ m) (signs _ k) = ap (λ (t : List ℕ). s ++ t) (one-match ps h m k)
 one-match (number r n ∷ ps) h (digits a m) (digits b k) = ap₂ {C = List ℕ} (λ (d t : List ℕ). d ++ t) (one-spelling a b) (one-match ps h m k)
@@ -33,7 +33,7 @@ one-match (columns cs ∷ ps) h m k = absurd h
 pub one-frame : (o : Order) (f g : List ℕ) → NoData (form o) → Spells o f → Spells o g → f ≡ g
 one-frame o f g h s t = one-match (form o) h s t
 
-plain-no-data : (ps : List Piece) → isPlain ps ≡ true → NoData ps
+pub plain-no-data : (ps : List Piece) → isPlain ps ≡ true → NoData ps
 plain-no-data [] h = tt
 plain-no-data (sign s ∷ ps) h = plain-no-data ps h
 plain-no-data (number r n ∷ ps) h = plain-no-data ps h
@@ -43,4 +43,4 @@ plain-no-data (columns cs ∷ ps) h = absurd (true≢false (sym h))
 
 -- A command carries none.
 pub no-data : (c : Command) → NoData (form (plain c))
-no-data c = plain-no-data (form (plain c)) (commands.no-data first tested c)
+no-data c = plain-no-data (form (plain c)) (commands.kind-plain first tested (kind c))

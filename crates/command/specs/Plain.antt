@@ -4,8 +4,8 @@ use Prim.Native.Nat.{ℕ, _+_, _*_, _≤_}
 use Prim.Native.Char.{code}
 use native.Mathlib.Omega.{arith}
 use mathlib.Core.Bool.{Bool, true, _&&_}
-use mathlib.Core.List.{List, [], _∷_, _++_, map}
-use mathlib.Core.Path.{_≡_, refl, subst}
+use mathlib.Core.List.{List, [], _∷_, _++_}
+use mathlib.Core.Path.{_≡_, refl}
 use lib.Dec.{leb}
 use lib.ListN.{length, length-append, length-replicate}
 use borrow.Author.Tests.{leb-true, ne-eqb}
@@ -22,7 +22,7 @@ use Rattle.command.specs.Order.{Order, plain, label, draw}
 use Rattle.command.specs.Grammar.{Piece, sign, number, digit, text, columns, Matches, end, signs, digits, one-digit, codes, data-of, form, Spells}
 use Rattle.command.specs.declared.Command.{Command}
 use Rattle.command.specs.First.{kinds, kind}
-use Rattle.frame_table.specs.Kinds.{of-kind}
+use Rattle.frame_table.specs.Kinds.{alike}
 use Rattle.command.specs.declared.Side.the-variants.{Left, Right}
 
 -- codes that are neither ESC nor CR, and at most so many
@@ -74,25 +74,25 @@ items-within told.none = record { plain = refl; most = omega arith }
 items-within (told.more {xs = xs} {ys = ys} i rest) = wider (rw (length-append xs ys) (omega arith)) (joined (item-within i) (items-within rest))
 
 -- how many codes a piece has at most, and whether its signs are plain
-abbrev size : Piece → ℕ
+abbrev pub size : Piece → ℕ
 size (sign s) = length s
 size (number r n) = 3
 size (digit r n) = 1
 size (text t) = 7
 size (columns cs) = 192
 
-abbrev signsPlain : Piece → Bool
+abbrev pub signsPlain : Piece → Bool
 signsPlain (sign s) = every isFrameByte s
 signsPlain (number r n) = true
 signsPlain (digit r n) = true
 signsPlain (text t) = true
 signsPlain (columns cs) = true
 
-abbrev sizes : List Piece → ℕ
+abbrev pub sizes : List Piece → ℕ
 sizes [] = 0
 sizes (p ∷ ps) = size p + sizes ps
 
-abbrev allPlain : List Piece → Bool
+abbrev pub allPlain : List Piece → Bool
 allPlain [] = true
 allPlain (p ∷ ps) = signsPlain p && allPlain ps
 
@@ -113,23 +113,20 @@ matches-within (codes {t} l e rest) h = joined {m = 7} {s = t} (record { plain =
 matches-within (data-of {d = s} d rest) h = joined {m = 192} {s = s} (wider (omega (arith, d .most)) (items-within (d .items))) (matches-within rest h)
 
 -- the table's signs and sizes, computed for each kind of command with any numbers
-abbrev short : List Piece → Bool
+abbrev pub short : List Piece → Bool
 short ps = allPlain ps && leb (sizes ps) 197
 
-kinds-short : (m n : ℕ) → map (λ (k : ℕ → ℕ → Command). short (form (plain (k m n)))) kinds ≡ map (λ (k : ℕ → ℕ → Command). true) kinds
-kinds-short m n = refl
-
 form-short : (order : Order) → short (form order) ≡ true
-form-short (plain c) =
-    let k = kind c in
-    let w = of-kind kinds (λ (x : ℕ → ℕ → Command). short (form (plain (x (k .m) (k .n))))) (λ (x : ℕ → ℕ → Command). true) (kinds-short (k .m) (k .n)) (k .place) (k .same) in
-    subst (λ (x : Command). short (form (plain x)) ≡ true) (w .is) (w .same)
+form-short (plain c) = alike kinds (λ (x : Command). short (form (plain x))) (λ (x : Command). true) (λ m n. refl) (kind c)
 form-short (label Left t) = refl
 form-short (label Right t) = refl
 form-short (draw row cs) = refl
 
+pub short-within : (ps : List Piece) {f : List ℕ} → short ps ≡ true → Matches ps f → Within 197 f
+short-within ps h s =
+    let w = both {a = allPlain ps} h in
+    wider (leb-true (sizes ps) 197 (w .1)) (matches-within s (w .0))
+
 -- Whatever spells an order holds neither ESC nor CR, and at most 197 bytes.
 pub spells-within : (order : Order) {frame : List ℕ} → Spells order frame → Within 197 frame
-spells-within order s =
-    let w = both {a = allPlain (form order)} (form-short order) in
-    wider (leb-true (sizes (form order)) 197 (w .1)) (matches-within s (w .0))
+spells-within order s = short-within (form order) (form-short order) s

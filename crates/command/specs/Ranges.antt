@@ -75,7 +75,7 @@ abbrev pub ofMark : Range
 ofMark = record { takes = λ rows n. leb n rows; low = λ n h. at-most n mostRows (omega arith) h }
 
 -- the others are the same in every mode
-abbrev everywhere : (test : ℕ → Bool) → ((n : ℕ) → test n ≡ true → n < 1000) → Range
+abbrev pub everywhere : (test : ℕ → Bool) → ((n : ℕ) → test n ≡ true → n < 1000) → Range
 everywhere test low = record { takes = λ rows n. test n; low = low }
 
 abbrev pub ofMode : Range

@@ -22,7 +22,7 @@ use Rattle.command.specs.Grammar.{text, Matches, end, signs, one-digit, 
 use Rattle.frame_table.specs.Spelling.{either}
 use Rattle.frame_table.specs.Reader.{by-reading}
 use Rattle.command.specs.First.{opensLabel, first, tested}
-use Rattle.command.specs.Reading.{endsWith, butLast, isText, labelRead, readWith, readOf, opensPicture, rowWith, rowAndData, drawnRow, pictureOf, orderRead, orderDrawn, orderOf}
+use Rattle.command.specs.Reading.{endsWith, butLast, isText, labelRead, readWith, readOf, opensPicture, rowWith, noPicture, rowAndData, drawnRow, pictureOf, orderRead, orderDrawn, orderOf}
 use Rattle.command.specs.declared.Reading.{Reading}
 use Rattle.command.specs.declared.PictureFrame.{PictureFrame}
 
@@ -110,21 +110,27 @@ drawn-row digit rest =
         (sym (ap (λ (x : List ℕ). ascii "Gr" ++ digit ∷ code "," ∷ x) whole ∙ ap (λ (x : ℕ). ascii "Gr" ++ x ∷ code "," ∷ (butLast rest ++ code "z" ∷ [])) (d .0)))
         (signs (ascii "Gr") (one-digit (d .1) (signs (ascii ",") (data-of (drawing.sound (butLast rest) refl some-columns) (signs (ascii "z") end)))))
 
-picture : (f : List ℕ) → Said f (orderDrawn (pictureOf f))
+-- what is read of a picture frame: nothing, or what follows its opening
+pub by-picture : (P : PictureFrame → Type 0) (f : List ℕ) → P noPicture → ((digit : ℕ) (rest : List ℕ) → f ≡ ascii "Gr" ++ digit ∷ code "," ∷ rest → P (drawnRow digit rest)) → P (pictureOf f)
 unfolding pictureOf
-picture [] = tt
-picture (a ∷ []) = tt
-picture (a ∷ b ∷ []) = tt
-picture (a ∷ b ∷ c ∷ []) = tt
-picture (a ∷ b ∷ digit ∷ comma ∷ rest) =
-    cond-if (λ (p : PictureFrame). Said (a ∷ b ∷ digit ∷ comma ∷ rest) (orderDrawn p)) (eqb a (code "G") && eqb b (code "r") && eqb comma (code ","))
-    (λ e. opened (both {a = eqb a (code "G") && eqb b (code "r")} e))
-    (λ e. tt)
+by-picture P [] nothing opened = nothing
+by-picture P (a ∷ []) nothing opened = nothing
+by-picture P (a ∷ b ∷ []) nothing opened = nothing
+by-picture P (a ∷ b ∷ c ∷ []) nothing opened = nothing
+by-picture P (a ∷ b ∷ digit ∷ comma ∷ rest) nothing opened =
+    cond-if P (eqb a (code "G") && eqb b (code "r") && eqb comma (code ","))
+    (λ e. opened digit rest (opening (both {a = eqb a (code "G") && eqb b (code "r")} e)))
+    (λ e. nothing)
   where
-    opened : ((eqb a (code "G") && eqb b (code "r")) ≡ true) × (eqb comma (code ",") ≡ true) → Said (a ∷ b ∷ digit ∷ comma ∷ rest) (orderDrawn (drawnRow digit rest))
-    opened h =
+    opening : ((eqb a (code "G") && eqb b (code "r")) ≡ true) × (eqb comma (code ",") ≡ true) → a ∷ b ∷ digit ∷ comma ∷ rest ≡ ascii "Gr" ++ digit ∷ code "," ∷ rest
+    opening h =
         let g = both {a = eqb a (code "G")} (h .0) in
-        rw (eqb-true a (code "G") (g .0), eqb-true b (code "r") (g .1), eqb-true comma (code ",") (h .1)) (drawn-row digit rest)
+        rw (eqb-true a (code "G") (g .0), eqb-true b (code "r") (g .1), eqb-true comma (code ",") (h .1))
+
+picture : (f : List ℕ) → Said f (orderDrawn (pictureOf f))
+picture f =
+    by-picture (λ (p : PictureFrame). Said f (orderDrawn p)) f tt
+    (λ digit rest e. subst (λ (x : List ℕ). Said x (orderDrawn (drawnRow digit rest))) (sym e) (drawn-row digit rest))
 
 said : (f : List ℕ) → Said f (orderOf f)
 unfolding orderOf

@@ -116,7 +116,7 @@ pub const STATES: u8 = 24;
 pub const FIRST_GOOD: usize = 20;
 
 // The command of a letter and its number.
-fn with_number(letter: u8, n: u16) -> Reading
+pub fn with_number(letter: u8, n: u16) -> Reading
     ensures same { λ r. ⌜ r ≡ withNumber letter n ⌝ }
 {
     match letter {
@@ -211,7 +211,7 @@ fn after_bracket(sign: u8, before: u16, last: u16) -> Reading
 }
 
 // A byte of a frame; 0 past its end.
-fn byte_at(f: &[u8], i: usize) -> u8
+pub fn byte_at(f: &[u8], i: usize) -> u8
     ensures same { λ r. ⌜ r ≡ byteAt (now (f .entry)) i ⌝ }
 {
     if i < f.len() { f[i] } else { 0 }
@@ -276,7 +276,7 @@ fn side_label(sign: u8) -> Reading
 }
 
 // IK1 or IK2 and no other frame.
-fn opens_label(f: &[u8]) -> bool
+pub fn opens_label(f: &[u8]) -> bool
     ensures same { λ r. ⌜ r ≡ opensLabel (now (f .entry)) ⌝ }
 {
     if f.len() < 3 {

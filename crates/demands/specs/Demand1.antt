@@ -7,23 +7,23 @@ use mathlib.Core.Path.{_≡_, refl, ap}
 use mathlib.Core.Bool.{Bool, true, false, cond, not, _||_}
 use mathlib.Core.List.{List, [], _∷_}
 use lib.Dec.{ltb}
-use lib.ListN.{length, drop}
+use lib.ListN.{length}
 use borrow.Author.Tests.{le-leb, lt-leb}
-use Rattle.lists.specs.Codes.{questionMark}
+use Rattle.lists.specs.Codes.{questionMark, carriageReturn, lineFeed}
 use Rattle.lists.specs.Every.{every}
 use Rattle.record.specs.declared.Record.{Record}
 use Rattle.record.specs.declared.Backlight.{Backlight}
 use Rattle.record.specs.Number.{paperNumber, numbered}
 use Rattle.record.specs.Range.{inRange, backlightInRange}
 use Rattle.command.specs.Order.{Order}
-use Rattle.command.specs.Grammar.{Spells}
-use Rattle.command.specs.InRange.{inRangeInMode}
+use Rattle.sister_command.specs.Order.{AnyOrder, first}
+use Rattle.sister_effect.specs.Obey.{refusedAny, markOf}
 use Rattle.record.specs.Core.{Core, coreOf}
 use Rattle.parting.specs.Rules.{Body, closed, abandoned, keep, limit}
 use Rattle.parting.specs.Meaning.{with, close, act}
-use Rattle.stream.specs.Stream.{handset, recordOf, fedOf, answersAfter}
+use Rattle.stream.specs.Stream.{handset, recordOf, fedOf, answersAfter, writtenOver}
 use Rattle.stream.specs.Demand.{fedBack}
-use Rattle.key_entry.specs.Rules.{listed}
+use Rattle.key_log.specs.Steps.{listedIn}
 use Rattle.key_log.specs.Log.{outcome, handedBack, bufferAfter}
 use Rattle.key_log.specs.Laws.{ends-with-1, ends-with-5, ends-with-4, ends-with-0}
 use Rattle.seconds.specs.Seconds.{passed, lightPassed}
@@ -40,7 +40,7 @@ use Rattle.seen.specs.Rows.{nothingSeen, rowSeen, smsSeen, volumeSeen}
 use Rattle.seen.specs.Columns.{noPlace, columnSeen}
 use Rattle.seen.specs.Laws.{row-number, row-refused, column-number, column-refused, panel-numbers, panels-refused}
 use Rattle.writer.specs.Writing.{writtenOf, roomAfter}
-use Rattle.demands.specs.Frames.{asked, silent, answerOn, wholeFrame, closed-asked, closed-passed-over, bad-whole, bad-without-room, question-waits, passed-over-whole}
+use Rattle.demands.specs.Frames.{markIn, asked, silent, SpellsFor, inside, answerOn, wholeFrame, closed-asked, closed-passed-over, closed-refused, bad-whole, bad-without-room, question-waits, passed-over-whole, refused-whole}
 
 -- what a refusal hands back of a call that takes a record and lends a buffer: its number, the record as it came, no byte used or
 -- written, the buffer as it was
@@ -61,9 +61,9 @@ pub record Demand1 : Type 0 where
       → (let o = outcome r ticks edges (length before) in let l = handedBack o in Refused 1 (paperNumber (l .number)) r (l .record) (l .used) (l .written) before (bufferAfter o before))
   pub log-refuses-5 : (r : Record) (ticks edges before : List ℕ) → inRange r ≡ true → (length ticks ≡ length edges → ⊥)
       → (let o = outcome r ticks edges (length before) in let l = handedBack o in Refused 5 (paperNumber (l .number)) r (l .record) (l .used) (l .written) before (bufferAfter o before))
-  pub log-refuses-4 : (r : Record) (ticks edges before : List ℕ) → inRange r ≡ true → length ticks ≡ length edges → every listed edges ≡ false
+  pub log-refuses-4 : (r : Record) (ticks edges before : List ℕ) → inRange r ≡ true → length ticks ≡ length edges → every (listedIn (r .edition .sister)) edges ≡ false
       → (let o = outcome r ticks edges (length before) in let l = handedBack o in Refused 4 (paperNumber (l .number)) r (l .record) (l .used) (l .written) before (bufferAfter o before))
-  pub log-done : (r : Record) (ticks edges : List ℕ) (room : ℕ) → inRange r ≡ true → length ticks ≡ length edges → every listed edges ≡ true
+  pub log-done : (r : Record) (ticks edges : List ℕ) (room : ℕ) → inRange r ≡ true → length ticks ≡ length edges → every (listedIn (r .edition .sister)) edges ≡ true
       → paperNumber (outcome r ticks edges room .number) ≡ 0
   -- The second: 1 and the same record, else 0; in place: by the backlight's own ranges.
   pub second-refuses : (r : Record) → inRange r ≡ false → (paperNumber (passed r .number) ≡ 1) × (passed r .after ≡ r)
@@ -94,26 +94,34 @@ pub record Demand1 : Type 0 where
   pub writer-refuses-3 : (frame room : List ℕ) → length room < length frame
       → (paperNumber (writtenOf true frame room .number) ≡ 3) × (writtenOf true frame room .count ≡ 0) × (roomAfter true frame room ≡ room)
   pub writer-done : (frame room : List ℕ) → length frame ≤ length room → (paperNumber (writtenOf true frame room .number) ≡ 0) × (writtenOf true frame room .count ≡ length frame)
-  -- A bad frame gets one question mark, and nothing changes: as a part of the stream,
-  pub bad-frame-asked : (c : Core) (frame : List ℕ) → ((o : Order) → Spells o frame → ⊥) → act handset c (closed frame) ≡ asked c
+  -- The mark is one question mark; the sister's has CR LF behind it (request T-06).
+  pub mark-first : markOf false ≡ questionMark ∷ []
+  pub mark-sister : markOf true ≡ questionMark ∷ carriageReturn ∷ lineFeed ∷ []
+  -- A bad frame, one that spells no order in the record's edition, gets the mark, and nothing changes: as a part of the stream,
+  pub bad-frame-asked : (c : Core) (frame : List ℕ) → ((o : AnyOrder) → SpellsFor c o frame → ⊥) → act handset c (closed frame) ≡ asked c
   -- (so do one that ESC abandons, and one that is closed with more than 250 bytes)
   pub abandoned-asked : (c : Core) (body : List ℕ) → act handset c (abandoned body) ≡ asked c
   pub overlong-asked : (c : Core) (body : List ℕ) → limit < length body → act handset c (closed body) ≡ asked c
   -- and of the call on ESC, frame, CR, from a record in range with no frame open: with room for the mark, and without, where the call
   -- stops before the CR and the frame stays open.
-  pub bad-frame-called : (r : Record) → inRange r ≡ true → r .frame .state ≡ 0 → (frame : List ℕ) → Body frame → ((o : Order) → Spells o frame → ⊥) → (lent : List ℕ) → 1 ≤ length lent
-      → fedBack r (wholeFrame frame) lent ≡ record { after = r; used = length (wholeFrame frame); written = 1; buffer = questionMark ∷ drop 1 lent }
-  pub bad-frame-waits : (r : Record) → inRange r ≡ true → r .frame .state ≡ 0 → (frame : List ℕ) → Body frame → ((o : Order) → Spells o frame → ⊥)
-      → fedBack r (wholeFrame frame) [] ≡ record { after = recordOf (r .held) (with (coreOf r) (keep frame)); used = suc (length frame); written = 0; buffer = [] }
+  pub bad-frame-called : (r : Record) → inRange r ≡ true → r .frame .state ≡ 0 → (frame : List ℕ) → Body frame → ((o : AnyOrder) → SpellsFor (coreOf r) o frame → ⊥) → (lent : List ℕ) → length (markIn (coreOf r)) ≤ length lent
+      → fedBack r (wholeFrame frame) lent ≡ record { after = r; used = length (wholeFrame frame); written = length (markIn (coreOf r)); buffer = writtenOver (markIn (coreOf r)) lent }
+  pub bad-frame-waits : (r : Record) → inRange r ≡ true → r .frame .state ≡ 0 → (frame : List ℕ) → Body frame → ((o : AnyOrder) → SpellsFor (coreOf r) o frame → ⊥) → (lent : List ℕ) → length lent < length (markIn (coreOf r))
+      → fedBack r (wholeFrame frame) lent ≡ record { after = recordOf (r .held) (with (coreOf r) (keep frame)); used = suc (length frame); written = 0; buffer = lent }
   -- Without room for the whole answer of a question the call stops before its CR too, and no byte of the answer is written (request T-04).
-  pub question-waits-whole : (r : Record) → inRange r ≡ true → r .frame .state ≡ 0 → (frame : List ℕ) (o : Order) → Spells o frame → (lent : List ℕ) → inRangeInMode (r .settings .screen .mode) o ≡ true
-      → length lent < length (answerOn (coreOf r) o)
+  pub question-waits-whole : (r : Record) → inRange r ≡ true → r .frame .state ≡ 0 → (frame : List ℕ) (o : AnyOrder) → SpellsFor (coreOf r) o frame → (lent : List ℕ) → length lent < length (answerOn (coreOf r) o)
       → fedBack r (wholeFrame frame) lent ≡ record { after = recordOf (r .held) (with (coreOf r) (keep frame)); used = suc (length frame); written = 0; buffer = lent }
   -- A frame with a number out of range gets silence, and nothing changes: as a part, and of the call.
-  pub out-of-range-silent : (c : Core) (frame : List ℕ) (o : Order) → Spells o frame → inRangeInMode (c .settings .screen .mode) o ≡ false
-      → act handset c (closed frame) ≡ silent c
-  pub out-of-range-called : (r : Record) → inRange r ≡ true → r .frame .state ≡ 0 → (frame : List ℕ) (o : Order) → Spells o frame → (lent : List ℕ) → inRangeInMode (r .settings .screen .mode) o ≡ false
+  pub out-of-range-silent : (c : Core) (frame : List ℕ) (o : AnyOrder) → SpellsFor c o frame → inside c o ≡ false → act handset c (closed frame) ≡ silent c
+  pub out-of-range-called : (r : Record) → inRange r ≡ true → r .frame .state ≡ 0 → (frame : List ℕ) (o : AnyOrder) → SpellsFor (coreOf r) o frame → (lent : List ℕ) → inside (coreOf r) o ≡ false
       → fedBack r (wholeFrame frame) lent ≡ record { after = r; used = length (wholeFrame frame); written = 0; buffer = lent }
+  -- The third verdict (request T-06): a frame that is good by its spelling and refused by the record's state, a step at its end or a letter of
+  -- the keypad flag, is answered as a bad one, and nothing changes: as a part, and of the call.
+  pub refused-asked : (c : Core) (frame : List ℕ) (o : AnyOrder) → SpellsFor c o frame → refusedAny o c ≡ true → act handset c (closed frame) ≡ asked c
+  pub refused-called : (r : Record) → inRange r ≡ true → r .frame .state ≡ 0 → (frame : List ℕ) (o : AnyOrder) → SpellsFor (coreOf r) o frame → (lent : List ℕ) → refusedAny o (coreOf r) ≡ true → length (markIn (coreOf r)) ≤ length lent
+      → fedBack r (wholeFrame frame) lent ≡ record { after = r; used = length (wholeFrame frame); written = length (markIn (coreOf r)); buffer = writtenOver (markIn (coreOf r)) lent }
+  -- No order of the first edition is refused so.
+  pub first-never-refused : (o : Order) (c : Core) → refusedAny (first o) c ≡ false
 
 -- The proof ---------------------------------------------------------------------------------------------------------
 
@@ -144,6 +152,8 @@ demand1 =
       writer-refuses-2 = λ frame room. (refl, refl, refl);
       writer-refuses-3 = λ frame room l. rw (lt-leb (length frame) (length room) l) (refl, refl, refl);
       writer-done = λ frame room l. rw (le-leb (length frame) (length room) l) (refl, refl);
+      mark-first = refl;
+      mark-sister = refl;
       bad-frame-asked = closed-asked;
       abandoned-asked = λ c body. refl;
       overlong-asked = λ c body l. rw (lt-leb (length body) limit l);
@@ -152,4 +162,7 @@ demand1 =
       question-waits-whole = question-waits;
       out-of-range-silent = closed-passed-over;
       out-of-range-called = passed-over-whole;
+      refused-asked = closed-refused;
+      refused-called = refused-whole;
+      first-never-refused = λ o c. refl;
     }

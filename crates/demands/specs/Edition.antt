@@ -11,9 +11,8 @@ use Rattle.record.specs.Range.{inRange}
 use Rattle.stream.specs.Stream.{fedOf}
 use Rattle.stream.specs.declared.Fed.{Fed}
 use Rattle.stream.specs.Demand.{fedBack, run-stays}
-use Rattle.key_entry.specs.Rules.{step}
 use Rattle.key_log.specs.Log.{outcome, handedBack}
-use Rattle.key_log.specs.Laws.{log-keeps}
+use Rattle.key_log.specs.Laws.{log-stays}
 use Rattle.seconds.specs.Seconds.{passed}
 use Rattle.seconds.specs.declared.Passed.{Passed}
 use Rattle.hook.specs.Hook.{hooked}
@@ -33,10 +32,6 @@ fed-stays r bytes room =
     either-way (λ (f : Fed). f .record .edition .sister ≡ r .edition .sister) (inRange r)
     (λ good. run-stays r bytes room good)
     (λ bad. refl)
-
-log-stays : (r : Record) (ticks edges : List ℕ) (room : ℕ) → outcome r ticks edges room .ran .state .edition .sister ≡ r .edition .sister
-unfolding step
-log-stays r ticks edges room = log-keeps (λ (s : Record). s .edition .sister ≡ r .edition .sister) (λ s e h. h) r ticks edges room refl
 
 second-stays : (r : Record) → passed r .after .edition .sister ≡ r .edition .sister
 unfolding passed

@@ -4,83 +4,115 @@ use Prim.Native.Nat.{ℕ, suc, _≤_, _<_}
 use native.Mathlib.Omega.{arith}
 use mathlib.Core.Logic.{inr}
 use mathlib.Core.Path.{_≡_, refl, sym, ap, _∙_, subst}
-use mathlib.Core.Bool.{true, false, cond}
+use mathlib.Core.Bool.{Bool, true, false, true≢false}
 use mathlib.Core.List.{List, [], _∷_, _++_, append-nil}
-use lib.ListN.{length, take, drop, length-append}
+use lib.ListN.{length, take, length-append}
 use lib.Seq.{take-append-seam, take-length}
 use borrow.Author.Tests.{le-leb}
-use Rattle.lists.specs.Codes.{escape, carriageReturn, questionMark}
+use Rattle.lists.specs.Codes.{escape, carriageReturn}
 use Rattle.lists.specs.Tests.{by-test}
 use Rattle.record.specs.declared.Record.{Record}
 use Rattle.record.specs.declared.Frame.{Frame as KeptFrame}
 use Rattle.record.specs.Range.{inRange}
-use Rattle.command.specs.Order.{Order}
-use Rattle.command.specs.Grammar.{Spells}
-use Rattle.command.specs.InRange.{inRangeInMode}
-use Rattle.command.specs.Agree.{agree, bad-frame}
 use Rattle.record.specs.Core.{Core, coreOf}
-use Rattle.effect.specs.Effect.{effect, carryOut}
 use Rattle.answer.specs.Answers.{answerBytes}
-use Rattle.effect.specs.Obey.{obeyOrder, answerTo}
+use Rattle.effect.specs.Effect.{carryOut}
 use Rattle.effect.specs.Questions.{passed-over-silent}
+use Rattle.sister_answer.specs.Told.{toldBytes}
+use Rattle.sister_command.specs.Order.{AnyOrder, first, own}
+use Rattle.sister_command.specs.Grammar.{SpellsIn, never-spelt}
+use Rattle.sister_command.specs.InRange.{anyInRange}
+use Rattle.sister_command.specs.Agree.{agree-in, bad-frame-in, within-in}
+use Rattle.sister_effect.specs.Effect.{ownTold}
+use Rattle.sister_effect.specs.Obey.{effectAny, refusedAny, carryOutAny, obeyAny, markOf, answersTo}
+use Rattle.sister_effect.specs.Questions.{own-obeyed, own-refused, own-passed-over, passed-over-untold}
 use mathlib.Core.Option.{some}
 use Rattle.turns.specs.Taking.{Taken, silently}
 use Rattle.turns.specs.Room.{Ran, Stops, run-stops, only-one, room-for-all}
-use Rattle.parting.specs.Rules.{Body, closed, Parted, done, unfinished, then, Parting, ends, waits, goes-on, Frame, noFrame, keep, limit, inLimit, Stands, none-stands}
+use Rattle.parting.specs.Rules.{Body, closed, Parted, done, then, Parting, ends, waits, goes-on, Frame, noFrame, keep, limit, inLimit, Stands, none-stands}
 use Rattle.parting.specs.Meaning.{Answered, State, with, close, act, taking}
 use Rattle.parting.specs.Reading.{step, reading}
 use Rattle.parting.specs.Stream.{stream}
-use Rattle.parting.specs.Room.{run}
-use Rattle.stream.specs.Stream.{handset, obeyFrame, keptFrame, frameIn, stateOf, recordOf, writtenOver}
+use Rattle.stream.specs.Stream.{handset, keptFrame, frameIn, stateOf, recordOf, writtenOver}
 use Rattle.stream.specs.Frames.{body-of}
 use Rattle.stream.specs.Demand.{HandedBack, fedBack, partsTaken, ranBack, back-is-run, record-same}
-use Rattle.command.specs.Plain.{spells-within}
 
 -- THE PART ------------------------------------------------------------------------------------------------------------
 
+-- the mark of a bad frame, which goes by the edition
+abbrev pub markIn : Core → List ℕ
+markIn c = markOf (c .edition .sister)
+
 abbrev pub asked : Core → Answered Core
-asked c = record { core = c; answers = questionMark ∷ [] }
+asked c = record { core = c; answers = markIn c }
 
 abbrev pub silent : Core → Answered Core
 silent c = record { core = c; answers = [] }
 
--- what an order is answered: a question its answer, any other nothing
-abbrev pub answerOn : Core → Order → List ℕ
-answerOn c o = answerBytes (answerTo (some o)) (c .settings .contrast) (c .settings .hook)
+-- the frame spells the order in the record's edition, and the order is in range in its text mode
+abbrev pub SpellsFor : Core → AnyOrder → List ℕ → Type 0
+SpellsFor c o frame = SpellsIn (c .edition .sister) o frame
 
-abbrev pub said : Core → Order → Core → Answered Core
+abbrev pub inside : Core → AnyOrder → Bool
+inside c o = anyInRange (c .settings .screen .mode) o
+
+-- what an order is answered: a question its answer, one that is refused the mark, any other nothing
+abbrev pub answerOn : Core → AnyOrder → List ℕ
+answerOn c o = answersTo c (some o)
+
+abbrev pub said : Core → AnyOrder → Core → Answered Core
 said c o after = record { core = after; answers = answerOn c o }
 
-carried : (c : Core) (o : Order) (inside : inRangeInMode (c .settings .screen .mode) o ≡ true) → carryOut o c ≡ effect o c
+carried : (c : Core) (o : AnyOrder) → inside c o ≡ true → refusedAny o c ≡ false → carryOutAny o c ≡ effectAny o c
 unfolding carryOut
-carried c o inside = rw inside
+carried c (first o) h r = rw h
+carried c (own command) h r = own-obeyed command c h r
 
-passed-over : (c : Core) (o : Order) → inRangeInMode (c .settings .screen .mode) o ≡ false → carryOut o c ≡ c
+passed-over : (c : Core) (o : AnyOrder) → inside c o ≡ false → said c o (carryOutAny o c) ≡ silent c
 unfolding carryOut
-passed-over c o outside = rw outside
+passed-over c (first o) h =
+    let same : carryOut o c ≡ c = rw h in
+    λ j. record { core = same j; answers = answerBytes (passed-over-silent o (c .settings .screen .mode) h j) (c .settings .contrast) (c .settings .hook) }
+passed-over c (own command) h = λ j. record { core = own-passed-over command c h j; answers = toldBytes (passed-over-untold command c h j) }
+
+refused : (c : Core) (o : AnyOrder) → c .edition .sister ≡ true → refusedAny o c ≡ true → said c o (carryOutAny o c) ≡ asked c
+refused c (first o) e h = absurd (true≢false (sym h))
+refused c (own command) e h = λ j. record { core = own-refused command c h j; answers = marked j }
+  where
+    marked : toldBytes (ownTold command c) ≡ markIn c
+    marked = rw (h, e)
+
+-- the first edition has no command of the sister's
+of-sister : (sister : Bool) (o : AnyOrder) (c : Core) {frame : List ℕ} → SpellsIn sister o frame → refusedAny o c ≡ true → sister ≡ true
+of-sister true o c s h = refl
+of-sister false (first o) c s h = absurd (true≢false (sym h))
+of-sister false (own command) c s h = absurd (never-spelt s)
 
 module _ (c : Core) (frame : List ℕ) where
   -- No good frame is cut by the limit of 250: it is obeyed.
-  whole : (o : Order) → Spells o frame → act handset c (closed frame) ≡ said c o (carryOut o c)
+  whole : (o : AnyOrder) → SpellsFor c o frame → act handset c (closed frame) ≡ said c o (carryOutAny o c)
   unfolding act close
   whole o s =
-      let found = agree o frame .1 s in
-      rw (le-leb (length frame) limit (omega (arith, spells-within o s .most)))
-      (λ j. record { core = obeyOrder c (found j); answers = answerBytes (answerTo (found j)) (c .settings .contrast) (c .settings .hook) })
+      let found = agree-in (c .edition .sister) o frame .1 s in
+      rw (le-leb (length frame) limit (omega (arith, within-in (c .edition .sister) o s .most)))
+      (λ j. record { core = obeyAny c (found j); answers = answersTo c (found j) })
 
   -- A good frame in range has its order's effect; a question is answered, any other is obeyed in silence.
-  pub closed-obeyed : (o : Order) → Spells o frame → inRangeInMode (c .settings .screen .mode) o ≡ true → act handset c (closed frame) ≡ said c o (effect o c)
-  closed-obeyed o s inside = whole o s ∙ ap (said c o) (carried c o inside)
+  pub closed-obeyed : (o : AnyOrder) → SpellsFor c o frame → inside c o ≡ true → refusedAny o c ≡ false → act handset c (closed frame) ≡ said c o (effectAny o c)
+  closed-obeyed o s h r = whole o s ∙ ap (said c o) (carried c o h r)
 
   -- One with a number out of range gets silence, and nothing changes.
-  pub closed-passed-over : (o : Order) → Spells o frame → inRangeInMode (c .settings .screen .mode) o ≡ false → act handset c (closed frame) ≡ silent c
-  closed-passed-over o s outside =
-      whole o s ∙ (λ j. record { core = passed-over c o outside j; answers = answerBytes (passed-over-silent o (c .settings .screen .mode) outside j) (c .settings .contrast) (c .settings .hook) })
+  pub closed-passed-over : (o : AnyOrder) → SpellsFor c o frame → inside c o ≡ false → act handset c (closed frame) ≡ silent c
+  closed-passed-over o s h = whole o s ∙ passed-over c o h
+
+  -- One that the record's state refuses gets the mark, and nothing changes.
+  pub closed-refused : (o : AnyOrder) → SpellsFor c o frame → refusedAny o c ≡ true → act handset c (closed frame) ≡ asked c
+  closed-refused o s h = whole o s ∙ refused c o (of-sister (c .edition .sister) o c s h) h
 
   -- A bad one gets one question mark, and nothing changes.
-  pub closed-asked : ((o : Order) → Spells o frame → ⊥) → act handset c (closed frame) ≡ asked c
+  pub closed-asked : ((o : AnyOrder) → SpellsFor c o frame → ⊥) → act handset c (closed frame) ≡ asked c
   unfolding act close
-  closed-asked bad = by-test (inLimit frame) (λ e. rw (e, bad-frame frame .1 bad)) (λ e. rw e)
+  closed-asked bad = by-test (inLimit frame) (λ e. rw (e, bad-frame-in (c .edition .sister) frame .1 bad)) (λ e. rw e)
 
 -- THE CALL ------------------------------------------------------------------------------------------------------------
 
@@ -118,7 +150,7 @@ module _ (r : Record) (good : inRange r ≡ true) (none : r .frame .state ≡ 0)
   stands : Stands (stateOf r .frame) []
   stands = subst (λ (f : Frame). Stands f []) (sym none-open) none-stands
 
-  no-frame-kept : keptFrame noFrame ≡ r .frame
+  pub no-frame-kept : keptFrame noFrame ≡ r .frame
   no-frame-kept = ap keptFrame (sym none-open) ∙ ap (λ (s : Record). s .frame) (record-same r good)
 
   one-part : Parting (wholeFrame frame) (then (closed frame) done)
@@ -148,8 +180,8 @@ module _ (r : Record) (good : inRange r ≡ true) (none : r .frame .state ≡ 0)
   same-whole lent e fits = does-whole lent (subst (λ (b : Answered Core). length (b .answers) ≤ length lent) (sym e) fits) ∙ ap (usedWhole r frame lent) e
 
   -- BAD, with room: one question mark, and nothing changes.
-  pub bad-whole : ((o : Order) → Spells o frame → ⊥) → (lent : List ℕ) → 1 ≤ length lent
-      → fedBack r (wholeFrame frame) lent ≡ record { after = r; used = length (wholeFrame frame); written = 1; buffer = questionMark ∷ drop 1 lent }
+  pub bad-whole : ((o : AnyOrder) → SpellsFor (coreOf r) o frame → ⊥) → (lent : List ℕ) → length (markIn (coreOf r)) ≤ length lent
+      → fedBack r (wholeFrame frame) lent ≡ record { after = r; used = length (wholeFrame frame); written = length (markIn (coreOf r)); buffer = writtenOver (markIn (coreOf r)) lent }
   bad-whole bad lent room = same-whole lent (closed-asked (coreOf r) frame bad) room
 
   waiting : reading handset (stateOf r) (escape ∷ frame) ≡ silently (with (coreOf r) (keep frame))
@@ -176,26 +208,34 @@ module _ (r : Record) (good : inRange r ≡ true) (none : r .frame .state ≡ 0)
       back-is-run r (wholeFrame frame) lent good
       ∙ ap (λ (t : Ran (State Core)). ranBack (r .held) t lent) (only-one (step handset) (run-stops (step handset) (stateOf r) (wholeFrame frame) (length lent)) stopped)
 
-  -- So a bad frame with no room at all.
-  pub bad-without-room : ((o : Order) → Spells o frame → ⊥)
-      → fedBack r (wholeFrame frame) [] ≡ record { after = recordOf (r .held) (with (coreOf r) (keep frame)); used = suc (length frame); written = 0; buffer = [] }
-  bad-without-room bad = without-room [] (omega (arith, ap (λ (a : Answered Core). length (a .answers)) (closed-asked (coreOf r) frame bad)))
+  -- So a bad frame without room for the whole mark.
+  pub bad-without-room : ((o : AnyOrder) → SpellsFor (coreOf r) o frame → ⊥) → (lent : List ℕ) → length lent < length (markIn (coreOf r))
+      → fedBack r (wholeFrame frame) lent ≡ record { after = recordOf (r .held) (with (coreOf r) (keep frame)); used = suc (length frame); written = 0; buffer = lent }
+  bad-without-room bad lent short = without-room lent (omega (arith, ap (λ (a : Answered Core). length (a .answers)) (closed-asked (coreOf r) frame bad)))
 
-module _ (r : Record) (good : inRange r ≡ true) (none : r .frame .state ≡ 0) (frame : List ℕ) (o : Order) (s : Spells o frame) (lent : List ℕ) where
+module _ (r : Record) (good : inRange r ≡ true) (none : r .frame .state ≡ 0) (frame : List ℕ) (o : AnyOrder) (s : SpellsFor (coreOf r) o frame) (lent : List ℕ) where
+  plain : Body frame
+  plain = body-of frame (within-in (r .edition .sister) o s .plain)
+
   -- GOOD AND IN RANGE, with room for its answer, if it has one: the order's effect and nothing else, and the whole answer.
-  pub good-whole : inRangeInMode (r .settings .screen .mode) o ≡ true → length (answerOn (coreOf r) o) ≤ length lent
+  pub good-whole : inside (coreOf r) o ≡ true → refusedAny o (coreOf r) ≡ false → length (answerOn (coreOf r) o) ≤ length lent
       → fedBack r (wholeFrame frame) lent
-      ≡ record { after = withCore r (effect o (coreOf r)); used = length (wholeFrame frame); written = length (answerOn (coreOf r) o); buffer = writtenOver (answerOn (coreOf r) o) lent }
-  good-whole inside room = same-whole r good none frame (body-of frame (spells-within o s .plain)) lent (closed-obeyed (coreOf r) frame o s inside) room
+      ≡ record { after = withCore r (effectAny o (coreOf r)); used = length (wholeFrame frame); written = length (answerOn (coreOf r) o); buffer = writtenOver (answerOn (coreOf r) o) lent }
+  good-whole h k room = same-whole r good none frame plain lent (closed-obeyed (coreOf r) frame o s h k) room
 
   -- WITHOUT ROOM for it the call stops before the CR, and nothing has happened but that the frame is open.
-  pub question-waits : inRangeInMode (r .settings .screen .mode) o ≡ true → length lent < length (answerOn (coreOf r) o)
+  pub question-waits : length lent < length (answerOn (coreOf r) o)
       → fedBack r (wholeFrame frame) lent ≡ record { after = recordOf (r .held) (with (coreOf r) (keep frame)); used = suc (length frame); written = 0; buffer = lent }
-  question-waits inside short =
-      without-room r good none frame (body-of frame (spells-within o s .plain)) lent
-      (subst (λ (a : Answered Core). length lent < length (a .answers)) (sym (closed-obeyed (coreOf r) frame o s inside)) short)
+  question-waits short =
+      without-room r good none frame plain lent
+      (subst (λ (a : Answered Core). length lent < length (a .answers)) (sym (whole (coreOf r) frame o s)) short)
 
   -- GOOD AND OUT OF RANGE: nothing changes; no answer.
-  pub passed-over-whole : inRangeInMode (r .settings .screen .mode) o ≡ false
+  pub passed-over-whole : inside (coreOf r) o ≡ false
       → fedBack r (wholeFrame frame) lent ≡ record { after = r; used = length (wholeFrame frame); written = 0; buffer = lent }
-  passed-over-whole outside = same-whole r good none frame (body-of frame (spells-within o s .plain)) lent (closed-passed-over (coreOf r) frame o s outside) (omega arith)
+  passed-over-whole outside = same-whole r good none frame plain lent (closed-passed-over (coreOf r) frame o s outside) (omega arith)
+
+  -- GOOD AND REFUSED by the record's state: the mark, and nothing changes.
+  pub refused-whole : refusedAny o (coreOf r) ≡ true → length (markIn (coreOf r)) ≤ length lent
+      → fedBack r (wholeFrame frame) lent ≡ record { after = r; used = length (wholeFrame frame); written = length (markIn (coreOf r)); buffer = writtenOver (markIn (coreOf r)) lent }
+  refused-whole h room = same-whole r good none frame plain lent (closed-refused (coreOf r) frame o s h) room

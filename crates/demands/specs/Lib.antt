@@ -1,4 +1,5 @@
 pub mod Frames
+pub mod Sister
 pub mod Verdict
 pub mod Demand1
 pub mod Edition

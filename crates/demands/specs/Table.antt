@@ -19,6 +19,7 @@ use Rattle.frame_table.specs.Numbers.{numbersAfter}
 use Rattle.frame_table.specs.Reader as reader
 use Rattle.command.specs.Table.{classes, nextStates}
 use Rattle.command.specs.Pick.{withNumber, displayOf, lightOf, contrastOf, afterI, cursorSign, afterBracket, commandOf}
+use Rattle.key_log.specs.Steps.{stepIn}
 use Rattle.command.specs.Reading.{isText, labelRead, readWith, readOf, opensPicture, rowAndData, drawnRow, pictureOf, orderOf}
 use Rattle.effect.specs.Effect.{blanks, lineCleared, drawn, carryOut, storeText}
 use Rattle.turns.specs.Room
@@ -154,7 +155,7 @@ table =
 
 -- EVERY P LINE HOLDS.
 pub p-lines : map (λ (l : List ℕ × List ℕ). l .0) table ≡ map (λ (l : List ℕ × List ℕ). l .1) table
-unfolding inRange textInRange labelInRange pictureInRange inverseInRange frameInRange digitOf padded hexOf timesOf items columnsOf hexCode itemText numbersAfter reader.readWith classes nextStates withNumber displayOf lightOf contrastOf afterI cursorSign afterBracket commandOf isText labelRead readWith readOf opensPicture rowAndData drawnRow pictureOf orderOf blanks lineCleared drawn carryOut storeText keep step Room.run frameIn fedOf answersAfter outcome zipWith Keys.step keyed elapsed codeOf volumeSeen
+unfolding inRange textInRange labelInRange pictureInRange inverseInRange frameInRange digitOf padded hexOf timesOf items columnsOf hexCode itemText numbersAfter reader.readWith classes nextStates withNumber displayOf lightOf contrastOf afterI cursorSign afterBracket commandOf isText labelRead readWith readOf opensPicture rowAndData drawnRow pictureOf orderOf blanks lineCleared drawn carryOut storeText keep step Room.run frameIn fedOf answersAfter outcome stepIn zipWith Keys.step keyed elapsed codeOf volumeSeen
 p-lines = refl
 
 -- The rooms ---------------------------------------------------------------------------------------------------------
@@ -177,5 +178,5 @@ pub room-lines :
     × (map (counts (ascii "IH")) rooms ≡ map (wholeOrNone (ascii "IH") 5) rooms)
     × (map (counts (ascii "&V")) rooms ≡ map (wholeOrNone (ascii "&V") 29) rooms)
     × (map (counts (ascii "Q")) rooms ≡ map (wholeOrNone (ascii "Q") 1) rooms)
-unfolding inRange textInRange labelInRange pictureInRange inverseInRange frameInRange digitOf padded hexOf timesOf items columnsOf hexCode itemText numbersAfter reader.readWith classes nextStates withNumber displayOf lightOf contrastOf afterI cursorSign afterBracket commandOf isText labelRead readWith readOf opensPicture rowAndData drawnRow pictureOf orderOf blanks lineCleared drawn carryOut storeText keep step Room.run frameIn fedOf answersAfter outcome zipWith Keys.step keyed elapsed codeOf volumeSeen
+unfolding inRange textInRange labelInRange pictureInRange inverseInRange frameInRange digitOf padded hexOf timesOf items columnsOf hexCode itemText numbersAfter reader.readWith classes nextStates withNumber displayOf lightOf contrastOf afterI cursorSign afterBracket commandOf isText labelRead readWith readOf opensPicture rowAndData drawnRow pictureOf orderOf blanks lineCleared drawn carryOut storeText keep step Room.run frameIn fedOf answersAfter outcome stepIn zipWith Keys.step keyed elapsed codeOf volumeSeen
 room-lines = (refl, refl, refl, refl)

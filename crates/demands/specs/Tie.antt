@@ -7,12 +7,13 @@ use base.Logic.{sep}
 use contract.Lifetimes.{Lfts}
 use contract.Monad.{fact}
 use contract.Notation.{connectives}
-use denote.Ref.{now}
+use denote.Ref.{RefT, now}
 use denote.Triple.Clauses.{Ended, AtExit}
 use borrow.Fn.World.{World, Pr, ArgsD, ResD}
 use Rattle.record.specs.Number.{paperNumber}
 use Rattle.record.specs.Range.{rowsOf, rowEndOf, rowStartOf, backlightInRange, inRange}
 use Rattle.record.specs.declared.Edition.{Edition}
+use Rattle.record.specs.declared.Small.{Small}
 use Rattle.record.specs.PowerOn.{timesAtPowerOn, formerTimes, startingWith, powerOn, formerPowerOn, storedAtDelivery, sisterWith, sisterPowerOn}
 use Rattle.record.specs.Parts.{together, smallOf}
 use Rattle.numeral.specs.Numeral as Numerals
@@ -21,13 +22,13 @@ use Rattle.picture.specs.Writing.{dataWritten}
 use Rattle.line.specs.Lines.{emptyLine, added, findsRoom, roomWith}
 use Rattle.command.specs.InRange.{rowsNamed, firstOut, numbersOf, commandInRange, mostRows}
 use Rattle.frame_table.specs.Run.{foundIn}
-use Rattle.command.specs.Reading.{readWith, readOf, orderBy, opensPicture, pictureOf}
-use Rattle.verdict.specs.Verdict.{verdictOf}
+use Rattle.command.specs.Reading.{readWith, readOf, orderFound, opensPicture, pictureOf}
+use Rattle.verdict.specs.Verdict.{verdictOf, verdictIn}
 use Rattle.effect_modes.specs.Modes.{toMode, atLevel}
 use Rattle.effect.specs.Obey.{Obeys, core}
 use Rattle.record.specs.declared.Record.{Record}
 use Rattle.answer.specs.Answers.{answerBytes, isSilence, countAfter, bufferAfter as saidAfter, heads}
-use Rattle.sister_answer.specs.Told.{toldBytes}
+use Rattle.sister_answer.specs.Told.{toldBytes, isSilence as untold}
 use Rattle.hook.specs.Hook.{hooked}
 use Rattle.hook.specs.Hook as Hooks
 use Rattle.stream_places.specs.Places.{emptied}
@@ -37,8 +38,9 @@ use Rattle.stream.specs.Stream.{lentOf, fedOf, answersAfter}
 use Rattle.parting.specs.Count.{escapes}
 use Rattle.answer_room.specs.Needed.{roomNeeded}
 use Rattle.lists.specs.Every.{every}
-use Rattle.key_entry.specs.Rules.{listed, lit, over, keyed}
+use Rattle.key_entry.specs.Rules.{listedUpTo, lit, over, keyed}
 use Rattle.sister_entry.specs.Rules as Sister
+use Rattle.key_log.specs.declared.Logged.{Logged}
 use Rattle.key_log.specs.Log.{Outcome, outcome, handedBack, lentOf as loggedLent, bufferAfter}
 use Rattle.seconds.specs.Seconds.{passed, lightPassed}
 use Rattle.seconds.specs.Seconds as Seconds
@@ -50,10 +52,46 @@ use Rattle.writer_ranges.specs.Fitting.{isLabel, isRow}
 use Rattle.choice.specs.Choice.{choiceOf}
 use Rattle.choice.specs.Rules.{ruleNumber}
 use Rattle.command.specs.Order.{plain, label, draw}
-use Rattle.command.specs.Spell.{spelling}
-use Rattle.writer.specs.Writing.{frameOf, writtenOf, roomAfter}
+use Rattle.command.specs.Spell.{spell, spelling}
+use Rattle.writer.specs.Writing.{frameOf, sharedInRange, writtenOf, roomAfter}
 use Rattle.handset_numbers.specs.Numbers.{phaseOf, sideOf, commandOf, smsNumber, volumeNumbers, ownerNumbers, shownNumbers, verdictNumbers, kindNumber}
 use Rattle.handset.specs.Calls.{fedIn, loggedIn, passedIn, hookedIn, countedIn, smsIn, volumeIn, rowIn, columnIn, commandWritten, commandRoom, writtenIn, judgedIn, choiceIn, partIn, lightIn}
+use mathlib.Core.Bool.{true}
+use mathlib.Core.List.{List}
+use Prim.Native.Nat.{ℕ}
+use Rattle.record_small_ranges.specs.Small.{smallKept}
+use Rattle.command.specs.Pick.{byteAt, withNumber}
+use Rattle.command.specs.First.{opensLabel}
+use Rattle.sister_command.specs.Order.{first, own}
+use Rattle.sister_command.specs.Grammar.{sisterForm, isShared}
+use Rattle.sister_command.specs.InRange.{ownNumbers, ownInRange}
+use Rattle.sister_command.specs.Reading.{sisterRead, sharedRead, readIn, ownFound, isOwn}
+use Rattle.sister_effect.specs.Effect.{refusedNow}
+use Rattle.sister_effect.specs.Obey.{SisterObeys}
+use Rattle.sister_command.proofs.is_own as IsOwn
+use Rattle.sister_command.proofs.is_own.Reads as IsOwnReads
+use Rattle.sister_command.proofs.read_shared as ReadShared
+use Rattle.sister_command.proofs.read_shared.Reads as ReadSharedReads
+use Rattle.answer.proofs.put as Put
+use Rattle.answer.proofs.put.Reads as PutReads
+use Rattle.sister_effect.proofs.refused as RefusedBy
+use Rattle.sister_effect.proofs.refused.Reads as RefusedByReads
+use Rattle.sister_effect.proofs.obey_own_frame as ObeyOwnFrame
+use Rattle.sister_effect.proofs.obey_own_frame.Reads as ObeyOwnFrameReads
+use Rattle.handset.proofs.proved_sister_power_on as ProvedSisterPowerOn
+use Rattle.handset.proofs.proved_sister_power_on.Reads as ProvedSisterPowerOnReads
+use Rattle.sister_answer.proofs.is_silence as Untold
+use Rattle.sister_answer.proofs.is_silence.Reads as UntoldReads
+use Rattle.sister_command.proofs.read_sister as ReadSister
+use Rattle.sister_command.proofs.read_sister.Reads as ReadSisterReads
+use Rattle.command.proofs.opens_label as OpensLabel
+use Rattle.command.proofs.opens_label.Reads as OpensLabelReads
+use Rattle.command.proofs.with_number as WithNumber
+use Rattle.command.proofs.with_number.Reads as WithNumberReads
+use Rattle.command.proofs.byte_at as ByteAt
+use Rattle.command.proofs.byte_at.Reads as ByteAtReads
+use Rattle.record_small_ranges.proofs.sister_small_in_range as SisterSmallInRange
+use Rattle.record_small_ranges.proofs.sister_small_in_range.Reads as SisterSmallInRangeReads
 use Rattle.record.proofs.small_of as SmallOf
 use Rattle.record.proofs.small_of.Reads as SmallOfReads
 use Rattle.record.proofs.paper_number as PaperNumber
@@ -113,6 +151,16 @@ use Rattle.command_form.proofs.in_range as CommandInRange
 use Rattle.command_form.proofs.in_range.Reads as CommandInRangeReads
 use Rattle.command_form.proofs.body as CommandBody
 use Rattle.command_form.proofs.body.Reads as CommandBodyReads
+use Rattle.sister_form.proofs.own_out as OwnOut
+use Rattle.sister_form.proofs.own_out.Reads as OwnOutReads
+use Rattle.sister_form.proofs.own_in_range as OwnInRange
+use Rattle.sister_form.proofs.own_in_range.Reads as OwnInRangeReads
+use Rattle.sister_form.proofs.own_body as OwnBody
+use Rattle.sister_form.proofs.own_body.Reads as OwnBodyReads
+use Rattle.sister_form.proofs.is_shared as IsShared
+use Rattle.sister_form.proofs.is_shared.Reads as IsSharedReads
+use Rattle.sister_form.proofs.shared_body as SharedBody
+use Rattle.sister_form.proofs.shared_body.Reads as SharedBodyReads
 use Rattle.frame_table.proofs.run as RunTable
 use Rattle.frame_table.proofs.run.Reads as RunTableReads
 use Rattle.command.proofs.read_lent as ReadLent
@@ -125,6 +173,8 @@ use Rattle.picture_frame.proofs.read_picture as ReadPicture
 use Rattle.picture_frame.proofs.read_picture.Reads as ReadPictureReads
 use Rattle.verdict.proofs.judge as Judge
 use Rattle.verdict.proofs.judge.Reads as JudgeReads
+use Rattle.verdict.proofs.judge_in as JudgeIn
+use Rattle.verdict.proofs.judge_in.Reads as JudgeInReads
 use Rattle.effect_modes.proofs.to_mode as ToMode
 use Rattle.effect_modes.proofs.to_mode.Reads as ToModeReads
 use Rattle.effect_modes.proofs.at_level as AtLevel
@@ -208,6 +258,10 @@ use Rattle.writer_ranges.proofs.label_in_range as LabelInRange
 use Rattle.writer_ranges.proofs.label_in_range.Reads as LabelInRangeReads
 use Rattle.writer_ranges.proofs.row_in_range as RowInRange
 use Rattle.writer_ranges.proofs.row_in_range.Reads as RowInRangeReads
+use Rattle.writer.proofs.write_own as WriteOwn
+use Rattle.writer.proofs.write_own.Reads as WriteOwnReads
+use Rattle.writer.proofs.write_shared as WriteShared
+use Rattle.writer.proofs.write_shared.Reads as WriteSharedReads
 use Rattle.writer.proofs.write_command as WriteCommand
 use Rattle.writer.proofs.write_command.Reads as WriteCommandReads
 use Rattle.writer.proofs.write_label as WriteLabel
@@ -297,26 +351,81 @@ Says t requires ensures claim =
     × (ensures κs a tt q e w ≡ fact (w .𝓤) (claim κs a q e))
 
 abbrev SaysBoth : (t : Ended) → Asking t → Clause t → Claim t → Claim t → Type 2
-SaysBoth t requires ensures first second =
+SaysBoth t requires ensures one second =
     (κs : Lfts (t .signature .lifetimes)) (a : ArgsD (t .signature) κs) (q : ResD (t .signature) κs) (e : AtExit t κs) (w : World)
     → (requires κs a tt w ≡ Nothing w)
-    × (ensures κs a tt q e w ≡ sep (w .𝓤) (fact (w .𝓤) (first κs a q e)) (fact (w .𝓤) (second κs a q e)))
+    × (ensures κs a tt q e w ≡ sep (w .𝓤) (fact (w .𝓤) (one κs a q e)) (fact (w .𝓤) (second κs a q e)))
 
 abbrev SaysFour : (t : Ended) → Asking t → Clause t → Claim t → Claim t → Claim t → Claim t → Type 2
-SaysFour t requires ensures first second third fourth =
+SaysFour t requires ensures one second third fourth =
     (κs : Lfts (t .signature .lifetimes)) (a : ArgsD (t .signature) κs) (q : ResD (t .signature) κs) (e : AtExit t κs) (w : World)
     → (requires κs a tt w ≡ Nothing w)
     × (ensures κs a tt q e w
-    ≡ sep (w .𝓤) (fact (w .𝓤) (first κs a q e))
+    ≡ sep (w .𝓤) (fact (w .𝓤) (one κs a q e))
     (sep (w .𝓤) (fact (w .𝓤) (second κs a q e)) (sep (w .𝓤) (fact (w .𝓤) (third κs a q e)) (fact (w .𝓤) (fourth κs a q e)))))
 
 abbrev SaysFive : (t : Ended) → Asking t → Clause t → Claim t → Claim t → Claim t → Claim t → Claim t → Type 2
-SaysFive t requires ensures first second third fourth fifth =
+SaysFive t requires ensures one second third fourth fifth =
     (κs : Lfts (t .signature .lifetimes)) (a : ArgsD (t .signature) κs) (q : ResD (t .signature) κs) (e : AtExit t κs) (w : World)
     → (requires κs a tt w ≡ Nothing w)
     × (ensures κs a tt q e w
-    ≡ sep (w .𝓤) (fact (w .𝓤) (first κs a q e))
+    ≡ sep (w .𝓤) (fact (w .𝓤) (one κs a q e))
     (sep (w .𝓤) (fact (w .𝓤) (second κs a q e)) (sep (w .𝓤) (fact (w .𝓤) (third κs a q e)) (sep (w .𝓤) (fact (w .𝓤) (fourth κs a q e)) (fact (w .𝓤) (fifth κs a q e))))))
+
+-- what a call on lent arrays begins with: the small fields, then text, picture and the frame's bytes; and the record that they make
+abbrev Lent : Type 0 → Type 0
+Lent Rest = Small × (RefT (List ℕ) × (RefT (List ℕ) × (RefT (List ℕ) × Rest)))
+
+abbrev lent : {Rest : Type 0} → Lent Rest → Record
+lent a = together (a .0) (now (a .1 .0)) (now (a .1 .1 .0)) (now (a .1 .1 .1 .0))
+
+-- a contract's arguments and its arguments at exit, looked at as these, and its result, made of this
+abbrev Entry : Ended → Type 0 → Type 0
+Entry t X = (κs : Lfts (t .signature .lifetimes)) → ArgsD (t .signature) κs → X
+
+abbrev Exit : Ended → Type 0 → Type 0
+Exit t X = (κs : Lfts (t .signature .lifetimes)) → AtExit t κs → X
+
+abbrev Back : Ended → Type 0 → Type 0
+Back t X = (κs : Lfts (t .signature .lifetimes)) → X → ResD (t .signature) κs
+
+-- a call that also lends bytes and the answers' room: it hands back what the stream call makes of that record, and leaves the arrays so
+abbrev Feeding : Type 0
+Feeding = Lent (RefT (List ℕ) × (RefT (List ℕ) × Unit {0}))
+
+abbrev called : Feeding → Fed
+called a = fedOf (lent a) (now (a .1 .1 .1 .1 .0)) (length (now (a .1 .1 .1 .1 .1 .0)))
+
+abbrev SaysFed : (t : Ended) → Asking t → Clause t → Entry t Feeding → Exit t Feeding → Back t Fed → Type 2
+SaysFed t requires ensures entry exit back =
+    SaysFive t requires ensures
+    (λ κs a q e. q ≡ back κs (called (entry κs a)))
+    (λ κs a q e. now (exit κs e .1 .0) ≡ called (entry κs a) .record .text)
+    (λ κs a q e. now (exit κs e .1 .1 .0) ≡ called (entry κs a) .record .picture)
+    (λ κs a q e. now (exit κs e .1 .1 .1 .0) ≡ called (entry κs a) .record .frame .bytes)
+    (λ κs a q e. now (exit κs e .1 .1 .1 .1 .1 .0) ≡ answersAfter (lent (entry κs a)) (now (entry κs a .1 .1 .1 .1 .0)) (now (entry κs a .1 .1 .1 .1 .1 .0)))
+
+-- the same of the key log: ticks, edges and the codes' room, which alone is written to
+abbrev Logging : Type 0
+Logging = Lent (RefT (List ℕ) × (RefT (List ℕ) × (RefT (List ℕ) × Unit {0})))
+
+abbrev logged : Logging → Outcome
+logged a = outcome (lent a) (now (a .1 .1 .1 .1 .0)) (now (a .1 .1 .1 .1 .1 .0)) (length (now (a .1 .1 .1 .1 .1 .1 .0)))
+
+abbrev SaysLogged : (t : Ended) → Asking t → Clause t → Entry t Logging → Exit t Logging → Back t Logged → Type 2
+SaysLogged t requires ensures entry exit back =
+    SaysBoth t requires ensures
+    (λ κs a q e. q ≡ back κs (handedBack (logged (entry κs a))))
+    (λ κs a q e. now (exit κs e .1 .1 .1 .1 .1 .1 .0) ≡ bufferAfter (logged (entry κs a)) (now (entry κs a .1 .1 .1 .1 .1 .1 .0)))
+
+-- and a call that takes a record apart hands back what is small of it and leaves the rest in the three arrays
+abbrev SaysApart : (t : Ended) → Asking t → Clause t → Back t Small → Exit t (RefT (List ℕ) × (RefT (List ℕ) × (RefT (List ℕ) × Unit {0}))) → Record → Type 2
+SaysApart t requires ensures back exit r =
+    SaysFour t requires ensures
+    (λ κs a q e. q ≡ back κs (smallOf r))
+    (λ κs a q e. now (exit κs e .0) ≡ r .text)
+    (λ κs a q e. now (exit κs e .1 .0) ≡ r .picture)
+    (λ κs a q e. now (exit κs e .1 .1 .0) ≡ r .frame .bytes)
 
 -- record::small_of
 pub small-of-says : Says SmallOf.ended SmallOfReads.requires SmallOfReads.ensures (λ κs a q e. q ≡ smallOf (a .0))
@@ -378,13 +487,17 @@ backlight-in-range-says κs a q e w = (refl, refl)
 pub small-in-range-says : Says SmallInRange.ended SmallInRangeReads.requires SmallInRangeReads.ensures (λ κs a q e. q ≡ smallInRange (a .0) (a .1 .0))
 small-in-range-says κs a q e w = (refl, refl)
 
+-- record_small_ranges::sister_small_in_range
+pub sister-small-in-range-says : Says SisterSmallInRange.ended SisterSmallInRangeReads.requires SisterSmallInRangeReads.ensures (λ κs a q e. q ≡ smallKept true (a .1 .1 .0) (a .0) (a .1 .0))
+sister-small-in-range-says κs a q e w = (refl, refl)
+
 -- record_ranges::in_range
 pub record-in-range-says : Says RecordInRange.ended RecordInRangeReads.requires RecordInRangeReads.ensures (λ κs a q e. q ≡ inRange (a .0))
 record-in-range-says κs a q e w = (refl, refl)
 
 -- record_ranges::in_range_lent
 pub in-range-lent-says : Says InRangeLent.ended InRangeLentReads.requires InRangeLentReads.ensures
-    (λ κs a q e. q ≡ inRange (together (a .0) (now (a .1 .0)) (now (a .1 .1 .0)) (now (a .1 .1 .1 .0))))
+    (λ κs a q e. q ≡ inRange (lent a))
 in-range-lent-says κs a q e w = (refl, refl)
 
 -- numeral::read_number
@@ -437,9 +550,41 @@ command-in-range-says κs a q e w = (refl, refl)
 pub command-body-says : Says CommandBody.ended CommandBodyReads.requires CommandBodyReads.ensures (λ κs a q e. q ≡ added emptyLine (spelling (plain (a .0))))
 command-body-says κs a q e w = (refl, refl)
 
+-- sister_form::own_out
+pub own-out-says : Says OwnOut.ended OwnOutReads.requires OwnOutReads.ensures (λ κs a q e. q ≡ firstOut (ownNumbers 0 (a .0)))
+own-out-says κs a q e w = (refl, refl)
+
+-- sister_form::own_in_range
+pub own-in-range-says : Says OwnInRange.ended OwnInRangeReads.requires OwnInRangeReads.ensures (λ κs a q e. q ≡ ownInRange (a .0))
+own-in-range-says κs a q e w = (refl, refl)
+
+-- sister_form::own_body
+pub own-body-says : Says OwnBody.ended OwnBodyReads.requires OwnBodyReads.ensures (λ κs a q e. q ≡ added emptyLine (spell (sisterForm (own (a .0)))))
+own-body-says κs a q e w = (refl, refl)
+
+-- sister_form::is_shared
+pub is-shared-says : Says IsShared.ended IsSharedReads.requires IsSharedReads.ensures (λ κs a q e. q ≡ isShared (a .0))
+is-shared-says κs a q e w = (refl, refl)
+
+-- sister_form::shared_body
+pub shared-body-says : Says SharedBody.ended SharedBodyReads.requires SharedBodyReads.ensures (λ κs a q e. q ≡ added emptyLine (spell (sisterForm (first (plain (a .0))))))
+shared-body-says κs a q e w = (refl, refl)
+
 -- frame_table::run
 pub run-table-says : Says RunTable.ended RunTableReads.requires RunTableReads.ensures (λ κs a q e. q ≡ foundIn (now (a .0)) (now (a .1 .0)) (a .1 .1 .0) (now (a .1 .1 .1 .0)))
 run-table-says κs a q e w = (refl, refl)
+
+-- command::byte_at
+pub byte-at-says : Says ByteAt.ended ByteAtReads.requires ByteAtReads.ensures (λ κs a q e. q ≡ byteAt (now (a .0)) (a .1 .0))
+byte-at-says κs a q e w = (refl, refl)
+
+-- command::with_number
+pub with-number-says : Says WithNumber.ended WithNumberReads.requires WithNumberReads.ensures (λ κs a q e. q ≡ withNumber (a .0) (a .1 .0))
+with-number-says κs a q e w = (refl, refl)
+
+-- command::opens_label
+pub opens-label-says : Says OpensLabel.ended OpensLabelReads.requires OpensLabelReads.ensures (λ κs a q e. q ≡ opensLabel (now (a .0)))
+opens-label-says κs a q e w = (refl, refl)
 
 -- command::read_lent
 pub read-lent-says : Says ReadLent.ended ReadLentReads.requires ReadLentReads.ensures (λ κs a q e. q ≡ readWith (now (a .0)) (now (a .1 .0)) (now (a .1 .1 .0)))
@@ -448,6 +593,18 @@ read-lent-says κs a q e w = (refl, refl)
 -- command::read_command
 pub read-command-says : Says ReadCommand.ended ReadCommandReads.requires ReadCommandReads.ensures (λ κs a q e. q ≡ readOf (now (a .0)))
 read-command-says κs a q e w = (refl, refl)
+
+-- sister_command::read_sister
+pub read-sister-says : Says ReadSister.ended ReadSisterReads.requires ReadSisterReads.ensures (λ κs a q e. q ≡ sisterRead (now (a .0)))
+read-sister-says κs a q e w = (refl, refl)
+
+-- sister_command::read_shared
+pub read-shared-says : Says ReadShared.ended ReadSharedReads.requires ReadSharedReads.ensures (λ κs a q e. q ≡ sharedRead (now (a .0)))
+read-shared-says κs a q e w = (refl, refl)
+
+-- sister_command::is_own
+pub is-own-says : Says IsOwn.ended IsOwnReads.requires IsOwnReads.ensures (λ κs a q e. q ≡ isOwn (now (a .0)))
+is-own-says κs a q e w = (refl, refl)
 
 -- picture_frame::opens_picture
 pub opens-picture-says : Says OpensPicture.ended OpensPictureReads.requires OpensPictureReads.ensures (λ κs a q e. q ≡ opensPicture (now (a .0)))
@@ -461,6 +618,11 @@ read-picture-says κs a q e w = (refl, refl)
 pub judge-says : Says Judge.ended JudgeReads.requires JudgeReads.ensures (λ κs a q e. q ≡ verdictOf (a .0) (now (a .1 .0)))
 judge-says κs a q e w = (refl, refl)
 
+-- verdict::judge_in
+pub judge-in-says : Says JudgeIn.ended JudgeInReads.requires JudgeInReads.ensures
+    (λ κs a q e. (text picture : List ℕ) → q ≡ verdictIn (core (a .0) text picture (a .1 .0)) (now (a .1 .1 .0)))
+judge-in-says κs a q e w = (refl, refl)
+
 -- effect_modes::to_mode
 pub to-mode-says : Says ToMode.ended ToModeReads.requires ToModeReads.ensures (λ κs a q e. q ≡ toMode (a .0) (a .1 .0))
 to-mode-says κs a q e w = (refl, refl)
@@ -470,12 +632,29 @@ pub at-level-says : Says AtLevel.ended AtLevelReads.requires AtLevelReads.ensure
 at-level-says κs a q e w = (refl, refl)
 
 -- effect::obey
-pub obey-says : Says Obey.ended ObeyReads.requires ObeyReads.ensures (λ κs a q e. (edition : Edition) → Obeys (orderBy (now (a .1 .1 .1 .1 .0)) (now (a .1 .1 .1 .1 .1 .0)) (now (a .1 .1 .1 .0))) (core (a .0) (now (a .1 .0)) (now (a .1 .1 .0)) edition) q (core (q .settings) (now (e .1 .0)) (now (e .1 .1 .0)) edition))
+pub obey-says : Says Obey.ended ObeyReads.requires ObeyReads.ensures
+    (λ κs a q e. (edition : Edition) → Obeys (orderFound (readIn (a .1 .1 .1 .1 .0) (now (a .1 .1 .1 .1 .1 .0)) (now (a .1 .1 .1 .1 .1 .1 .0)) (now (a .1 .1 .1 .0))) (now (a .1 .1 .1 .0))) (core (a .0) (now (a .1 .0)) (now (a .1 .1 .0)) edition) q (core (q .settings) (now (e .1 .0)) (now (e .1 .1 .0)) edition))
 obey-says κs a q e w = (refl, refl)
+
+-- sister_effect::refused
+pub refused-says : Says RefusedBy.ended RefusedByReads.requires RefusedByReads.ensures
+    (λ κs a q e. (text picture : List ℕ) → q ≡ refusedNow (a .0) (core (a .1 .0) text picture (a .1 .1 .0)))
+refused-says κs a q e w = (refl, refl)
+
+-- sister_effect::obey_own_frame
+pub obey-own-frame-says : Says ObeyOwnFrame.ended ObeyOwnFrameReads.requires ObeyOwnFrameReads.ensures
+    (λ κs a q e. SisterObeys (ownFound (now (a .1 .1 .1 .1 .0))) (core (a .0) (now (a .1 .1 .0)) (now (a .1 .1 .1 .0)) (a .1 .0)) q (core (q .settings) (now (e .1 .1 .0)) (now (e .1 .1 .1 .0)) (q .edition)))
+obey-own-frame-says κs a q e w = (refl, refl)
 
 -- answer::is_silence
 pub is-silence-says : Says IsSilence.ended IsSilenceReads.requires IsSilenceReads.ensures (λ κs a q e. q ≡ isSilence (a .0))
 is-silence-says κs a q e w = (refl, refl)
+
+-- answer::put
+pub put-says : SaysBoth Put.ended PutReads.requires PutReads.ensures
+    (λ κs a q e. q ≡ countAfter (now (a .0)) (a .1 .0) (now (a .1 .1 .0)))
+    (λ κs a q e. now (e .0) ≡ saidAfter (now (a .0)) (a .1 .0) (now (a .1 .1 .0)))
+put-says κs a q e w = (refl, refl)
 
 -- answer::say
 pub say-says : SaysBoth Say.ended SayReads.requires SayReads.ensures
@@ -493,8 +672,12 @@ pub tell-says : SaysBoth Tell.ended TellReads.requires TellReads.ensures
     (λ κs a q e. now (e .0) ≡ saidAfter (now (a .0)) (a .1 .0) (toldBytes (a .1 .1 .0)))
 tell-says κs a q e w = (refl, refl)
 
+-- sister_answer::is_silence
+pub untold-says : Says Untold.ended UntoldReads.requires UntoldReads.ensures (λ κs a q e. q ≡ untold (a .0))
+untold-says κs a q e w = (refl, refl)
+
 -- hook::hook_lent
-pub hook-lent-says : Says HookLent.ended HookLentReads.requires HookLentReads.ensures (λ κs a q e. q ≡ Hooks.lentOf (hooked (together (a .0) (now (a .1 .0)) (now (a .1 .1 .0)) (now (a .1 .1 .1 .0))) (a .1 .1 .1 .1 .0)))
+pub hook-lent-says : Says HookLent.ended HookLentReads.requires HookLentReads.ensures (λ κs a q e. q ≡ Hooks.lentOf (hooked (lent a) (a .1 .1 .1 .1 .0)))
 hook-lent-says κs a q e w = (refl, refl)
 
 -- hook::hook
@@ -509,19 +692,8 @@ empty-from-says κs a q e w = (refl, refl)
 pub part-at-says : Says PartAtPlace.ended PartAtPlaceReads.requires PartAtPlaceReads.ensures (λ κs a q e. q ≡ partAt (now (a .0)) (a .1 .0))
 part-at-says κs a q e w = (refl, refl)
 
--- stream::feed_lent: the same call, of the record that the small fields and the lent arrays make
-abbrev given : (κs : Lfts (FeedLent.ended .signature .lifetimes)) → ArgsD (FeedLent.ended .signature) κs → Record
-given κs a = together (a .0) (now (a .1 .0)) (now (a .1 .1 .0)) (now (a .1 .1 .1 .0))
-
-abbrev called : (κs : Lfts (FeedLent.ended .signature .lifetimes)) → ArgsD (FeedLent.ended .signature) κs → Fed
-called κs a = fedOf (given κs a) (now (a .1 .1 .1 .1 .0)) (length (now (a .1 .1 .1 .1 .1 .0)))
-
-pub feed-lent-says : SaysFive FeedLent.ended FeedLentReads.requires FeedLentReads.ensures
-    (λ κs a q e. q ≡ lentOf (called κs a))
-    (λ κs a q e. now (e .1 .0) ≡ called κs a .record .text)
-    (λ κs a q e. now (e .1 .1 .0) ≡ called κs a .record .picture)
-    (λ κs a q e. now (e .1 .1 .1 .0) ≡ called κs a .record .frame .bytes)
-    (λ κs a q e. now (e .1 .1 .1 .1 .1 .0) ≡ answersAfter (given κs a) (now (a .1 .1 .1 .1 .0)) (now (a .1 .1 .1 .1 .1 .0)))
+-- stream::feed_lent
+pub feed-lent-says : SaysFed FeedLent.ended FeedLentReads.requires FeedLentReads.ensures (λ κs a. a) (λ κs e. e) (λ κs. lentOf)
 feed-lent-says κs a q e w = (refl, refl)
 
 -- stream_by_value::whole
@@ -539,7 +711,7 @@ pub escapes-in-says : Says EscapesIn.ended EscapesInReads.requires EscapesInRead
 escapes-in-says κs a q e w = (refl, refl)
 
 -- answer_room::room_needed_lent
-pub room-needed-lent-says : Says RoomNeededLent.ended RoomNeededLentReads.requires RoomNeededLentReads.ensures (λ κs a q e. q ≡ roomNeeded (together (a .0) (now (a .1 .0)) (now (a .1 .1 .0)) (now (a .1 .1 .1 .0))) (now (a .1 .1 .1 .1 .0)))
+pub room-needed-lent-says : Says RoomNeededLent.ended RoomNeededLentReads.requires RoomNeededLentReads.ensures (λ κs a q e. q ≡ roomNeeded (lent a) (now (a .1 .1 .1 .1 .0)))
 room-needed-lent-says κs a q e w = (refl, refl)
 
 -- answer_room::room_needed
@@ -551,7 +723,7 @@ pub check-choice-says : Says CheckChoice.ended CheckChoiceReads.requires CheckCh
 check-choice-says κs a q e w = (refl, refl)
 
 -- key_entry::all_listed
-pub all-listed-says : Says AllListed.ended AllListedReads.requires AllListedReads.ensures (λ κs a q e. q ≡ every listed (now (a .0)))
+pub all-listed-says : Says AllListed.ended AllListedReads.requires AllListedReads.ensures (λ κs a q e. q ≡ every (listedUpTo (a .1 .0)) (now (a .0)))
 all-listed-says κs a q e w = (refl, refl)
 
 -- key_entry::light_up
@@ -571,14 +743,8 @@ pub sister-entry-says : Says SisterEntry.ended SisterEntryReads.requires SisterE
     (λ κs a q e. q ≡ Sister.keyed (a .0) (a .1 .0) (a .1 .1 .0) (a .1 .1 .1 .0) (a .1 .1 .1 .1 .0) (a .1 .1 .1 .1 .1 .0) (a .1 .1 .1 .1 .1 .1 .0))
 sister-entry-says κs a q e w = (refl, refl)
 
--- key_log::take_log_lent: the same call, of the record that the small fields and the lent arrays make
-abbrev logged : (κs : Lfts (TakeLogLent.ended .signature .lifetimes)) → ArgsD (TakeLogLent.ended .signature) κs → Outcome
-logged κs a =
-    outcome (together (a .0) (now (a .1 .0)) (now (a .1 .1 .0)) (now (a .1 .1 .1 .0))) (now (a .1 .1 .1 .1 .0)) (now (a .1 .1 .1 .1 .1 .0)) (length (now (a .1 .1 .1 .1 .1 .1 .0)))
-
-pub take-log-lent-says : SaysBoth TakeLogLent.ended TakeLogLentReads.requires TakeLogLentReads.ensures
-    (λ κs a q e. q ≡ loggedLent (handedBack (logged κs a)))
-    (λ κs a q e. now (e .1 .1 .1 .1 .1 .1 .0) ≡ bufferAfter (logged κs a) (now (a .1 .1 .1 .1 .1 .1 .0)))
+-- key_log::take_log_lent
+pub take-log-lent-says : SaysLogged TakeLogLent.ended TakeLogLentReads.requires TakeLogLentReads.ensures (λ κs a. a) (λ κs e. e) (λ κs. loggedLent)
 take-log-lent-says κs a q e w = (refl, refl)
 
 -- key_log::take_log
@@ -588,7 +754,7 @@ pub take-log-says : SaysBoth TakeLog.ended TakeLogReads.requires TakeLogReads.en
 take-log-says κs a q e w = (refl, refl)
 
 -- seconds::second_lent
-pub second-lent-says : Says SecondLent.ended SecondLentReads.requires SecondLentReads.ensures (λ κs a q e. q ≡ Seconds.lentOf (passed (together (a .0) (now (a .1 .0)) (now (a .1 .1 .0)) (now (a .1 .1 .1 .0)))))
+pub second-lent-says : Says SecondLent.ended SecondLentReads.requires SecondLentReads.ensures (λ κs a q e. q ≡ Seconds.lentOf (passed (lent a)))
 second-lent-says κs a q e w = (refl, refl)
 
 -- seconds::second
@@ -624,7 +790,7 @@ row-seen-says κs a q e w = (refl, refl)
 
 -- seen::row_seen_lent
 pub row-seen-lent-says : Says RowSeenLent.ended RowSeenLentReads.requires RowSeenLentReads.ensures
-    (λ κs a q e. q ≡ rowSeen (together (a .0) (now (a .1 .0)) (now (a .1 .1 .0)) (now (a .1 .1 .1 .0))) (a .1 .1 .1 .1 .0) (a .1 .1 .1 .1 .1 .0))
+    (λ κs a q e. q ≡ rowSeen (lent a) (a .1 .1 .1 .1 .0) (a .1 .1 .1 .1 .1 .0))
 row-seen-lent-says κs a q e w = (refl, refl)
 
 -- seen::column_seen
@@ -633,7 +799,7 @@ column-seen-says κs a q e w = (refl, refl)
 
 -- seen::column_seen_lent
 pub column-seen-lent-says : Says ColumnSeenLent.ended ColumnSeenLentReads.requires ColumnSeenLentReads.ensures
-    (λ κs a q e. q ≡ columnSeen (together (a .0) (now (a .1 .0)) (now (a .1 .1 .0)) (now (a .1 .1 .1 .0))) (a .1 .1 .1 .1 .0) (a .1 .1 .1 .1 .1 .0) (a .1 .1 .1 .1 .1 .1 .0))
+    (λ κs a q e. q ≡ columnSeen (lent a) (a .1 .1 .1 .1 .0) (a .1 .1 .1 .1 .1 .0) (a .1 .1 .1 .1 .1 .1 .0))
 column-seen-lent-says κs a q e w = (refl, refl)
 
 -- seen::sms_seen
@@ -642,7 +808,7 @@ sms-seen-says κs a q e w = (refl, refl)
 
 -- seen::sms_seen_lent
 pub sms-seen-lent-says : Says SmsSeenLent.ended SmsSeenLentReads.requires SmsSeenLentReads.ensures
-    (λ κs a q e. q ≡ smsSeen (together (a .0) (now (a .1 .0)) (now (a .1 .1 .0)) (now (a .1 .1 .1 .0))) (a .1 .1 .1 .1 .0))
+    (λ κs a q e. q ≡ smsSeen (lent a) (a .1 .1 .1 .1 .0))
 sms-seen-lent-says κs a q e w = (refl, refl)
 
 -- seen::volume_seen
@@ -651,7 +817,7 @@ volume-seen-says κs a q e w = (refl, refl)
 
 -- seen::volume_seen_lent
 pub volume-seen-lent-says : Says VolumeSeenLent.ended VolumeSeenLentReads.requires VolumeSeenLentReads.ensures
-    (λ κs a q e. q ≡ volumeSeen (together (a .0) (now (a .1 .0)) (now (a .1 .1 .0)) (now (a .1 .1 .1 .0))))
+    (λ κs a q e. q ≡ volumeSeen (lent a))
 volume-seen-lent-says κs a q e w = (refl, refl)
 
 -- writer_ranges::label_in_range
@@ -661,6 +827,18 @@ label-in-range-says κs a q e w = (refl, refl)
 -- writer_ranges::row_in_range
 pub row-in-range-says : Says RowInRange.ended RowInRangeReads.requires RowInRangeReads.ensures (λ κs a q e. q ≡ isRow (a .0) (now (a .1 .0)))
 row-in-range-says κs a q e w = (refl, refl)
+
+-- writer::write_own
+pub write-own-says : SaysBoth WriteOwn.ended WriteOwnReads.requires WriteOwnReads.ensures
+    (λ κs a q e. q ≡ writtenOf (ownInRange (a .0)) (frameOf (spell (sisterForm (own (a .0))))) (now (a .1 .0)))
+    (λ κs a q e. now (e .1 .0) ≡ roomAfter (ownInRange (a .0)) (frameOf (spell (sisterForm (own (a .0))))) (now (a .1 .0)))
+write-own-says κs a q e w = (refl, refl)
+
+-- writer::write_shared
+pub write-shared-says : SaysBoth WriteShared.ended WriteSharedReads.requires WriteSharedReads.ensures
+    (λ κs a q e. q ≡ writtenOf (sharedInRange (a .0)) (frameOf (spell (sisterForm (first (plain (a .0)))))) (now (a .1 .0)))
+    (λ κs a q e. now (e .1 .0) ≡ roomAfter (sharedInRange (a .0)) (frameOf (spell (sisterForm (first (plain (a .0)))))) (now (a .1 .0)))
+write-shared-says κs a q e w = (refl, refl)
 
 -- writer::write_command
 pub write-command-says : SaysBoth WriteCommand.ended WriteCommandReads.requires WriteCommandReads.ensures
@@ -721,53 +899,33 @@ pub kind-number-says : Says KindNumber.ended KindNumberReads.requires KindNumber
 kind-number-says κs a q e w = (refl, refl)
 
 -- handset::proved_power_on
-pub proved-power-on-says : SaysFour ProvedPowerOn.ended ProvedPowerOnReads.requires ProvedPowerOnReads.ensures
-    (λ κs a q e. q ≡ smallOf powerOn)
-    (λ κs a q e. now (e .0) ≡ powerOn .text)
-    (λ κs a q e. now (e .1 .0) ≡ powerOn .picture)
-    (λ κs a q e. now (e .1 .1 .0) ≡ powerOn .frame .bytes)
+pub proved-power-on-says : SaysApart ProvedPowerOn.ended ProvedPowerOnReads.requires ProvedPowerOnReads.ensures (λ κs s. s) (λ κs e. e) powerOn
 proved-power-on-says κs a q e w = (refl, refl)
 
 -- handset::proved_power_on_former
-pub proved-power-on-former-says : SaysFour ProvedPowerOnFormer.ended ProvedPowerOnFormerReads.requires ProvedPowerOnFormerReads.ensures
-    (λ κs a q e. q ≡ smallOf formerPowerOn)
-    (λ κs a q e. now (e .0) ≡ formerPowerOn .text)
-    (λ κs a q e. now (e .1 .0) ≡ formerPowerOn .picture)
-    (λ κs a q e. now (e .1 .1 .0) ≡ formerPowerOn .frame .bytes)
+pub proved-power-on-former-says : SaysApart ProvedPowerOnFormer.ended ProvedPowerOnFormerReads.requires ProvedPowerOnFormerReads.ensures (λ κs s. s) (λ κs e. e) formerPowerOn
 proved-power-on-former-says κs a q e w = (refl, refl)
+
+-- handset::proved_sister_power_on
+pub proved-sister-power-on-says : SaysApart ProvedSisterPowerOn.ended ProvedSisterPowerOnReads.requires ProvedSisterPowerOnReads.ensures (λ κs s. s) (λ κs e. e) sisterPowerOn
+proved-sister-power-on-says κs a q e w = (refl, refl)
 
 -- handset::proved_in_range
 pub proved-in-range-says : Says ProvedInRange.ended ProvedInRangeReads.requires ProvedInRangeReads.ensures
-    (λ κs a q e. q ≡ inRange (together (a .0) (now (a .1 .0)) (now (a .1 .1 .0)) (now (a .1 .1 .1 .0))))
+    (λ κs a q e. q ≡ inRange (lent a))
 proved-in-range-says κs a q e w = (refl, refl)
 
--- handset::proved_feed: the stream call, of the record that the small fields and the lent arrays make
-abbrev fedFrom : (κs : Lfts (ProvedFeed.ended .signature .lifetimes)) → ArgsD (ProvedFeed.ended .signature) κs → Record
-fedFrom κs a = together (a .0) (now (a .1 .0)) (now (a .1 .1 .0)) (now (a .1 .1 .1 .0))
-
-abbrev fedTo : (κs : Lfts (ProvedFeed.ended .signature .lifetimes)) → ArgsD (ProvedFeed.ended .signature) κs → Fed
-fedTo κs a = fedOf (fedFrom κs a) (now (a .1 .1 .1 .1 .0)) (length (now (a .1 .1 .1 .1 .1 .0)))
-
-pub proved-feed-says : SaysFive ProvedFeed.ended ProvedFeedReads.requires ProvedFeedReads.ensures
-    (λ κs a q e. q ≡ fedIn (fedTo κs a))
-    (λ κs a q e. now (e .1 .0) ≡ fedTo κs a .record .text)
-    (λ κs a q e. now (e .1 .1 .0) ≡ fedTo κs a .record .picture)
-    (λ κs a q e. now (e .1 .1 .1 .0) ≡ fedTo κs a .record .frame .bytes)
-    (λ κs a q e. now (e .1 .1 .1 .1 .1 .0) ≡ answersAfter (fedFrom κs a) (now (a .1 .1 .1 .1 .0)) (now (a .1 .1 .1 .1 .1 .0)))
+-- handset::proved_feed
+pub proved-feed-says : SaysFed ProvedFeed.ended ProvedFeedReads.requires ProvedFeedReads.ensures (λ κs a. a) (λ κs e. e) (λ κs. fedIn)
 proved-feed-says κs a q e w = (refl, refl)
 
--- handset::proved_take_log: the key log, of the same record
-abbrev loggedTo : (κs : Lfts (ProvedTakeLog.ended .signature .lifetimes)) → ArgsD (ProvedTakeLog.ended .signature) κs → Outcome
-loggedTo κs a = outcome (together (a .0) (now (a .1 .0)) (now (a .1 .1 .0)) (now (a .1 .1 .1 .0))) (now (a .1 .1 .1 .1 .0)) (now (a .1 .1 .1 .1 .1 .0)) (length (now (a .1 .1 .1 .1 .1 .1 .0)))
-
-pub proved-take-log-says : SaysBoth ProvedTakeLog.ended ProvedTakeLogReads.requires ProvedTakeLogReads.ensures
-    (λ κs a q e. q ≡ loggedIn (handedBack (loggedTo κs a)))
-    (λ κs a q e. now (e .1 .1 .1 .1 .1 .1 .0) ≡ bufferAfter (loggedTo κs a) (now (a .1 .1 .1 .1 .1 .1 .0)))
+-- handset::proved_take_log
+pub proved-take-log-says : SaysLogged ProvedTakeLog.ended ProvedTakeLogReads.requires ProvedTakeLogReads.ensures (λ κs a. a) (λ κs e. e) (λ κs. loggedIn)
 proved-take-log-says κs a q e w = (refl, refl)
 
 -- handset::proved_second
 pub proved-second-says : Says ProvedSecond.ended ProvedSecondReads.requires ProvedSecondReads.ensures
-    (λ κs a q e. q ≡ passedIn (passed (together (a .0) (now (a .1 .0)) (now (a .1 .1 .0)) (now (a .1 .1 .1 .0)))))
+    (λ κs a q e. q ≡ passedIn (passed (lent a)))
 proved-second-says κs a q e w = (refl, refl)
 
 -- handset::proved_light_second
@@ -776,32 +934,32 @@ proved-light-second-says κs a q e w = (refl, refl)
 
 -- handset::proved_hook
 pub proved-hook-says : Says ProvedHook.ended ProvedHookReads.requires ProvedHookReads.ensures
-    (λ κs a q e. q ≡ hookedIn (hooked (together (a .0) (now (a .1 .0)) (now (a .1 .1 .0)) (now (a .1 .1 .1 .0))) (a .1 .1 .1 .1 .0)))
+    (λ κs a q e. q ≡ hookedIn (hooked (lent a) (a .1 .1 .1 .1 .0)))
 proved-hook-says κs a q e w = (refl, refl)
 
 -- handset::proved_room_needed
 pub proved-room-needed-says : Says ProvedRoomNeeded.ended ProvedRoomNeededReads.requires ProvedRoomNeededReads.ensures
-    (λ κs a q e. q ≡ countedIn (roomNeeded (together (a .0) (now (a .1 .0)) (now (a .1 .1 .0)) (now (a .1 .1 .1 .0))) (now (a .1 .1 .1 .1 .0))))
+    (λ κs a q e. q ≡ countedIn (roomNeeded (lent a) (now (a .1 .1 .1 .1 .0))))
 proved-room-needed-says κs a q e w = (refl, refl)
 
 -- handset::proved_sms_seen
 pub proved-sms-seen-says : Says ProvedSmsSeen.ended ProvedSmsSeenReads.requires ProvedSmsSeenReads.ensures
-    (λ κs a q e. q ≡ smsIn (smsSeen (together (a .0) (now (a .1 .0)) (now (a .1 .1 .0)) (now (a .1 .1 .1 .0))) (phaseOf (a .1 .1 .1 .1 .0))))
+    (λ κs a q e. q ≡ smsIn (smsSeen (lent a) (phaseOf (a .1 .1 .1 .1 .0))))
 proved-sms-seen-says κs a q e w = (refl, refl)
 
 -- handset::proved_volume_seen
 pub proved-volume-seen-says : Says ProvedVolumeSeen.ended ProvedVolumeSeenReads.requires ProvedVolumeSeenReads.ensures
-    (λ κs a q e. q ≡ volumeIn (volumeSeen (together (a .0) (now (a .1 .0)) (now (a .1 .1 .0)) (now (a .1 .1 .1 .0)))))
+    (λ κs a q e. q ≡ volumeIn (volumeSeen (lent a)))
 proved-volume-seen-says κs a q e w = (refl, refl)
 
 -- handset::proved_row_seen
 pub proved-row-seen-says : Says ProvedRowSeen.ended ProvedRowSeenReads.requires ProvedRowSeenReads.ensures
-    (λ κs a q e. q ≡ rowIn (rowSeen (together (a .0) (now (a .1 .0)) (now (a .1 .1 .0)) (now (a .1 .1 .1 .0))) (a .1 .1 .1 .1 .0) (phaseOf (a .1 .1 .1 .1 .1 .0))))
+    (λ κs a q e. q ≡ rowIn (rowSeen (lent a) (a .1 .1 .1 .1 .0) (phaseOf (a .1 .1 .1 .1 .1 .0))))
 proved-row-seen-says κs a q e w = (refl, refl)
 
 -- handset::proved_column_seen
 pub proved-column-seen-says : Says ProvedColumnSeen.ended ProvedColumnSeenReads.requires ProvedColumnSeenReads.ensures
-    (λ κs a q e. q ≡ columnIn (columnSeen (together (a .0) (now (a .1 .0)) (now (a .1 .1 .0)) (now (a .1 .1 .1 .0))) (a .1 .1 .1 .1 .0) (a .1 .1 .1 .1 .1 .0) (phaseOf (a .1 .1 .1 .1 .1 .1 .0))))
+    (λ κs a q e. q ≡ columnIn (columnSeen (lent a) (a .1 .1 .1 .1 .0) (a .1 .1 .1 .1 .1 .0) (phaseOf (a .1 .1 .1 .1 .1 .1 .0))))
 proved-column-seen-says κs a q e w = (refl, refl)
 
 -- handset::proved_write_command

@@ -2,7 +2,7 @@
 -- allowed is `Learnt`: what a caller learns of the result `q` and the arguments at exit `e` from the clauses. Assumes nothing.
 use mathlib.Core.Path.{_≡_, refl, sym, _∙_}
 use Prim.Native.Nat.{ℕ}
-use mathlib.Core.List.{List}
+use mathlib.Core.List.{List, []}
 use Rattle.record.specs.PowerOn.{firstEdition}
 use Rattle.record.specs.declared.Backlight.{Backlight}
 use contract.Lifetimes.{Lfts}
@@ -10,6 +10,30 @@ use denote.Ref.{now}
 use denote.Triple.Clauses.{Ended, AtExit}
 use borrow.Fn.World.{ArgsD, ResD}
 use Rattle.seconds.specs.Seconds.{lightPassed}
+use Rattle.sister_command.proofs.is_own as IsOwn
+use Rattle.sister_command.proofs.is_own.Reads as IsOwnReads
+use Rattle.sister_command.proofs.read_shared as ReadShared
+use Rattle.sister_command.proofs.read_shared.Reads as ReadSharedReads
+use Rattle.answer.proofs.put as Put
+use Rattle.answer.proofs.put.Reads as PutReads
+use Rattle.sister_effect.proofs.refused as RefusedBy
+use Rattle.sister_effect.proofs.refused.Reads as RefusedByReads
+use Rattle.sister_effect.proofs.obey_own_frame as ObeyOwnFrame
+use Rattle.sister_effect.proofs.obey_own_frame.Reads as ObeyOwnFrameReads
+use Rattle.handset.proofs.proved_sister_power_on as ProvedSisterPowerOn
+use Rattle.handset.proofs.proved_sister_power_on.Reads as ProvedSisterPowerOnReads
+use Rattle.sister_answer.proofs.is_silence as Untold
+use Rattle.sister_answer.proofs.is_silence.Reads as UntoldReads
+use Rattle.sister_command.proofs.read_sister as ReadSister
+use Rattle.sister_command.proofs.read_sister.Reads as ReadSisterReads
+use Rattle.command.proofs.opens_label as OpensLabel
+use Rattle.command.proofs.opens_label.Reads as OpensLabelReads
+use Rattle.command.proofs.with_number as WithNumber
+use Rattle.command.proofs.with_number.Reads as WithNumberReads
+use Rattle.command.proofs.byte_at as ByteAt
+use Rattle.command.proofs.byte_at.Reads as ByteAtReads
+use Rattle.record_small_ranges.proofs.sister_small_in_range as SisterSmallInRange
+use Rattle.record_small_ranges.proofs.sister_small_in_range.Reads as SisterSmallInRangeReads
 use Rattle.record.proofs.small_of as SmallOf
 use Rattle.record.proofs.small_of.Reads as SmallOfReads
 use Rattle.record.proofs.paper_number as PaperNumber
@@ -68,6 +92,16 @@ use Rattle.command_form.proofs.in_range as CommandInRange
 use Rattle.command_form.proofs.in_range.Reads as CommandInRangeReads
 use Rattle.command_form.proofs.body as CommandBody
 use Rattle.command_form.proofs.body.Reads as CommandBodyReads
+use Rattle.sister_form.proofs.own_out as OwnOut
+use Rattle.sister_form.proofs.own_out.Reads as OwnOutReads
+use Rattle.sister_form.proofs.own_in_range as OwnInRange
+use Rattle.sister_form.proofs.own_in_range.Reads as OwnInRangeReads
+use Rattle.sister_form.proofs.own_body as OwnBody
+use Rattle.sister_form.proofs.own_body.Reads as OwnBodyReads
+use Rattle.sister_form.proofs.is_shared as IsShared
+use Rattle.sister_form.proofs.is_shared.Reads as IsSharedReads
+use Rattle.sister_form.proofs.shared_body as SharedBody
+use Rattle.sister_form.proofs.shared_body.Reads as SharedBodyReads
 use Rattle.frame_table.proofs.run as RunTable
 use Rattle.frame_table.proofs.run.Reads as RunTableReads
 use Rattle.command.proofs.read_lent as ReadLent
@@ -80,6 +114,8 @@ use Rattle.picture_frame.proofs.read_picture as ReadPicture
 use Rattle.picture_frame.proofs.read_picture.Reads as ReadPictureReads
 use Rattle.verdict.proofs.judge as Judge
 use Rattle.verdict.proofs.judge.Reads as JudgeReads
+use Rattle.verdict.proofs.judge_in as JudgeIn
+use Rattle.verdict.proofs.judge_in.Reads as JudgeInReads
 use Rattle.effect_modes.proofs.to_mode as ToMode
 use Rattle.effect_modes.proofs.to_mode.Reads as ToModeReads
 use Rattle.effect_modes.proofs.at_level as AtLevel
@@ -163,6 +199,10 @@ use Rattle.writer_ranges.proofs.label_in_range as LabelInRange
 use Rattle.writer_ranges.proofs.label_in_range.Reads as LabelInRangeReads
 use Rattle.writer_ranges.proofs.row_in_range as RowInRange
 use Rattle.writer_ranges.proofs.row_in_range.Reads as RowInRangeReads
+use Rattle.writer.proofs.write_own as WriteOwn
+use Rattle.writer.proofs.write_own.Reads as WriteOwnReads
+use Rattle.writer.proofs.write_shared as WriteShared
+use Rattle.writer.proofs.write_shared.Reads as WriteSharedReads
 use Rattle.writer.proofs.write_command as WriteCommand
 use Rattle.writer.proofs.write_command.Reads as WriteCommandReads
 use Rattle.writer.proofs.write_label as WriteLabel
@@ -258,6 +298,13 @@ equal-and-left : (t : Ended) (L : Type 0) (f : (κs : Lfts (t .signature .lifeti
     → OneEnd t L (λ κs a q e. (q ≡ f κs a) × (left κs e ≡ g κs a)) left
 equal-and-left t L f left g κs a q q′ e e′ p p′ = (two-equal (p .0) (p′ .0), two-equal (p .1) (p′ .1))
 
+-- Where several are lent, the equations on them are one on them all.
+three-left : {x y z x′ y′ z′ : List ℕ} → (x ≡ x′) × ((y ≡ y′) × (z ≡ z′)) → _≡_ {A = List ℕ × List ℕ × List ℕ} (x, y, z) (x′, y′, z′)
+three-left p = λ j. (p .0 j, p .1 .0 j, p .1 .1 j)
+
+four-left : {x y z v x′ y′ z′ v′ : List ℕ} → (x ≡ x′) × ((y ≡ y′) × ((z ≡ z′) × (v ≡ v′))) → _≡_ {A = List ℕ × List ℕ × List ℕ × List ℕ} (x, y, z, v) (x′, y′, z′, v′)
+four-left p = λ j. (p .0 j, p .1 .0 j, p .1 .1 .0 j, p .1 .1 .1 j)
+
 -- record::small_of
 pub small-of-one : OneResult SmallOf.ended SmallOfReads.Learnt
 small-of-one = equal SmallOf.ended _
@@ -318,6 +365,10 @@ backlight-in-range-one = equal BacklightInRange.ended _
 pub small-in-range-one : OneResult SmallInRange.ended SmallInRangeReads.Learnt
 small-in-range-one = equal SmallInRange.ended _
 
+-- record_small_ranges::sister_small_in_range
+pub sister-small-in-range-one : OneResult SisterSmallInRange.ended SisterSmallInRangeReads.Learnt
+sister-small-in-range-one = equal SisterSmallInRange.ended _
+
 -- record_ranges::in_range
 pub record-in-range-one : OneResult RecordInRange.ended RecordInRangeReads.Learnt
 record-in-range-one = equal RecordInRange.ended _
@@ -374,9 +425,41 @@ command-in-range-one = equal CommandInRange.ended _
 pub command-body-one : OneResult CommandBody.ended CommandBodyReads.Learnt
 command-body-one = equal CommandBody.ended _
 
+-- sister_form::own_out
+pub own-out-one : OneResult OwnOut.ended OwnOutReads.Learnt
+own-out-one = equal OwnOut.ended _
+
+-- sister_form::own_in_range
+pub own-in-range-one : OneResult OwnInRange.ended OwnInRangeReads.Learnt
+own-in-range-one = equal OwnInRange.ended _
+
+-- sister_form::own_body
+pub own-body-one : OneResult OwnBody.ended OwnBodyReads.Learnt
+own-body-one = equal OwnBody.ended _
+
+-- sister_form::is_shared
+pub is-shared-one : OneResult IsShared.ended IsSharedReads.Learnt
+is-shared-one = equal IsShared.ended _
+
+-- sister_form::shared_body
+pub shared-body-one : OneResult SharedBody.ended SharedBodyReads.Learnt
+shared-body-one = equal SharedBody.ended _
+
 -- frame_table::run
 pub run-table-one : OneResult RunTable.ended RunTableReads.Learnt
 run-table-one = equal RunTable.ended _
+
+-- command::byte_at
+pub byte-at-one : OneResult ByteAt.ended ByteAtReads.Learnt
+byte-at-one = equal ByteAt.ended _
+
+-- command::with_number
+pub with-number-one : OneResult WithNumber.ended WithNumberReads.Learnt
+with-number-one = equal WithNumber.ended _
+
+-- command::opens_label
+pub opens-label-one : OneResult OpensLabel.ended OpensLabelReads.Learnt
+opens-label-one = equal OpensLabel.ended _
 
 -- command::read_lent
 pub read-lent-one : OneResult ReadLent.ended ReadLentReads.Learnt
@@ -385,6 +468,18 @@ read-lent-one = equal ReadLent.ended _
 -- command::read_command
 pub read-command-one : OneResult ReadCommand.ended ReadCommandReads.Learnt
 read-command-one = equal ReadCommand.ended _
+
+-- sister_command::read_sister
+pub read-sister-one : OneResult ReadSister.ended ReadSisterReads.Learnt
+read-sister-one = equal ReadSister.ended _
+
+-- sister_command::read_shared
+pub read-shared-one : OneResult ReadShared.ended ReadSharedReads.Learnt
+read-shared-one = equal ReadShared.ended _
+
+-- sister_command::is_own
+pub is-own-one : OneResult IsOwn.ended IsOwnReads.Learnt
+is-own-one = equal IsOwn.ended _
 
 -- picture_frame::opens_picture
 pub opens-picture-one : OneResult OpensPicture.ended OpensPictureReads.Learnt
@@ -398,9 +493,17 @@ read-picture-one = equal ReadPicture.ended _
 pub judge-one : OneResult Judge.ended JudgeReads.Learnt
 judge-one = equal Judge.ended _
 
+-- verdict::judge_in
+pub judge-in-one : OneResult JudgeIn.ended JudgeInReads.Learnt
+judge-in-one κs a q q′ e e′ p p′ = two-equal (p [] []) (p′ [] [])
+
 -- answer::is_silence
 pub is-silence-one : OneResult IsSilence.ended IsSilenceReads.Learnt
 is-silence-one = equal IsSilence.ended _
+
+-- answer::put
+pub put-one : OneEnd Put.ended (List ℕ) PutReads.Learnt (λ κs e. now (e .0))
+put-one = equal-and-left Put.ended _ _ _ _
 
 -- answer::say
 pub say-one : OneEnd Say.ended (List ℕ) SayReads.Learnt (λ κs e. now (e .0))
@@ -413,6 +516,10 @@ count-one = equal Count.ended _
 -- sister_answer::tell
 pub tell-one : OneEnd Tell.ended (List ℕ) TellReads.Learnt (λ κs e. now (e .0))
 tell-one = equal-and-left Tell.ended _ _ _ _
+
+-- sister_answer::is_silence
+pub untold-one : OneResult Untold.ended UntoldReads.Learnt
+untold-one = equal Untold.ended _
 
 -- hook::hook_lent
 pub hook-lent-one : OneResult HookLent.ended HookLentReads.Learnt
@@ -432,10 +539,7 @@ part-at-one = equal PartAtPlace.ended _
 
 -- stream::feed_lent: text, picture, the frame's bytes and the answers
 pub feed-lent-one : OneEnd FeedLent.ended (List ℕ × List ℕ × List ℕ × List ℕ) FeedLentReads.Learnt (λ κs e. (now (e .1 .0), now (e .1 .1 .0), now (e .1 .1 .1 .0), now (e .1 .1 .1 .1 .1 .0)))
-feed-lent-one κs a q q′ e e′ p p′ = (
-  two-equal (p .0) (p′ .0),
-  λ j. (two-equal (p .1 .0) (p′ .1 .0) j, two-equal (p .1 .1 .0) (p′ .1 .1 .0) j, two-equal (p .1 .1 .1 .0) (p′ .1 .1 .1 .0) j, two-equal (p .1 .1 .1 .1) (p′ .1 .1 .1 .1) j),
-)
+feed-lent-one κs a q q′ e e′ p p′ = (two-equal (p .0) (p′ .0), two-equal (four-left (p .1)) (four-left (p′ .1)))
 
 -- stream_by_value::whole
 pub whole-one : OneResult Whole.ended WholeReads.Learnt
@@ -559,6 +663,14 @@ label-in-range-one = equal LabelInRange.ended _
 pub row-in-range-one : OneResult RowInRange.ended RowInRangeReads.Learnt
 row-in-range-one = equal RowInRange.ended _
 
+-- writer::write_own
+pub write-own-one : OneEnd WriteOwn.ended (List ℕ) WriteOwnReads.Learnt (λ κs e. now (e .1 .0))
+write-own-one = equal-and-left WriteOwn.ended _ _ _ _
+
+-- writer::write_shared
+pub write-shared-one : OneEnd WriteShared.ended (List ℕ) WriteSharedReads.Learnt (λ κs e. now (e .1 .0))
+write-shared-one = equal-and-left WriteShared.ended _ _ _ _
+
 -- writer::write_command
 pub write-command-one : OneEnd WriteCommand.ended (List ℕ) WriteCommandReads.Learnt (λ κs e. now (e .1 .0))
 write-command-one = equal-and-left WriteCommand.ended _ _ _ _
@@ -587,6 +699,17 @@ obey-one κs a q q′ e e′ p p′ =
     let same = two-equal (p firstEdition .same) (p′ firstEdition .same) in
     let answer = two-equal (p firstEdition .answer) (p′ firstEdition .answer) in
     (λ j. record { answer = answer j; settings = same j .settings }, λ j. same j .text, λ j. same j .picture)
+
+-- sister_effect::refused
+pub refused-one : OneResult RefusedBy.ended RefusedByReads.Learnt
+refused-one κs a q q′ e e′ p p′ = two-equal (p [] []) (p′ [] [])
+
+-- sister_effect::obey_own_frame: what the frame is answered, and the settings, edition, text and picture as they are afterwards
+pub obey-own-frame-one : OneEnd ObeyOwnFrame.ended (List ℕ × List ℕ) ObeyOwnFrameReads.Learnt (λ κs e. (now (e .1 .1 .0), now (e .1 .1 .1 .0)))
+obey-own-frame-one κs a q q′ e e′ p p′ =
+    let same = two-equal (p .same) (p′ .same) in
+    let told = two-equal (p .told) (p′ .told) in
+    (λ j. record { settings = same j .settings; edition = same j .edition; told = told j }, λ j. (same j .text, same j .picture))
 
 -- handset_numbers::phase_of
 pub phase-of-one : OneResult PhaseOf.ended PhaseOfReads.Learnt
@@ -630,17 +753,15 @@ kind-number-one = equal KindNumber.ended _
 
 -- handset::proved_power_on: text, picture and the frame's bytes
 pub proved-power-on-one : OneEnd ProvedPowerOn.ended (List ℕ × List ℕ × List ℕ) ProvedPowerOnReads.Learnt (λ κs e. (now (e .0), now (e .1 .0), now (e .1 .1 .0)))
-proved-power-on-one κs a q q′ e e′ p p′ = (
-  two-equal (p .0) (p′ .0),
-  λ j. (two-equal (p .1 .0) (p′ .1 .0) j, two-equal (p .1 .1 .0) (p′ .1 .1 .0) j, two-equal (p .1 .1 .1) (p′ .1 .1 .1) j),
-)
+proved-power-on-one κs a q q′ e e′ p p′ = (two-equal (p .0) (p′ .0), two-equal (three-left (p .1)) (three-left (p′ .1)))
 
 -- handset::proved_power_on_former: text, picture and the frame's bytes
 pub proved-power-on-former-one : OneEnd ProvedPowerOnFormer.ended (List ℕ × List ℕ × List ℕ) ProvedPowerOnFormerReads.Learnt (λ κs e. (now (e .0), now (e .1 .0), now (e .1 .1 .0)))
-proved-power-on-former-one κs a q q′ e e′ p p′ = (
-  two-equal (p .0) (p′ .0),
-  λ j. (two-equal (p .1 .0) (p′ .1 .0) j, two-equal (p .1 .1 .0) (p′ .1 .1 .0) j, two-equal (p .1 .1 .1) (p′ .1 .1 .1) j),
-)
+proved-power-on-former-one κs a q q′ e e′ p p′ = (two-equal (p .0) (p′ .0), two-equal (three-left (p .1)) (three-left (p′ .1)))
+
+-- handset::proved_sister_power_on: text, picture and the frame's bytes
+pub proved-sister-power-on-one : OneEnd ProvedSisterPowerOn.ended (List ℕ × List ℕ × List ℕ) ProvedSisterPowerOnReads.Learnt (λ κs e. (now (e .0), now (e .1 .0), now (e .1 .1 .0)))
+proved-sister-power-on-one κs a q q′ e e′ p p′ = (two-equal (p .0) (p′ .0), two-equal (three-left (p .1)) (three-left (p′ .1)))
 
 -- handset::proved_in_range
 pub proved-in-range-one : OneResult ProvedInRange.ended ProvedInRangeReads.Learnt
@@ -648,10 +769,7 @@ proved-in-range-one = equal ProvedInRange.ended _
 
 -- handset::proved_feed: text, picture, the frame's bytes and the answers
 pub proved-feed-one : OneEnd ProvedFeed.ended (List ℕ × List ℕ × List ℕ × List ℕ) ProvedFeedReads.Learnt (λ κs e. (now (e .1 .0), now (e .1 .1 .0), now (e .1 .1 .1 .0), now (e .1 .1 .1 .1 .1 .0)))
-proved-feed-one κs a q q′ e e′ p p′ = (
-  two-equal (p .0) (p′ .0),
-  λ j. (two-equal (p .1 .0) (p′ .1 .0) j, two-equal (p .1 .1 .0) (p′ .1 .1 .0) j, two-equal (p .1 .1 .1 .0) (p′ .1 .1 .1 .0) j, two-equal (p .1 .1 .1 .1) (p′ .1 .1 .1 .1) j),
-)
+proved-feed-one κs a q q′ e e′ p p′ = (two-equal (p .0) (p′ .0), two-equal (four-left (p .1)) (four-left (p′ .1)))
 
 -- handset::proved_take_log
 pub proved-take-log-one : OneEnd ProvedTakeLog.ended (List ℕ) ProvedTakeLogReads.Learnt (λ κs e. now (e .1 .1 .1 .1 .1 .1 .0))

@@ -9,7 +9,8 @@ use borrow.Author.Tests.{eq-eqb, ne-eqb}
 use Rattle.command.specs.Order.{Order, draw}
 use Rattle.command.specs.InRange.{isPictureRow, rowsNamed, commandInRange}
 use Rattle.command.specs.declared.Command.{Command}
-use Rattle.command.specs.Reading.{readWith, opensPicture, pictureOf, orderBy}
+use Rattle.command.specs.Reading.{opensPicture, pictureOf, orderFound}
+use Rattle.command.specs.declared.Reading.{Reading}
 use Rattle.command.specs.Found.{drawn-found}
 use Rattle.command.specs.declared.PictureFrame.{PictureFrame}
 use Rattle.effect.specs.declared.Obeyed.{Obeyed}
@@ -22,13 +23,13 @@ pub obeys : {order found : Option Order} {before after : Core} {obeyed : Obeyed}
 obeys {before = before} e g s = record { answer = g ∙ ap answerTo (sym e); same = s ∙ ap (obeyOrder before) (sym e) }
 
 -- a picture frame that was read: without columns it is bad
-module _ (class next f : List ℕ) {opens : Bool} (o : opens ≡ opensPicture f) where
-  pub no-drawing : (p : PictureFrame) → opens ≡ true → p ≡ pictureOf f → p .columns .len ≡ 0 → orderBy class next f ≡ none
-  no-drawing p t e z = drawn-found f o (readWith class next f) t e ∙ rw (eq-eqb (p .columns .len) 0 z)
+module _ (read : Reading) (f : List ℕ) {opens : Bool} (o : opens ≡ opensPicture f) where
+  pub no-drawing : (p : PictureFrame) → opens ≡ true → p ≡ pictureOf f → p .columns .len ≡ 0 → orderFound read f ≡ none
+  no-drawing p t e z = drawn-found f o read t e ∙ rw (eq-eqb (p .columns .len) 0 z)
 
   pub a-drawing : (p : PictureFrame) → opens ≡ true → p ≡ pictureOf f → (p .columns .len ≡ 0 → ⊥)
-      → orderBy class next f ≡ some (draw (p .row) (take (p .columns .len) (p .columns .bytes)))
-  a-drawing p t e z = drawn-found f o (readWith class next f) t e ∙ rw (ne-eqb (p .columns .len) 0 z)
+      → orderFound read f ≡ some (draw (p .row) (take (p .columns .len) (p .columns .bytes)))
+  a-drawing p t e z = drawn-found f o read t e ∙ rw (ne-eqb (p .columns .len) 0 z)
 
 -- what was asked of the ranges, in the text mode's rows
 pub judged : {rows : ℕ} {ok : Bool} (mode : ℕ) (c : Command) (b : Bool) → rows ≡ rowsNamed mode → ok ≡ commandInRange rows c → ok ≡ b → commandInRange (rowsNamed mode) c ≡ b

@@ -23,8 +23,8 @@ use Rattle.record.specs.declared.Backlight.{Backlight}
 use Rattle.record.specs.declared.Label.{Label}
 use Rattle.record.specs.declared.Held.{Held}
 use Rattle.record.specs.declared.Frame.{Frame}
-use Rattle.record.specs.Laws.{SettingsRanges, EditionRanges, Ranges, screen-set, shown-set, labels-set, icons-set, volume-set, times-set, buzzer-set, backlight-set, contrast-set, inverse-set, of-first}
-use Rattle.record.specs.Range.{large, rowsOf, rowEndOf, lineStart, rowStartOf, isCode, isLowColumn, isUnused, modeInRange, overlayInRange, cursorInRange, textInRange, labelInRange, pictureInRange, iconSInRange, iconUInRange, iconFInRange, iconRInRange, iconPInRange, iconWInRange, iconsInRange, whichInRange, levelInRange, volumeInRange, buzzerInRange, durationInRange, backlightInRange, backlightKept, contrastInRange, contrastKept, inverseInRange, heldKept, frameInRange}
+use Rattle.record.specs.Laws.{SettingsRanges, Ranges, screen-set, shown-set, labels-set, icons-set, volume-set, times-set, buzzer-set, backlight-set, contrast-set, inverse-set, of-first}
+use Rattle.record.specs.Range.{large, rowsOf, rowEndOf, lineStart, rowStartOf, isCode, isLowColumn, isUnused, modeInRange, overlayInRange, cursorInRange, textInRange, labelInRange, pictureInRange, iconSInRange, iconUInRange, iconFInRange, iconRInRange, iconPInRange, iconWInRange, iconsInRange, whichInRange, levelInRange, volumeInRange, buzzerInRange, durationInRange, backlightInRange, backlightKept, contrastInRange, contrastKept, inverseInRange, heldKept, editionKept, frameInRange}
 use Rattle.record.specs.With.{withLeft, withRight, withShown, withIconS, withIconU, withIconF, withIconR, withIconP, withIconW, withContrast, withInverse}
 use Rattle.command.specs.Order.{Order, plain, label, draw}
 use Rattle.command.specs.Kind.{sameKind}
@@ -47,7 +47,7 @@ pub record CoreInRange (c : Core) : Type 0 where
   pub settings : SettingsRanges (c .edition .sister) (c .edition .pwm) (c .settings)
   pub text : textInRange (c .text) ≡ true
   pub picture : pictureInRange (c .picture) ≡ true
-  pub edition : EditionRanges (c .edition)
+  pub edition : editionKept (c .edition) ≡ true
 
 -- A record in range has its core in range; a core, a held key and a frame in range make a record in range.
 pub core-of-record : (r : Record) → Ranges r → CoreInRange (coreOf r)
@@ -62,13 +62,13 @@ record-of-core c held frame k h f = record { settings = k .settings; text = k .t
 -- One part changed ------------------------------------------------------------------------------------------------
 
 module _ (c : Core) (k : CoreInRange c) where
-  on-settings : {p : Settings} → SettingsRanges (c .edition .sister) (c .edition .pwm) p → CoreInRange (onSettings c p)
+  pub on-settings : {p : Settings} → SettingsRanges (c .edition .sister) (c .edition .pwm) p → CoreInRange (onSettings c p)
   on-settings h = record { settings = h; text = k .text; picture = k .picture; edition = k .edition }
 
   on-screen : (s : Screen) → modeInRange (s .mode) ≡ true → overlayInRange (s .overlay) ≡ true → cursorInRange s ≡ true → CoreInRange (onScreen c s)
   on-screen s m o p = on-settings (screen-set (k .settings) s (record { mode = m; overlay = o; cursor = p }))
 
-  on-icons : (i : Icons) → iconsInRange i ≡ true → CoreInRange (onIcons c i)
+  pub on-icons : (i : Icons) → iconsInRange i ≡ true → CoreInRange (onIcons c i)
   on-icons i h = on-settings (icons-set (k .settings) i h)
 
   on-volume : (v : Volume) → volumeInRange v ≡ true → CoreInRange (onVolume c v)
@@ -112,7 +112,7 @@ named-position mode row column = cases (eqb mode large)
     cases true r h = absurd (omega (arith, ltb-true row 0 r))
     cases false r h = and-both r (le-leb column 16 (omega (arith, leb-true column 15 h)))
 
-mode-keeps : (c : Core) (n : ℕ) → CoreInRange c → (modeInRange n || isOverlay n) ≡ true → CoreInRange (effect (plain (Mode n)) c)
+pub mode-keeps : (c : Core) (n : ℕ) → CoreInRange c → (modeInRange n || isOverlay n) ≡ true → CoreInRange (effect (plain (Mode n)) c)
 mode-keeps c n k h = cases (isOverlay n) refl
   where
     cases : (b : Bool) → isOverlay n ≡ b → CoreInRange (onScreen c (cond b (record { display = c .settings .screen .display; mode = c .settings .screen .mode; overlay = n; row = c .settings .screen .row; column = c .settings .screen .column }) (inMode (c .settings .screen) n)))
@@ -139,13 +139,13 @@ unfolding textInRange blanks
 blanks-in-range = refl
 
 -- the icons, each by itself
-record EachIcon (i : Icons) : Type 0 where
-  s : iconSInRange (i .s) ≡ true
-  u : iconUInRange (i .u) ≡ true
-  f : iconFInRange (i .f) ≡ true
-  r : iconRInRange (i .r) ≡ true
-  p : iconPInRange (i .p) ≡ true
-  w : iconWInRange (i .w) ≡ true
+pub record EachIcon (i : Icons) : Type 0 where
+  pub s : iconSInRange (i .s) ≡ true
+  pub u : iconUInRange (i .u) ≡ true
+  pub f : iconFInRange (i .f) ≡ true
+  pub r : iconRInRange (i .r) ≡ true
+  pub p : iconPInRange (i .p) ≡ true
+  pub w : iconWInRange (i .w) ≡ true
 
 each-icon : (i : Icons) → iconsInRange i ≡ true → EachIcon i
 each-icon i h =
@@ -157,7 +157,7 @@ each-icon i h =
     record { s = e1 .0; u = e1 .1; f = e2 .1; r = e3 .1; p = e4 .1; w = e5 .1 }
 
 -- one icon changed: its test says what that of the former said
-icon-keeps : (c : Core) → CoreInRange c → (i : Icons) → (EachIcon (c .settings .icons) → iconsInRange i ≡ iconsInRange (c .settings .icons)) → CoreInRange (onIcons c i)
+pub icon-keeps : (c : Core) → CoreInRange c → (i : Icons) → (EachIcon (c .settings .icons) → iconsInRange i ≡ iconsInRange (c .settings .icons)) → CoreInRange (onIcons c i)
 icon-keeps c k i same = on-icons c k i (same (each-icon (c .settings .icons) (k .settings .icons)) ∙ k .settings .icons)
 
 -- a volume at a level
@@ -181,16 +181,16 @@ mute-keeps c n k = cases (eqb n 0)
 light-keeps : (c : Core) (b : Backlight) → c .edition .sister ≡ false → CoreInRange c → leb (b .mode) 2 ≡ true → durationInRange (b .duration .0) ≡ true → (eqb (b .left .0) 0 || eqb (b .mode) 2) ≡ true → CoreInRange (onBacklight c b)
 light-keeps c b first k m d l = on-backlight c k b (rw first (and-both (and-both m d) l))
 
-bright : (c : Core) → CoreInRange c → backlightInRange (c .settings .backlight) ≡ true
+pub bright : (c : Core) → CoreInRange c → backlightInRange (c .settings .backlight) ≡ true
 bright c k = of-first (c .edition .sister) (c .edition .pwm) (c .settings .backlight) (k .settings .backlight)
 
-duration-of : (b : Backlight) → backlightInRange b ≡ true → durationInRange (b .duration .0) ≡ true
+pub duration-of : (b : Backlight) → backlightInRange b ≡ true → durationInRange (b .duration .0) ≡ true
 duration-of b h = both {a = leb (b .mode) 2} (both {a = leb (b .mode) 2 && durationInRange (b .duration .0)} h .0) .1
 
-mode-of : (b : Backlight) → backlightInRange b ≡ true → leb (b .mode) 2 ≡ true
+pub mode-of : (b : Backlight) → backlightInRange b ≡ true → leb (b .mode) 2 ≡ true
 mode-of b h = both {a = leb (b .mode) 2} {b = durationInRange (b .duration .0)} (both {a = leb (b .mode) 2 && durationInRange (b .duration .0)} h .0) .0
 
-left-of : (b : Backlight) → backlightInRange b ≡ true → (eqb (b .left .0) 0 || eqb (b .mode) 2) ≡ true
+pub left-of : (b : Backlight) → backlightInRange b ≡ true → (eqb (b .left .0) 0 || eqb (b .mode) 2) ≡ true
 left-of b h = both {a = leb (b .mode) 2 && durationInRange (b .duration .0)} h .1
 
 number-keeps : (c : Core) (n : ℕ) → c .edition .sister ≡ false → CoreInRange c → (eqb n 0 || durationInRange n) ≡ true → CoreInRange (onBacklight c (lightAt (c .settings .backlight) n))
@@ -317,13 +317,13 @@ carry-keeps o c v k = cases (inRangeInMode (c .settings .screen .mode) o) refl
     cases true e = effect-keeps o c v k e
     cases false e = k
 
--- Whatever a frame is, the core stays in range.
-pub obey-keeps : (c : Core) (frame : List ℕ) → CoreInRange c → CoreInRange (obeyOrder c (orderOf frame))
-obey-keeps c frame k = cases (orderOf frame) refl
+-- Whatever a frame of the first edition is, the core stays in range.
+pub obey-keeps : (c : Core) (frame : List ℕ) → c .edition .sister ≡ false → CoreInRange c → CoreInRange (obeyOrder c (orderOf frame))
+obey-keeps c frame first k = cases (orderOf frame) refl
   where
     cases : (found : Option Order) → orderOf frame ≡ found → CoreInRange (obeyOrder c found)
     cases none e = k
-    cases (some o) e = carry-keeps o c (carries (k .edition .first) o frame (sound frame e)) k
+    cases (some o) e = carry-keeps o c (carries first o frame (sound frame e)) k
 
 text-stored : (t : List ℕ) (i b : ℕ) → textInRange t ≡ true → 0x20 ≤ b → textInRange (set t i b) ≡ true
 unfolding textInRange

@@ -5,4 +5,5 @@ pub mod Sets
 pub mod Keeps
 pub mod Cases
 pub mod Touched
+pub mod Beside
 pub mod Untouched

@@ -5,8 +5,7 @@ use native.Mathlib.Omega.{arith}
 use mathlib.Core.Bool.{Bool, true, false, cond}
 use mathlib.Core.List.{List, [], _∷_, _++_, map}
 use mathlib.Core.Logic.{_≢_}
-use mathlib.Core.Option.{Option, none, some}
-use mathlib.Core.Path.{_≡_, refl, ap, sym, _∙_}
+use mathlib.Core.Path.{_≡_, refl, ap}
 use lib.Dec.{eqb, leb, ltb}
 use lib.ListN.{length, getD, length-map}
 use Rattle.lists.specs.Tests.{by-test, either-way}
@@ -15,42 +14,21 @@ use borrow.Author.Tests.{ltb-true}
 use Rattle.lists.specs.Both.{both}
 use Rattle.record.specs.Range.{large, rowsOf, rowEndOf, lineStart, cursorInRange}
 use Rattle.record.specs.Core.{Core}
-use Rattle.record.specs.Fields.{Field, text, largeLine, sister, bit, number, read, put, allFields, at-place}
+use Rattle.record.specs.Fields.{Field, text, largeLine, sister, bit, read, put, allFields}
 use Rattle.command.specs.Order.{Order, plain, label, draw}
 use Rattle.command.specs.InRange.{isOverlay, inRangeInMode}
 use Rattle.command.specs.declared.Command.the-variants.{DisplayOff, DisplayOn, Mode, CursorShown, CursorHidden, Clear, Position, LabelsEmpty, IconS, IconU, IconF, IconR, IconP, IconW, Private, Handsfree, HandsfreeOfNote, Mute, KeyTimes, Buzzer, Light, LightOn, LightAutoStart, LightAuto, DefaultDuration, KeypadSet, KeypadCleared, Contrast, ContrastAsked, HookAsked, VersionAsked, ClearLine, Inverse}
 use Rattle.command.specs.declared.Side.the-variants.{Left, Right}
 use Rattle.effect.specs.Effect.{keptIn, drawn, lineCleared, effect, carryOut, storeText}
-use Rattle.effect.specs.Obey.{obeyOrder}
 use Rattle.effect.specs.Sets.{sets-outside}
 use Rattle.effect.specs.Touched.{sets, touches}
+use Rattle.effect.specs.Beside.{Deed, putBefore, putAfter, field-stays, field-apart}
 
--- A field beside an order: what stands in it, unless the order may set it; and, unless the order touches it, whether the order is in
--- range and what it does.
-pub record Beside : Type 0 where
-  pub stands : List ℕ
-  pub inside : Bool
-  pub does : Core
-
--- with other content put into the field after the order, and before it
-abbrev putAfter : Order → List ℕ → Core → Field → Beside
-putAfter o v c f =
-    record {
-      stands = cond (sets o f) [] (read f c);
-      inside = cond (touches o f) true (inRangeInMode (c .settings .screen .mode) o);
-      does = cond (touches o f) c (put f v (effect o c));
-    }
-
-abbrev putBefore : Order → List ℕ → Core → Field → Beside
-putBefore o v c f =
-    record {
-      stands = cond (sets o f) [] (read f (effect o c));
-      inside = cond (touches o f) true (inRangeInMode (put f v c .settings .screen .mode) o);
-      does = cond (touches o f) c (effect o (put f v c));
-    }
+abbrev deed : Order → Deed
+deed o = record { sets = sets o; touches = touches o; inside = λ c. inRangeInMode (c .settings .screen .mode) o; does = effect o }
 
 -- THE TABLE, for all fields at once: it makes no difference; and no order sets the edition.
-beside : (o : Order) (v : List ℕ) (c : Core) → (map (putBefore o v c) allFields ≡ map (putAfter o v c) allFields) × (sets o sister ≡ false)
+beside : (o : Order) (v : List ℕ) (c : Core) → (map (putBefore (deed o) v c) allFields ≡ map (putAfter (deed o) v c) allFields) × (sets o sister ≡ false)
 unfolding allFields lineCleared
 beside (plain DisplayOff) v c = (refl, refl)
 beside (plain DisplayOn) v c = (refl, refl)
@@ -89,17 +67,10 @@ beside (plain ClearLine) v c = (refl, refl)
 beside (plain (Inverse n)) v c = (refl, refl)
 beside (draw r columns) v c = (refl, refl)
 
-beside-at : (o : Order) (v : List ℕ) (c : Core) (f : Field) → putBefore o v c f ≡ putAfter o v c f
-beside-at o v c f =
-    let none : Beside = record { stands = []; inside = true; does = c } in
-    sym (at-place (putBefore o v c) none f) ∙ ap (λ (l : List Beside). getD l (number f) none) (beside o v c .0) ∙ at-place (putAfter o v c) none f
-
 -- A field that an order may not set is as it was.
 pub stays : (o : Order) (f : Field) (c : Core) → sets o f ≡ false → read f (carryOut o c) ≡ read f c
 unfolding carryOut
-stays o f c h =
-    either-way (λ (d : Core). read f d ≡ read f c) (inRangeInMode (c .settings .screen .mode) o)
-    (λ e. rw h at (ap (λ (b : Beside). b .stands) (beside-at o [] c f))) (λ e. refl)
+stays o = field-stays (deed o) (λ v c. beside o v c .0)
 
 -- So no order changes the edition, and no frame does.
 one-bit : (a b : Bool) → _≡_ {A = List ℕ} (bit a ∷ []) (bit b ∷ []) → a ≡ b
@@ -108,22 +79,13 @@ one-bit true false e = absurd (omega (arith, ap (λ (l : List ℕ). getD l 0 0) 
 one-bit false true e = absurd (omega (arith, ap (λ (l : List ℕ). getD l 0 0) e))
 one-bit false false e = refl
 
-edition-stays : (o : Order) (c : Core) → carryOut o c .edition .sister ≡ c .edition .sister
+pub edition-stays : (o : Order) (c : Core) → carryOut o c .edition .sister ≡ c .edition .sister
 edition-stays o c = one-bit (carryOut o c .edition .sister) (c .edition .sister) (stays o sister c (beside o [] c .1))
-
-pub obeyed-stays : (c : Core) (found : Option Order) → obeyOrder c found .edition .sister ≡ c .edition .sister
-obeyed-stays c none = refl
-obeyed-stays c (some o) = edition-stays o c
 
 -- An order goes the same way whatever stands in a field that it does not touch.
 pub apart : (o : Order) (f : Field) (v : List ℕ) (c : Core) → touches o f ≡ false → carryOut o (put f v c) ≡ put f v (carryOut o c)
 unfolding carryOut
-apart o f v c h =
-    let inside : inRangeInMode (put f v c .settings .screen .mode) o ≡ inRangeInMode (c .settings .screen .mode) o =
-    rw h at (ap (λ (b : Beside). b .inside) (beside-at o v c f))
-    in
-    by-test (inRangeInMode (c .settings .screen .mode) o)
-    (λ e. rw (inside, e) (rw h at (ap (λ (b : Beside). b .does) (beside-at o v c f)))) (λ e. rw (inside, e))
+apart o = field-apart (deed o) (λ v c. beside o v c .0)
 
 -- A picture frame sets as many places of the picture as it has columns, from column 0 of its row on. A place outside them, past the
 -- last if not before the first, is as it was.

@@ -10,7 +10,8 @@ ghost use Rattle.lists.specs.Codes.{blank};
 ghost use Rattle.lists.specs.Padded.{padded};
 ghost use Rattle.record.specs.declared.Edition.{Edition};
 ghost use Rattle.command.specs.Order.{plain, label};
-ghost use Rattle.command.specs.Reading.{orderBy};
+ghost use Rattle.command.specs.Reading.{orderFound};
+ghost use Rattle.sister_command.specs.Reading.{readIn};
 ghost use Rattle.command.specs.InRange.{isPictureRow, rowsNamed, commandInRange};
 ghost use Rattle.effect.specs.Effect.{blanks, labelOf, muted, lightAt, marksOf, keptIn, drawn, effect, carryOut};
 ghost use Rattle.effect.specs.Obey.{answerFor, core, Obeys};
@@ -321,17 +322,28 @@ fn obey_label(mut p: Settings, side: Side, f: &[u8]) -> Settings
     p
 }
 
+// A frame that is no picture, read in its edition.
+fn read_in(sister: bool, class: &Classes, next: &NextStates, frame: &[u8]) -> Reading
+    ensures same { λ r. ⌜ r ≡ readIn sister (now (class .entry)) (now (next .entry)) (now (frame .entry)) ⌝ }
+{
+    if sister {
+        return sister_command::read_shared(frame);
+    }
+    command::read_lent(class, next, frame)
+}
+
 // Obeys a frame: the text and the picture in place, the settings handed back.
-// The frame is read by two tables that are lent.
+// The frame is read in its edition: by two tables that are lent, or as the sister spells it; what only she has is not obeyed here.
 pub fn obey(
     settings: Settings,
     text: &mut Text,
     picture: &mut Picture,
     frame: &[u8],
+    sister: bool,
     class: &Classes,
     next: &NextStates,
 ) -> Obeyed
-    ensures obeys { λ o. ⌜ ((e : Edition) → Obeys (orderBy (now (class .entry)) (now (next .entry)) (now (frame .entry))) (core settings (now (text .entry)) (now (picture .entry)) e) o (core (o .settings) (now (text .exit)) (now (picture .exit)) e)) ⌝ }
+    ensures obeys { λ o. ⌜ ((e : Edition) → Obeys (orderFound (readIn sister (now (class .entry)) (now (next .entry)) (now (frame .entry))) (now (frame .entry))) (core settings (now (text .entry)) (now (picture .entry)) e) o (core (o .settings) (now (text .exit)) (now (picture .exit)) e)) ⌝ }
 {
     if picture_frame::opens_picture(frame) {
         let drawn = picture_frame::read_picture(frame);
@@ -348,7 +360,7 @@ pub fn obey(
             answer: Answer::Silence,
         };
     }
-    let reading = command::read_lent(class, next, frame);
+    let reading = read_in(sister, class, next, frame);
     match reading {
         Reading::Bad => Obeyed {
             settings: settings,

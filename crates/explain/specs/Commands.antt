@@ -8,6 +8,8 @@ use Rattle.command.specs.declared.Command.{Command}
 use Rattle.command.specs.declared.Command.the-variants.{DisplayOff, DisplayOn, Mode, CursorShown, CursorHidden, Clear, Position, LabelsEmpty, IconS, IconU, IconF, IconR, IconP, IconW, Private, Handsfree, HandsfreeOfNote, Mute, KeyTimes, Buzzer, Light, LightOn, LightAutoStart, LightAuto, DefaultDuration, KeypadSet, KeypadCleared, Contrast, ContrastAsked, HookAsked, VersionAsked, ClearLine, Inverse}
 use Rattle.command.specs.declared.Side.{Side}
 use Rattle.command.specs.declared.Side.the-variants.{Left, Right}
+use Rattle.sister_command.specs.declared.SisterCommand.{SisterCommand}
+use Rattle.sister_command.specs.declared.SisterCommand.the-variants as Hers
 use Rattle.explain.specs.declared.fields.Field.{Field}
 use Rattle.explain.specs.declared.fields.Field.the-variants as Field
 use Rattle.explain.specs.declared.fields.Fields.{Fields}
@@ -71,3 +73,17 @@ fieldOut c out =
     (cond (sameKind c (Mute 0)) Field.Mute
     (cond (sameKind c (Inverse 0)) Field.Mark
     (fieldsOf c .first))))
+
+-- the same of a command of the sister's own, by her ranges. Those without a number are never passed over
+abbrev pub ownFieldOut : SisterCommand → ℕ → Field
+ownFieldOut (Hers.Cursor n) out = Field.SisterCursor
+ownFieldOut Hers.Restart out = Field.Nothing
+ownFieldOut (Hers.Mode n) out = Field.SisterMode
+ownFieldOut (Hers.Light n) out = Field.SisterDuration
+ownFieldOut (Hers.LightTo change) out = Field.Nothing
+ownFieldOut (Hers.IconU n) out = Field.SisterIconU
+ownFieldOut (Hers.Brightness n) out = Field.Brightness
+ownFieldOut (Hers.KeyTimes time1 time2) out = cond (eqb time1 out) Field.SisterTime1 Field.Time2
+ownFieldOut (Hers.Speaker n) out = Field.Speaker
+ownFieldOut (Hers.Asked question) out = Field.Nothing
+ownFieldOut (Hers.Step to) out = Field.Nothing

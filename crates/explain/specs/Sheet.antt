@@ -5,6 +5,7 @@ use mathlib.Core.List.{List, [], _∷_, _++_}
 use lib.Dec.{ltb}
 use mir.Val.{boolByte}
 use Rattle.command.specs.InRange.{mostRows}
+use Rattle.record.specs.declared.Edition.{Edition}
 use Rattle.record.specs.declared.Label.{Label}
 use Rattle.record.specs.declared.Settings.{Settings}
 use Rattle.record.specs.declared.Small.{Small}
@@ -37,8 +38,8 @@ inLine (field ∷ fields) = field .0 ∷ field .1 ∷ inLine fields
 
 -- the numbers of all fields but the labels, in the order of the table of words, where the mark is on this row or, if there
 -- is none, past the last one
-abbrev pub fieldNumbers : Settings → ℕ → List ℕ
-fieldNumbers p mark = inLine (
+abbrev pub fieldNumbers : Settings → Edition → ℕ → List ℕ
+fieldNumbers p e mark = inLine (
     number (p .screen .mode)
     ∷ (whether (ltb 0 (p .screen .overlay)), p .screen .overlay)
     ∷ (p .screen .row, p .screen .column)
@@ -47,6 +48,7 @@ fieldNumbers p mark = inLine (
     ∷ word (whether (p .volume .mute))
     ∷ number (p .times .time1 .0)
     ∷ number (p .times .time2 .0)
+    ∷ word (whether (e .pwm))
     ∷ word (p .backlight .mode)
     ∷ number (p .backlight .left .0)
     ∷ number (p .backlight .duration .0)
@@ -62,6 +64,8 @@ fieldNumbers p mark = inLine (
     ∷ number (p .buzzer .0)
     ∷ number (p .contrast)
     ∷ (whether (ltb mark mostRows), mark)
+    ∷ number (e .brightness)
+    ∷ number (e .speaker)
     ∷ [])
 
 -- a label has its length and its codes
@@ -70,4 +74,4 @@ labelNumbers label = label .len ∷ label .codes
 
 -- the settings as numbers: two a field, and those of the two labels behind them
 unfoldable pub sheetOf : Small → List ℕ
-sheetOf s = fieldNumbers (s .settings) (rowMarked (s .settings .inverse)) ++ labelNumbers (s .settings .left) ++ labelNumbers (s .settings .right)
+sheetOf s = fieldNumbers (s .settings) (s .edition) (rowMarked (s .settings .inverse)) ++ labelNumbers (s .settings .left) ++ labelNumbers (s .settings .right)

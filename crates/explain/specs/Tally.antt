@@ -27,6 +27,9 @@ passedOver = 5
 abbrev pub obeyed : ℕ
 obeyed = 6
 
+abbrev pub refused : ℕ
+refused = 7
+
 -- a sum of counts, of which 64 bits are kept: no stream is so long that more are needed
 abbrev pub sum : ℕ → ℕ → ℕ
 sum m n = (m + n) % 2 ^ 64
@@ -43,8 +46,8 @@ moreIf counts count n = cond counts (sum count n) count
 abbrev pub tailPlace : Tally → ℕ → ℕ
 tailPlace t fate = cond (eqb fate unfinished) (t .place) (t .«tail_place»)
 
--- the tally behind a part, by what became of it: it began at this place of the window, and so many bytes answered it. A bad frame and
--- an abandoned one are always answered
+-- the tally behind a part, by what became of it: it began at this place of the window, and so many bytes answered it. A frame that is bad,
+-- refused or abandoned is always answered
 unfoldable pub tallyAfter : Tally → ℕ → ℕ → PartAt → ℕ → Tally
 tallyAfter t fate at front written =
     record {
@@ -55,9 +58,10 @@ tallyAfter t fate at front written =
       skipped = moreIf (eqb fate skipped) (t .skipped) (lengthOf front (t .dropped));
       obeyed = moreIf (eqb fate obeyed) (t .obeyed) 1;
       «passed_over» = moreIf (eqb fate passedOver) (t .«passed_over») 1;
+      refused = moreIf (eqb fate refused) (t .refused) 1;
       bad = moreIf (eqb fate bad) (t .bad) 1;
       abandoned = moreIf (eqb fate abandoned) (t .abandoned) 1;
-      answers = moreIf ((ltb 0 written || eqb fate bad) || eqb fate abandoned) (t .answers) 1;
+      answers = moreIf (((ltb 0 written || eqb fate refused) || eqb fate bad) || eqb fate abandoned) (t .answers) 1;
       tail = t .tail || eqb fate unfinished;
       «tail_place» = tailPlace t fate;
     }

@@ -3,7 +3,7 @@ ghost use Prim.Native.Nat.{_≤_};
 ghost use mathlib.Core.Path.{_≡_};
 ghost use mathlib.Core.Bool.{cond};
 ghost use Rattle.command.specs.Ranges.{isOverlay};
-ghost use Rattle.explain.specs.Commands.{fieldsOf, labelOf, fieldOut};
+ghost use Rattle.explain.specs.Commands.{fieldsOf, labelOf, fieldOut, ownFieldOut};
 use crate::fields::Field;
 use crate::fields::Fields;
 use crate::fields::say_takes;
@@ -11,6 +11,7 @@ use crate::words::IN_MODE;
 use crate::words::say_count;
 use command::Command;
 use command::Side;
+use sister_command::SisterCommand;
 
 // The overlays that a frame can name.
 const FIRST_OVERLAY: u16 = 11;
@@ -135,6 +136,25 @@ pub fn field_out(c: Command, out: u16) -> Field
         Command::Mute(_) => Field::Mute,
         Command::Inverse(_) => Field::Mark,
         _ => first_of(c),
+    }
+}
+
+// The same of a command of the sister's own. Those without a number are never passed over.
+pub fn own_field_out(c: SisterCommand, out: u16) -> Field
+    ensures same { λ r. ⌜ r ≡ ownFieldOut c out ⌝ }
+{
+    match c {
+        SisterCommand::Cursor(_) => Field::SisterCursor,
+        SisterCommand::Mode(_) => Field::SisterMode,
+        SisterCommand::Light(_) => Field::SisterDuration,
+        SisterCommand::IconU(_) => Field::SisterIconU,
+        SisterCommand::Brightness(_) => Field::Brightness,
+        SisterCommand::KeyTimes(time1, _) => either(time1 == out, Field::SisterTime1, Field::Time2),
+        SisterCommand::Speaker(_) => Field::Speaker,
+        SisterCommand::Restart => Field::Nothing,
+        SisterCommand::LightTo(_) => Field::Nothing,
+        SisterCommand::Asked(_) => Field::Nothing,
+        SisterCommand::Step(_) => Field::Nothing,
     }
 }
 

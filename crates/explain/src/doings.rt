@@ -1,6 +1,7 @@
 // What an obeyed frame did: which fields of the record it changed, or what it asked.
 use crate::commands::fields_of;
 use crate::commands::label_of;
+use crate::fields::EVERY_FIELD;
 use crate::fields::Field;
 use crate::fields::Fields;
 use crate::fields::Sheet;
@@ -16,6 +17,8 @@ use crate::words::say_count;
 use crate::words::say_words;
 use command::Command;
 use command::Reading;
+use sister_command::SisterCommand;
+use sister_command::SisterReading;
 
 const TEXT: usize = 104;
 
@@ -69,8 +72,34 @@ fn say_asked(question: usize, answers: &[u8; ROOM], written: usize) -> bool {
     true
 }
 
-// What a frame did that changed settings, text or so many columns of the picture, or was answered.
+// What a command of the sister's own did. Only a restart changes more than fields.
+fn say_own(
+    c: SisterCommand,
+    was: &Sheet,
+    is: &Sheet,
+    answers: &[u8; ROOM],
+    written: usize,
+) -> bool {
+    match c {
+        SisterCommand::Asked(_) => say_asked(words::ASKED, answers, written),
+        SisterCommand::Restart => {
+            say_words(words::RESTART);
+            say_fields(EVERY_FIELD, was, is, true, true)
+        }
+        _ => {
+            if say_fields(EVERY_FIELD, was, is, true, false) {
+                return true;
+            }
+            say_words(words::DONE);
+            false
+        }
+    }
+}
+
+// What a frame did that changed settings, text or so many columns of the picture, or was answered: one that reads so in the record's
+// edition.
 pub fn say_obeyed(
+    reading: Reading,
     frame: &[u8],
     was: &Sheet,
     is: &Sheet,
@@ -80,7 +109,7 @@ pub fn say_obeyed(
     answers: &[u8; ROOM],
     written: usize,
 ) -> bool {
-    match command::read_command(frame) {
+    match reading {
         Reading::Plain(c) => match c {
             Command::ContrastAsked => say_asked(words::CONTRAST_ASKED, answers, written),
             Command::HookAsked => say_asked(words::HOOK_ASKED, answers, written),
@@ -90,6 +119,9 @@ pub fn say_obeyed(
             _ => say_set(fields_of(c), was, is),
         },
         Reading::Label(side) => say_set(label_of(side), was, is),
-        Reading::Bad => say_picture(frame, columns),
+        Reading::Bad => match sister_command::read_sister(frame) {
+            SisterReading::Own(c) => say_own(c, was, is, answers, written),
+            _ => say_picture(frame, columns),
+        },
     }
 }

@@ -19,8 +19,8 @@ use record::Label;
 use record::Small;
 
 // A field has a line of the table of words, in this order. Those that a frame sets together stand together, and the labels behind all
-// others. Behind the fields stand numbers of a frame that have a range of their own; what the last ones take depends on the text mode.
-// Nothing stands where a command sets none.
+// others. Behind the fields stand numbers of a frame that have a range of their own: some go by the text mode, and the last ones are
+// the sister's. Nothing stands where a command sets none.
 pub enum Field {
     Mode,
     Overlay,
@@ -30,6 +30,7 @@ pub enum Field {
     Mute,
     Time1,
     Time2,
+    Pwm,
     Backlight,
     SecondsLeft,
     Duration,
@@ -45,6 +46,8 @@ pub enum Field {
     Buzzer,
     Contrast,
     Inverse,
+    Brightness,
+    Speaker,
     LeftLabel,
     RightLabel,
     Column,
@@ -53,12 +56,17 @@ pub enum Field {
     NoRow,
     Mark,
     NoMark,
+    SisterMode,
+    SisterCursor,
+    SisterTime1,
+    SisterDuration,
+    SisterIconU,
     Nothing,
 }
 
-const FIELDS: usize = 25;
+const FIELDS: usize = 28;
 
-const LEFT_LABEL: usize = 23;
+const LEFT_LABEL: usize = 26;
 
 // Which line of the table a field has.
 fn line_of(field: Field) -> usize {
@@ -71,30 +79,38 @@ fn line_of(field: Field) -> usize {
         Field::Mute => 5,
         Field::Time1 => 6,
         Field::Time2 => 7,
-        Field::Backlight => 8,
-        Field::SecondsLeft => 9,
-        Field::Duration => 10,
-        Field::Keypad => 11,
-        Field::Display => 12,
-        Field::Cursor => 13,
-        Field::IconS => 14,
-        Field::IconU => 15,
-        Field::IconF => 16,
-        Field::IconR => 17,
-        Field::IconP => 18,
-        Field::IconW => 19,
-        Field::Buzzer => 20,
-        Field::Contrast => 21,
-        Field::Inverse => 22,
-        Field::LeftLabel => 23,
-        Field::RightLabel => 24,
-        Field::Column => 25,
-        Field::PictureRow => 26,
-        Field::Row => 27,
-        Field::NoRow => 28,
-        Field::Mark => 29,
-        Field::NoMark => 30,
-        Field::Nothing => 31,
+        Field::Pwm => 8,
+        Field::Backlight => 9,
+        Field::SecondsLeft => 10,
+        Field::Duration => 11,
+        Field::Keypad => 12,
+        Field::Display => 13,
+        Field::Cursor => 14,
+        Field::IconS => 15,
+        Field::IconU => 16,
+        Field::IconF => 17,
+        Field::IconR => 18,
+        Field::IconP => 19,
+        Field::IconW => 20,
+        Field::Buzzer => 21,
+        Field::Contrast => 22,
+        Field::Inverse => 23,
+        Field::Brightness => 24,
+        Field::Speaker => 25,
+        Field::LeftLabel => 26,
+        Field::RightLabel => 27,
+        Field::Column => 28,
+        Field::PictureRow => 29,
+        Field::Row => 30,
+        Field::NoRow => 31,
+        Field::Mark => 32,
+        Field::NoMark => 33,
+        Field::SisterMode => 34,
+        Field::SisterCursor => 35,
+        Field::SisterTime1 => 36,
+        Field::SisterDuration => 37,
+        Field::SisterIconU => 38,
+        Field::Nothing => 39,
     }
 }
 
@@ -103,6 +119,11 @@ pub struct Fields {
     pub first: Field,
     pub last: Field,
 }
+
+pub const EVERY_FIELD: Fields = Fields {
+    first: Field::Mode,
+    last: Field::RightLabel,
+};
 
 // Words.
 
@@ -124,6 +145,7 @@ fn say_of(line: usize, which: usize, number: u64) {
         mute |takes 0 or 1|off|on|\n\
         Time1 |takes 4 to 50|#|\n\
         Time2 |takes 0 or 4 to 50|#|\n\
+        PWM ||off|on|\n\
         backlight ||off|on|auto|\n\
         seconds left ||#|\n\
         duration |takes 1 to 255, and 0 is backlight off|#|\n\
@@ -139,6 +161,8 @@ fn say_of(line: usize, which: usize, number: u64) {
         buzzer |takes 0 to 255|#|\n\
         contrast |takes 1 to 20|#|\n\
         ||no inverse mark|inverse mark on row #|\n\
+        brightness |takes 0 to 100|#|\n\
+        speaker volume |takes 0 to 7|#|\n\
         left label |\n\
         right label |\n\
         column |takes 0 to 15|\n\
@@ -146,7 +170,12 @@ fn say_of(line: usize, which: usize, number: u64) {
         row |takes 0 to #|\n\
         no row |can be named|\n\
         inverse mark |takes 0 to #|\n\
-        inverse mark |takes only 0|\n",
+        inverse mark |takes only 0|\n\
+        mode |takes 0 to 12|\n\
+        cursor |takes 0 or 1|\n\
+        Time1 |takes 4 to 50, or 0 where Time2 is 0|\n\
+        duration |takes 1 to 250, and 0 is backlight off|\n\
+        icon U |takes 0 to 2|\n",
         line,
         which,
         number,
@@ -166,7 +195,7 @@ pub fn say_takes(field: Field, greatest: u64) {
 // label has its length and codes.
 pub type Sheet = [u8; SHEET];
 
-const SHEET: usize = 62;
+const SHEET: usize = 68;
 
 pub const MODE_AT: usize = 1;
 
@@ -224,6 +253,8 @@ pub fn sheet_of(s: Small) -> Sheet
         p.times.time1.0,
         0,
         p.times.time2.0,
+        s.edition.pwm as u8,
+        0,
         p.backlight.mode,
         0,
         0,
@@ -254,6 +285,10 @@ pub fn sheet_of(s: Small) -> Sheet
         p.contrast,
         (mark < ROWS as u8) as u8,
         mark,
+        0,
+        s.edition.brightness,
+        0,
+        s.edition.speaker,
         left.len,
         left_codes[0],
         left_codes[1],
@@ -275,8 +310,8 @@ pub fn sheet_of(s: Small) -> Sheet
 
 // Where the numbers of a field stand.
 fn numbers_of(line: usize) -> Part
-    requires { ⌜ line < 25 ⌝ }
-    ensures { λ r. ⌜ (r .start + 2 ≤ r .end) × (r .end ≤ 62) ⌝ }
+    requires { ⌜ line < 28 ⌝ }
+    ensures { λ r. ⌜ (r .start + 2 ≤ r .end) × (r .end ≤ 68) ⌝ }
 {
     if line < LEFT_LABEL {
         return Part {
@@ -293,7 +328,7 @@ fn numbers_of(line: usize) -> Part
 
 // The first number is the label's length.
 fn say_label(sheet: &Sheet, start: usize, end: usize)
-    requires { ⌜ (start < end) × (end ≤ 62) ⌝ }
+    requires { ⌜ (start < end) × (end ≤ 68) ⌝ }
 {
     let length = wide(sheet[start]) as usize;
     say_words(OPENING);
@@ -307,7 +342,7 @@ fn say_label(sheet: &Sheet, start: usize, end: usize)
 }
 
 fn say_value(line: usize, sheet: &Sheet, numbers: Part)
-    requires { ⌜ (numbers .start + 2 ≤ numbers .end) × (numbers .end ≤ 62) ⌝ }
+    requires { ⌜ (numbers .start + 2 ≤ numbers .end) × (numbers .end ≤ 68) ⌝ }
 {
     let start = numbers.start;
     if line < LEFT_LABEL {
@@ -323,7 +358,7 @@ fn say_value(line: usize, sheet: &Sheet, numbers: Part)
 // A field with its value and, if it has changed, the value before; where only changes are wanted, nothing if it has not. Says whether
 // anything has been said by then.
 fn say_field(line: usize, was: &Sheet, is: &Sheet, only_changes: bool, said: bool) -> bool
-    requires { ⌜ line < 25 ⌝ }
+    requires { ⌜ line < 28 ⌝ }
 {
     let numbers = numbers_of(line);
     let changed = 0 < changes(was, is, numbers.start, numbers.end);

@@ -7,6 +7,9 @@
 // Bytes are shown as they are from 0x20 to 0x7E, and any other as <0D>; so is '<'. Of more than 250 the first 40 are shown, and two
 // dots. Text rows, columns and places are counted from 0. Line ends alone have no line, unless --all is given.
 //
+// With --sister the handset is the one of AN1900: of a command of her own all fields that it changed are told, by what is kept (mode 5
+// for IDM2), and a frame that her record's state refuses is counted apart.
+//
 // The stream may have any length: what is held of it is a window, and of a part that has not ended by the window's end no more than
 // the window's first bytes are kept, which are enough to tell what it does. Only text and obeyed frames change anything, so no other
 // part is fed to the handset, and its record never has an open frame.
@@ -180,8 +183,11 @@ fn keep(window: &mut [u8], from: usize, to: usize) -> usize
 }
 
 // What there is before the first part.
-fn power_on(text: &mut [u8; TEXT], picture: &mut [u8; PICTURE]) -> Progress {
-    let start = Record::power_on();
+fn power_on(text: &mut [u8; TEXT], picture: &mut [u8; PICTURE], sister: bool) -> Progress {
+    let mut start = Record::power_on();
+    if sister {
+        start = Record::sister_power_on();
+    }
     let blank_text = start.text;
     let blank_picture = start.picture;
     *text = blank_text;
@@ -202,10 +208,10 @@ fn refill(input: Input, window: &mut [u8], held: usize) -> Piece
 }
 
 // Of an input that fails nothing is summed up: what came before is not the stream.
-fn explain(input: Input, all: bool) {
+fn explain(input: Input, all: bool, sister: bool) {
     let mut text = [0u8; TEXT];
     let mut picture = [0u8; PICTURE];
-    let mut now = power_on(&mut text, &mut picture);
+    let mut now = power_on(&mut text, &mut picture, sister);
     let mut window = io::buffer();
     let mut held = 0;
     let mut left = MOST_PIECES;
@@ -225,21 +231,25 @@ fn explain(input: Input, all: bool) {
         }
         left -= 1;
     }
-    say_tally(now.tally);
+    say_tally(now.tally, sister);
 }
 
 fn main() {
     if program::accepts(
         b"explain",
-        b"usage: ./run explain [--all] [FILE]\n\
+        b"usage: ./run explain [--all] [--sister] [FILE]\n\
         Reads a stream from FILE, or from standard input without one, and says of each part what it did.\n\
-        --all gives line ends outside of frames a line too.\n",
-        b"--all\n",
+        --all gives line ends outside of frames a line too; --sister reads as the sister handset does.\n",
+        b"--all\n--sister\n",
         true,
     ) {
         let input = program::open_input(b"explain");
         if 0 <= input.descriptor {
-            explain(input, program::is_given(b"--all\n"));
+            explain(
+                input,
+                program::is_given(b"--all\n"),
+                program::is_given(b"--sister\n"),
+            );
         }
     }
 }

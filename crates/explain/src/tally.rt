@@ -24,6 +24,8 @@ pub const PASSED_OVER: usize = 5;
 
 pub const OBEYED: usize = 6;
 
+pub const REFUSED: usize = 7;
+
 // Of 64 bits each, which no stream fills.
 pub struct Tally {
     // The place of the part that comes next.
@@ -37,6 +39,7 @@ pub struct Tally {
     // Frames.
     pub obeyed: u64,
     pub passed_over: u64,
+    pub refused: u64,
     pub bad: u64,
     pub abandoned: u64,
     pub answers: u64,
@@ -53,6 +56,7 @@ pub const NOTHING_COUNTED: Tally = Tally {
     skipped: 0,
     obeyed: 0,
     passed_over: 0,
+    refused: 0,
     bad: 0,
     abandoned: 0,
     answers: 0,
@@ -111,10 +115,11 @@ pub fn counted(tally: Tally, fate: usize, at: usize, front: PartAt, written: usi
         skipped: more_if(fate == SKIPPED, tally.skipped, length),
         obeyed: more_if(fate == OBEYED, tally.obeyed, 1),
         passed_over: more_if(fate == PASSED_OVER, tally.passed_over, 1),
+        refused: more_if(fate == REFUSED, tally.refused, 1),
         bad: more_if(fate == BAD, tally.bad, 1),
         abandoned: more_if(fate == ABANDONED, tally.abandoned, 1),
         answers: more_if(
-            (0 < written) | (fate == BAD) | (fate == ABANDONED),
+            (0 < written) | (fate == REFUSED) | (fate == BAD) | (fate == ABANDONED),
             tally.answers,
             1,
         ),
@@ -123,9 +128,9 @@ pub fn counted(tally: Tally, fate: usize, at: usize, front: PartAt, written: usi
     }
 }
 
-// The line that sums up.
-pub fn say_tally(t: Tally) {
-    let judged = more(t.passed_over, t.bad);
+// The line that sums up. Only the sister's record refuses frames, so only her line counts them.
+pub fn say_tally(t: Tally, sister: bool) {
+    let judged = more(t.passed_over, more(t.refused, t.bad));
     say_place(t.place);
     say_words(words::END);
     say_count(words::TEXT_BYTES, t.text);
@@ -133,6 +138,9 @@ pub fn say_tally(t: Tally) {
     say_count(words::CLOSED_FRAMES, more(t.obeyed, judged));
     say_count(words::OBEYED, t.obeyed);
     say_count(words::PASSED_OVER, t.passed_over);
+    if sister {
+        say_count(words::REFUSED, t.refused);
+    }
     say_count(words::BAD, t.bad);
     say_count(words::ABANDONED_FRAMES, t.abandoned);
     say_count(words::ANSWERS, t.answers);

@@ -4,6 +4,7 @@ ghost use mathlib.Core.Path.{_≡_};
 ghost use lib.ListN.{length};
 ghost use Rattle.explain.specs.Changes.{hasOthers};
 use crate::commands::field_out;
+use crate::commands::own_field_out;
 use crate::commands::say_range;
 use crate::doings::say_obeyed;
 use crate::fields::Field;
@@ -19,14 +20,17 @@ use crate::tally::BAD;
 use crate::tally::OBEYED;
 use crate::tally::OPEN;
 use crate::tally::PASSED_OVER;
+use crate::tally::REFUSED;
 use crate::tally::SKIPPED;
 use crate::tally::STORED;
 use crate::tally::Tally;
 use crate::tally::counted;
 use crate::tally::length_of;
 use crate::text::say_stored;
+use crate::words::CR;
 use crate::words::FATES;
 use crate::words::FATES_ENDS;
+use crate::words::LF;
 use crate::words::LINE_END;
 use crate::words::NOTHING_CHANGED;
 use crate::words::say_count;
@@ -36,7 +40,9 @@ use lists::CARRIAGE_RETURN;
 use lists::LINE_FEED;
 use parts::Kind;
 use parts::PartAt;
+use record::Edition;
 use record::Small;
+use sister_command::SisterReading;
 use std::num::wrapping_add_u64 as more;
 use stream::FedLent;
 use verdict::Verdict;
@@ -55,40 +61,59 @@ pub struct Progress {
 
 // Parts that change nothing.
 
-fn say_passed_over(mode: u8, frame: &[u8]) {
-    let verdict = verdict::judge(mode, frame);
-    let Verdict::PassedOver(out) = verdict else {
-        return;
-    };
-    match command::read_command(frame) {
-        Reading::Plain(c) => say_range(field_out(c, out), mode),
-        // A label has no number, so it is a picture.
+// How a frame reads in the record's edition. What the sister alone has is bad here, as pictures are.
+fn reading_in(edition: Edition, frame: &[u8]) -> Reading {
+    if edition.sister {
+        return sister_command::read_shared(frame);
+    }
+    command::read_command(frame)
+}
+
+// A label has no number, so it is a picture or the sister's own.
+fn say_takes_else(frame: &[u8], out: u16) {
+    match sister_command::read_sister(frame) {
+        SisterReading::Own(c) => say_takes(own_field_out(c, out), 0),
         _ => say_takes(Field::PictureRow, 0),
     }
 }
 
-// An abandoned frame is answered at the ESC that stands behind it.
-fn say_undone(fate: usize, place: u64, length: u64)
-    requires { ⌜ fate < 7 ⌝ }
+fn say_passed_over(small: Small, frame: &[u8]) {
+    let verdict = verdict::judge_in(small.settings, small.edition, frame);
+    let Verdict::PassedOver(out) = verdict else {
+        return;
+    };
+    match reading_in(small.edition, frame) {
+        Reading::Plain(c) => say_range(field_out(c, out), small.settings.screen.mode),
+        _ => say_takes_else(frame, out),
+    }
+}
+
+// An abandoned frame is answered at the ESC that stands behind it. The sister's question mark has a line end behind it.
+fn say_undone(fate: usize, place: u64, length: u64, sister: bool)
+    requires { ⌜ fate < 8 ⌝ }
 {
     say_count(FATES + fate, more(more(place, 1), length));
     if (fate == ABANDONED) | (fate == OPEN) | (fate == BAD) {
         say_if_overlong(length);
     }
     say_words(FATES_ENDS + fate);
+    if sister & ((fate == ABANDONED) | (fate == BAD) | (fate == REFUSED)) {
+        say_words(CR);
+        say_words(LF);
+    }
 }
 
 // Says what stands at a place and, of a part that changes nothing, what became of it.
-fn say_part(fate: usize, place: u64, length: u64, mode: u8, body: &[u8])
-    requires { ⌜ fate < 7 ⌝ }
+fn say_part(fate: usize, place: u64, length: u64, small: Small, body: &[u8])
+    requires { ⌜ fate < 8 ⌝ }
 {
     begin_line(place, fate, body);
     if (fate == STORED) | (fate == OBEYED) {
         return;
     }
-    say_undone(fate, place, length);
+    say_undone(fate, place, length, small.edition.sister);
     if fate == PASSED_OVER {
-        say_passed_over(mode, body);
+        say_passed_over(small, body);
     }
     say_words(LINE_END);
 }
@@ -107,20 +132,20 @@ pub fn has_others(codes: &[u8]) -> bool
 }
 
 // Says what stands at a place, and what becomes of it. Line ends alone have no line, unless all are to have one.
-fn say_front(window: &[u8], front: PartAt, mode: u8, tally: Tally, all: bool) -> usize
+fn say_front(window: &[u8], front: PartAt, small: Small, tally: Tally, all: bool) -> usize
     requires { ⌜ (front .body ≤ front .«body_end») × (front .«body_end» ≤ length (now window)) ⌝ }
 {
     let start = front.body;
     let end = front.body_end;
     let kind = front.kind;
     let body = &window[start..end];
-    let fate = fate_of(kind, mode, body);
+    let fate = fate_of(kind, small, body);
     if all | tally.others | (fate != SKIPPED) | has_others(body) {
         say_part(
             fate,
             tally.place,
             length_of(front, tally.dropped),
-            mode,
+            small,
             body,
         );
     }
@@ -162,6 +187,7 @@ fn say_done(
     window: &[u8],
     front: PartAt,
     dropped: u64,
+    edition: Edition,
     was: &Sheet,
     is: &Sheet,
     before: &[u8; TEXT],
@@ -179,8 +205,10 @@ fn say_done(
     if fate == OBEYED {
         let start = front.body;
         let end = front.body_end;
+        let frame = &window[start..end];
         let done = say_obeyed(
-            &window[start..end],
+            reading_in(edition, frame),
+            frame,
             was,
             is,
             before,
@@ -198,24 +226,25 @@ fn say_done(
 
 // Any part.
 
-fn judged(mode: u8, frame: &[u8]) -> usize
-    ensures { λ r. ⌜ r < 7 ⌝ }
+fn judged(small: Small, frame: &[u8]) -> usize
+    ensures { λ r. ⌜ r < 8 ⌝ }
 {
-    match verdict::judge(mode, frame) {
+    match verdict::judge_in(small.settings, small.edition, frame) {
         Verdict::Bad => BAD,
         Verdict::PassedOver(_) => PASSED_OVER,
         Verdict::Obeyed => OBEYED,
+        Verdict::Refused => REFUSED,
     }
 }
 
-// What becomes of a part in a text mode, by its body.
-fn fate_of(kind: Kind, mode: u8, body: &[u8]) -> usize
-    ensures { λ r. ⌜ r < 7 ⌝ }
+// What becomes of a part in a record, by its body.
+fn fate_of(kind: Kind, small: Small, body: &[u8]) -> usize
+    ensures { λ r. ⌜ r < 8 ⌝ }
 {
     match kind {
         Kind::Text => STORED,
         Kind::Skipped => SKIPPED,
-        Kind::Closed => judged(mode, body),
+        Kind::Closed => judged(small, body),
         Kind::Abandoned => ABANDONED,
         _ => OPEN,
     }
@@ -236,8 +265,7 @@ pub fn tell_front(
     let mut answers = [0u8; ROOM];
     let old_text = *text;
     let old_picture = *picture;
-    let mode = before.small.settings.screen.mode;
-    let fate = say_front(window, front, mode, before.tally, all);
+    let fate = say_front(window, front, before.small, before.tally, all);
     let was = sheet_of(before.small);
     let end = fed_end(fate, at, front.end);
     let fed = feed(before.small, text, picture, &window[at..end], &mut answers);
@@ -248,6 +276,7 @@ pub fn tell_front(
         window,
         front,
         before.tally.dropped,
+        before.small.edition,
         &was,
         &is,
         &old_text,

@@ -2,91 +2,99 @@
 // ones are for parts, by what becomes of them: what stands there, what was done, and how that ends.
 use crate::line::say_entry;
 
-pub const FATES: usize = 7;
+pub const FATES: usize = 8;
 
-pub const FATES_ENDS: usize = 14;
+pub const FATES_ENDS: usize = 16;
 
-pub const COMMA: usize = 21;
+pub const COMMA: usize = 24;
 
-pub const COLON: usize = 22;
+pub const COLON: usize = 25;
 
-pub const BLANKS: usize = 23;
+pub const BLANKS: usize = 26;
 
-pub const LINE_END: usize = 24;
+pub const LINE_END: usize = 27;
 
-pub const DOTS: usize = 25;
+pub const DOTS: usize = 28;
 
-pub const ESC: usize = 26;
+pub const ESC: usize = 29;
 
-pub const CR: usize = 27;
+pub const CR: usize = 30;
 
-pub const LF: usize = 28;
+pub const LF: usize = 31;
 
-pub const ANSWERED: usize = 29;
+pub const ANSWERED: usize = 32;
 
-pub const COLUMN: usize = 30;
+pub const COLUMN: usize = 33;
 
-pub const COLUMNS: usize = 31;
+pub const COLUMNS: usize = 34;
 
-pub const TO: usize = 32;
+pub const TO: usize = 35;
 
-pub const MORE_THAN: usize = 33;
+pub const MORE_THAN: usize = 36;
 
-pub const ROW: usize = 34;
+pub const ROW: usize = 37;
 
-pub const LARGE_LINE: usize = 35;
+pub const LARGE_LINE: usize = 38;
 
-pub const IS_FULL: usize = 36;
+pub const IS_FULL: usize = 39;
 
-pub const CODE_DROPPED: usize = 37;
+pub const CODE_DROPPED: usize = 40;
 
-pub const CODES_DROPPED: usize = 38;
+pub const CODES_DROPPED: usize = 41;
 
-pub const CLEARED: usize = 39;
+pub const CLEARED: usize = 42;
 
-pub const FROM_COLUMN: usize = 40;
+pub const FROM_COLUMN: usize = 43;
 
-pub const ALL_CLEARED: usize = 41;
+pub const ALL_CLEARED: usize = 44;
 
-pub const PICTURE_ROW: usize = 42;
+pub const PICTURE_ROW: usize = 45;
 
-pub const CHANGED: usize = 43;
+pub const CHANGED: usize = 46;
 
-pub const NOTHING_CHANGED: usize = 44;
+pub const NOTHING_CHANGED: usize = 47;
 
-pub const CONTRAST_ASKED: usize = 45;
+pub const CONTRAST_ASKED: usize = 48;
 
-pub const HOOK_ASKED: usize = 46;
+pub const HOOK_ASKED: usize = 49;
 
-pub const VERSION_ASKED: usize = 47;
+pub const VERSION_ASKED: usize = 50;
 
-pub const OPENING: usize = 48;
+pub const ASKED: usize = 51;
 
-pub const CLOSING: usize = 49;
+pub const RESTART: usize = 52;
 
-pub const IN_MODE: usize = 50;
+pub const DONE: usize = 53;
 
-pub const TEXT_BYTES: usize = 51;
+pub const OPENING: usize = 54;
 
-pub const SKIPPED_BYTES: usize = 52;
+pub const CLOSING: usize = 55;
 
-pub const CLOSED_FRAMES: usize = 53;
+pub const IN_MODE: usize = 56;
 
-pub const OBEYED: usize = 54;
+pub const TEXT_BYTES: usize = 57;
 
-pub const PASSED_OVER: usize = 55;
+pub const SKIPPED_BYTES: usize = 58;
 
-pub const BAD: usize = 56;
+pub const CLOSED_FRAMES: usize = 59;
 
-pub const ABANDONED_FRAMES: usize = 57;
+pub const OBEYED: usize = 60;
 
-pub const ANSWERS: usize = 58;
+pub const PASSED_OVER: usize = 61;
 
-pub const TAIL_AT: usize = 59;
+pub const REFUSED: usize = 62;
 
-pub const NO_TAIL: usize = 60;
+pub const BAD: usize = 63;
 
-pub const END: usize = 61;
+pub const ABANDONED_FRAMES: usize = 64;
+
+pub const ANSWERS: usize = 65;
+
+pub const TAIL_AT: usize = 66;
+
+pub const NO_TAIL: usize = 67;
+
+pub const END: usize = 68;
 
 // Words with a number behind them.
 pub fn say_count(words: usize, n: u64) {
@@ -98,6 +106,7 @@ pub fn say_count(words: usize, n: u64) {
         frame    |\
         frame    |\
         frame    |\
+        frame    |\
         |\
         nothing done|\
         abandoned by the ESC at #|\
@@ -105,6 +114,7 @@ pub fn say_count(words: usize, n: u64) {
         bad|\
         passed over: |\
         |\
+        refused by the state it is in|\
         |\
         |\
         : answered ?|\
@@ -112,6 +122,7 @@ pub fn say_count(words: usize, n: u64) {
         : answered ?|\
         |\
         |\
+        : answered ?|\
         , |\
         : |\
         \x20 |\
@@ -139,6 +150,9 @@ pub fn say_count(words: usize, n: u64) {
         contrast asked|\
         hook asked|\
         version asked|\
+        asked|\
+        restart to power-on, stored numbers kept|\
+        obeyed|\
         [|\
         ]|\
         \x20in mode #|\
@@ -147,6 +161,7 @@ pub fn say_count(words: usize, n: u64) {
         , closed frames #|\
         \x20(obeyed #|\
         , passed over #|\
+        , refused #|\
         , bad #|\
         ), abandoned frames #|\
         , answers #|\

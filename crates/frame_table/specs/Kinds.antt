@@ -4,7 +4,7 @@ use Prim.Native.Nat.{ℕ, zero, suc}
 use native.Mathlib.Omega.{arith}
 use mathlib.Core.List.{List, [], _∷_, map}
 use mathlib.Core.Option.{Option, none, some}
-use mathlib.Core.Path.{_≡_, refl}
+use mathlib.Core.Path.{_≡_, refl, subst}
 
 -- what the kind at a place makes of two numbers
 abbrev pub made : {A : Type 0} → List (ℕ → ℕ → A) → ℕ → ℕ → ℕ → Option A
@@ -33,3 +33,9 @@ pub of-kind : {A X : Type 0} (ks : List (ℕ → ℕ → A)) (F G : (ℕ → ℕ
 of-kind [] F G h place e = let z : _≡_ {A = ℕ} 0 1 = cc in absurd (omega arith)
 of-kind (k ∷ ks) F G h zero {m} {n} {c} e = let is : k m n ≡ c = cc in record { maker = k; is = is; same = first-of h }
 of-kind (k ∷ ks) F G h (suc place) e = of-kind ks F G (others-of h) place e
+
+-- What is computed to be alike for each kind with any two numbers is alike for each value that is of a kind.
+pub alike : {A X : Type 0} (ks : List (ℕ → ℕ → A)) (F G : A → X) → ((m n : ℕ) → map (λ (k : ℕ → ℕ → A). F (k m n)) ks ≡ map (λ (k : ℕ → ℕ → A). G (k m n)) ks) → {c : A} → Kind ks c → F c ≡ G c
+alike {A} ks F G h k =
+    let w = of-kind ks (λ (x : ℕ → ℕ → A). F (x (k .m) (k .n))) (λ (x : ℕ → ℕ → A). G (x (k .m) (k .n))) (h (k .m) (k .n)) (k .place) (k .same) in
+    subst (λ (x : A). F x ≡ G x) (w .is) (w .same)

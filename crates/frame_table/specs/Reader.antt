@@ -1,7 +1,7 @@
 -- A reader of frames: its commands, how each is spelt, its table, and how the first bytes and the numbers of an accepted frame pick the
 -- command. What follows from the tests is proved here once for every reader: it agrees with the grammar, a frame spells one command,
 -- a command has one spelling. Assumes nothing.
-use Prim.Native.Nat.{ℕ, zero, suc, _≤_}
+use Prim.Native.Nat.{ℕ, zero, suc, _<_, _≤_}
 use native.Mathlib.Omega.{arith}
 use mathlib.Core.Bool.{Bool, true, cond, _&&_, false, true≢false}
 use mathlib.Core.List.{List, [], _∷_, _++_, map}
@@ -10,11 +10,12 @@ use mathlib.Core.Option.{some}
 use mathlib.Core.Path.{_≡_, refl, sym, ap, ap₂, _∙_, subst}
 use lib.Dec.{leb}
 use lib.ListN.{length}
-use borrow.Author.Tests.{leb-true}
+use borrow.Author.Tests.{leb-true, le-leb, lt-leb}
 use Rattle.lists.specs.Both.{both}
 use Rattle.lists.specs.Tests.{by-test}
 use Rattle.numeral.specs.Laws.{one-spelling}
 use Rattle.frame_table.specs.declared.Numbers.{Numbers}
+use Rattle.frame_table.specs.declared.Found.{Found}
 use Rattle.frame_table.specs.Pieces.{Piece, sign, number, digit, text, columns, Matches, end, signs, digits}
 use Rattle.frame_table.specs.Kinds.{Kind, OfKind, of-kind, first-of, others-of}
 use Rattle.frame_table.specs.Rest.{Mark, fits, fits-append, fits-none}
@@ -23,6 +24,7 @@ use Rattle.frame_table.specs.Numbers.{pair, numbersFrom, numbersTold, be
 use Rattle.frame_table.specs.Opens.{heads, opens, Every, opened}
 use Rattle.frame_table.specs.Table.{Table, stateFrom, accepts, listed, whole, right}
 use Rattle.frame_table.specs.Accepts.{same-marks, accepts-right}
+use Rattle.frame_table.specs.Run.{foundIn}
 
 -- so many of two numbers: none, the first, or both
 abbrev pub numbered : ℕ → ℕ → ℕ → List ℕ
@@ -111,11 +113,23 @@ module _ (e : Reader) where
         few = true;
       }
 
-  -- THE TESTS: of the table, and of each kind with any two numbers; and there is no other command
+  -- THE TESTS: of the table, and of each kind with any two numbers; and no other command is spelt
   pub record Tested : Type 0 where
     pub table-right : right formsOf (e .examples) (e .table) ≡ true
     pub kinds-right : (m n : ℕ) → map (test m n) (e .kinds) ≡ map (passed m n) (e .kinds)
-    pub kind : (c : e .Command) → Kind (e .kinds) c
+    pub kind : (c : e .Command) (f : List ℕ) → Spells c f → Kind (e .kinds) c
+
+-- the reading by where two tables lead: refused, or picked
+module _ (e : Reader) (class next f : List ℕ) (r : Found) (same : r ≡ foundIn class next (e .table .states) f) where
+  by-found : readWith e class next f ≡ cond (leb (e .table .good) (r .state)) (e .pick (heads (e .depth) f) (r .numbers)) (e .bad)
+  unfolding readWith foundIn
+  by-found = ap (λ (x : Found). cond (leb (e .table .good) (x .state)) (e .pick (heads (e .depth) f) (x .numbers)) (e .bad)) (sym same)
+
+  pub read-refused : r .state < e .table .good → e .bad ≡ readWith e class next f
+  read-refused h = sym (by-found ∙ rw (lt-leb (e .table .good) (r .state) h))
+
+  pub read-picked : {x : e .Reading} → e .table .good ≤ r .state → x ≡ e .pick (heads (e .depth) f) (r .numbers) → x ≡ readWith e class next f
+  read-picked h q = q ∙ sym (by-found ∙ rw (le-leb (e .table .good) (r .state) h))
 
 one-match : (ps : List Piece) {f g : List ℕ} → isPlain ps ≡ true → Matches ps f → Matches ps g → f ≡ g
 one-match [] h end end = refl
@@ -161,7 +175,7 @@ module _ (e : Reader) (t : Tested e) where
   accepted : (f : List ℕ) → accepts (e .table) f ≡ fits (whole (formsOf e)) f
   accepted f = accepts-right (formsOf e) (e .examples) (e .table) (t .table-right) f
 
-  -- What every command passes, since it is of a kind
+  -- What every command of a kind passes
   record Passed (c : e .Command) : Type 0 where
     plain : isPlain (e .form c) ≡ true
     listed : listed (marksOf (e .form c)) (formsOf e) ≡ true
@@ -169,9 +183,8 @@ module _ (e : Reader) (t : Tested e) where
     picks : map (λ (w : List ℕ). e .pick w (numbersTold (pair 0 0) (e .form c))) (opens (e .depth) 0 (marksOf (e .form c))) ≡ map (λ (w : List ℕ). e .plain c) (opens (e .depth) 0 (marksOf (e .form c)))
     others : map (e .others) (opens (e .depth) 0 (marksOf (e .form c))) ≡ map (λ (w : List ℕ). false) (opens (e .depth) 0 (marksOf (e .form c)))
 
-  passes : (c : e .Command) → Passed c
-  passes c =
-      let k = t .kind c in
+  passes : {c : e .Command} → Kind (e .kinds) c → Passed c
+  passes k =
       let r = of-kind (e .kinds) (test e (k .m) (k .n)) (passed e (k .m) (k .n)) (t .kinds-right (k .m) (k .n)) (k .place) (k .same) in
       subst Passed (r .is) (of-test (r .maker (k .m) (k .n)) (ap (λ (x : Test e). x .known) (r .same)) (ap (λ (x : Test e). x .picks) (r .same)) (ap (λ (x : Test e). x .others) (r .same)))
     where
@@ -184,13 +197,16 @@ module _ (e : Reader) (t : Tested e) where
           let v = both {a = isPlain (e .form c)} (w .0) in
           record { plain = v .0; listed = v .1; begins = w .1; picks = p; others = o }
 
+  spelt-passes : (c : e .Command) (f : List ℕ) → Spells e c f → Passed c
+  spelt-passes c f s = passes (t .kind c f s)
+
   fit : (c : e .Command) {f : List ℕ} → Spells e c f → fitsOne 0 (marksOf (e .form c)) f ≡ true
-  fit c s = matched-fits (passes c .plain) s
+  fit c {f} s = matched-fits (spelt-passes c f s .plain) s
 
   pub complete : (c : e .Command) (f : List ℕ) → Spells e c f → reading e f ≡ e .plain c
   unfolding readWith accepts
   complete c f s =
-      let w = passes c in
+      let w = spelt-passes c f s in
       let P : List ℕ → Type 0 = λ x. e .pick x (numbersTold (pair 0 0) (e .form c)) ≡ e .plain c in
       rw (accepted f ∙ listed-fits (marksOf (e .form c)) (formsOf e) f (w .listed) (fit c s), numbers-read (pair 0 0) (w .plain) (w .begins) s)
       (opened (e .depth) P 0 (marksOf (e .form c)) f (each-picked _ (e .plain c) (opens (e .depth) 0 (marksOf (e .form c))) (w .picks)) (fit c s))
@@ -199,31 +215,34 @@ module _ (e : Reader) (t : Tested e) where
   pub no-other : (c : e .Command) (f : List ℕ) → Spells e c f → e .others (heads (e .depth) f) ≡ false
   no-other c f s =
       let P : List ℕ → Type 0 = λ x. e .others x ≡ false in
-      opened (e .depth) P 0 (marksOf (e .form c)) f (each-picked _ false (opens (e .depth) 0 (marksOf (e .form c))) (passes c .others)) (fit c s)
+      opened (e .depth) P 0 (marksOf (e .form c)) f (each-picked _ false (opens (e .depth) 0 (marksOf (e .form c))) (spelt-passes c f s .others)) (fit c s)
 
-  pub no-data : (c : e .Command) → isPlain (e .form c) ≡ true
-  no-data c = passes c .plain
+  pub kind-plain : {c : e .Command} → Kind (e .kinds) c → isPlain (e .form c) ≡ true
+  kind-plain k = passes k .plain
+
+  known-plain : (c : e .Command) → isKnown e c ≡ true → isPlain (e .form c) ≡ true
+  known-plain c h = both {a = isPlain (e .form c)} (both {a = isPlain (e .form c) && listed (marksOf (e .form c)) (formsOf e)} h .0) .0
 
   record Spelt (f : List ℕ) : Type 0 where
     command : e .Command
     spelt : Spells e command f
 
   -- a frame that fits the marks of a kind spells the command of that kind with some numbers
-  spelt-by : (k : Maker e) (f : List ℕ) → howMany (marks e k) ≤ 2 → ((m n : ℕ) → (marksOf (e .form (k m n)) ≡ marks e k) × (numbersIn (e .form (k m n)) ≡ numbered (howMany (marks e k)) m n)) → fitsOne 0 (marks e k) f ≡ true → Spelt f
+  spelt-by : (k : Maker e) (f : List ℕ) → howMany (marks e k) ≤ 2 → ((m n : ℕ) → (marksOf (e .form (k m n)) ≡ marks e k) × (numbersIn (e .form (k m n)) ≡ numbered (howMany (marks e k)) m n) × (isKnown e (k m n) ≡ true)) → fitsOne 0 (marks e k) f ≡ true → Spelt f
   spelt-by k f few same h =
       let r = fits-filled (marks e k) f h in
       let w = two-of (r .numbers) (howMany (marks e k)) (r .count) few in
       let c = k (w .m) (w .n) in
       let v = same (w .m) (w .n) in
       let fills : Fills (marksOf (e .form c)) (numbersIn (e .form c)) f = rw (v .0, v .1, ← w .same) (r .fills) in
-      record { command = c; spelt = filled-matches (e .form c) (passes c .plain) fills }
+      record { command = c; spelt = filled-matches (e .form c) (known-plain c (v .2)) fills }
 
   spelt-in : (ks : List (Maker e)) (f : List ℕ) → ((m n : ℕ) → map (test e m n) ks ≡ map (passed e m n) ks) → fits (whole (map (marks e) ks)) f ≡ true → Spelt f
   spelt-in [] f same h = absurd (true≢false (sym h ∙ fits-none f))
   spelt-in (k ∷ ks) f same h =
       either (sym (fits-append ((0, marks e k) ∷ []) (whole (map (marks e) ks)) f) ∙ h)
       (λ g. spelt-by k f (leb-true (howMany (marks e k)) 2 (ap (λ (x : Test e). x .few) (first-of (same 0 0))))
-      (λ m n. let t = first-of (same m n) in (ap (λ (x : Test e). x .marked) t, ap (λ (x : Test e). x .numbers) t)) g)
+      (λ m n. let t = first-of (same m n) in (ap (λ (x : Test e). x .marked) t, ap (λ (x : Test e). x .numbers) t, ap (λ (x : Test e). x .known) t)) g)
       (λ g. spelt-in ks f (λ m n. others-of (same m n)) g)
 
   refused : (f : List ℕ) → accepts (e .table) f ≡ false → reading e f ≡ e .bad
@@ -253,4 +272,4 @@ module _ (e : Reader) (t : Tested e) where
 
   -- A command has one spelling at most.
   pub one-frame : (c : e .Command) (f g : List ℕ) → Spells e c f → Spells e c g → f ≡ g
-  one-frame c f g s s′ = one-match (e .form c) (no-data c) s s′
+  one-frame c f g s s′ = one-match (e .form c) (spelt-passes c f s .plain) s s′

@@ -3,7 +3,7 @@
 // crosses as a number, by the tables of `handset_numbers`.
 ghost use mathlib.Core.Path.{_≡_};
 ghost use lib.ListN.{length};
-ghost use Rattle.record.specs.PowerOn.{powerOn, formerPowerOn};
+ghost use Rattle.record.specs.PowerOn.{powerOn, formerPowerOn, sisterPowerOn};
 ghost use Rattle.record.specs.Range.{inRange};
 ghost use Rattle.record.specs.Parts.{together, smallOf};
 ghost use Rattle.stream.specs.Stream.{fedOf, answersAfter};
@@ -233,6 +233,21 @@ pub extern "C" fn proved_power_on_former(
     ensures frame { λ _. ⌜ now (frame .exit) ≡ formerPowerOn .frame .bytes ⌝ }
 {
     put_apart(Record::former_defaults(), text, picture, frame)
+}
+
+// The sister's.
+#[no_mangle]
+pub extern "C" fn proved_sister_power_on(
+    text: &mut Text,
+    picture: &mut Picture,
+    frame: &mut FrameBytes,
+) -> Small
+    ensures same { λ s. ⌜ s ≡ smallOf sisterPowerOn ⌝ }
+    ensures text { λ _. ⌜ now (text .exit) ≡ sisterPowerOn .text ⌝ }
+    ensures picture { λ _. ⌜ now (picture .exit) ≡ sisterPowerOn .picture ⌝ }
+    ensures frame { λ _. ⌜ now (frame .exit) ≡ sisterPowerOn .frame .bytes ⌝ }
+{
+    put_apart(Record::sister_power_on(), text, picture, frame)
 }
 
 // Calls on the record in parts.

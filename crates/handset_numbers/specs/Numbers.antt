@@ -116,6 +116,7 @@ abbrev pub verdictNumbers : Verdict → NumberedVerdict
 verdictNumbers Verdicts.Bad = record { 0 = 0; 1 = 0 }
 verdictNumbers (Verdicts.PassedOver n) = record { 0 = 1; 1 = n }
 verdictNumbers Verdicts.Obeyed = record { 0 = 2; 1 = 0 }
+verdictNumbers Verdicts.Refused = record { 0 = 3; 1 = 0 }
 
 abbrev pub kindNumber : Kind → ℕ
 kindNumber Kinds.None = 0

@@ -141,6 +141,7 @@ pub fn verdict_numbers(verdict: Verdict) -> NumberedVerdict
         Verdict::Bad => NumberedVerdict(0, 0),
         Verdict::PassedOver(n) => NumberedVerdict(1, n),
         Verdict::Obeyed => NumberedVerdict(2, 0),
+        Verdict::Refused => NumberedVerdict(3, 0),
     }
 }
 

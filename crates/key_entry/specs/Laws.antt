@@ -98,19 +98,20 @@ one-of-four P held times light now same press release poll edge =
     (λ up. same))
     (λ odd. same)))
 
+-- A press in auto changes nothing of a light but its seconds left.
+pub lit-alike : (light : Backlight) → lit light ≡ withSecondsLeft light (lit light .left)
+lit-alike light = either-way (λ (b : Backlight). b ≡ withSecondsLeft light (b .left)) (eqb (light .mode) auto) (λ lights. refl) (λ other. refl)
+
 -- An entry changes nothing but the held key and the seconds left.
 pub only-held-and-left : (r : Record) (e : Entry)
     → step r e .state ≡ withKeys r (step r e .state .held) (withSecondsLeft (r .settings .backlight) (step r e .state .settings .backlight .left))
 unfolding step
 only-held-and-left r e =
     ap (λ (b : Backlight). withKeys r (keyed (r .held) (r .settings .times) light (e .tick) (e .edge) .held) b)
-    (one-of-four Alike (r .held) (r .settings .times) light (e .tick) refl (λ key low. lit-alike) refl (λ code down. refl) (e .edge))
+    (one-of-four Alike (r .held) (r .settings .times) light (e .tick) refl (λ key low. lit-alike light) refl (λ code down. refl) (e .edge))
   where
     light : Backlight
     light = r .settings .backlight
 
     Alike : Keyed → Type 0
     Alike k = k .backlight ≡ withSecondsLeft light (k .backlight .left)
-
-    lit-alike : lit light ≡ withSecondsLeft light (lit light .left)
-    lit-alike = either-way (λ (b : Backlight). b ≡ withSecondsLeft light (b .left)) (eqb (light .mode) auto) (λ lights. refl) (λ other. refl)

@@ -32,14 +32,26 @@ polls = 255
 abbrev pub isPress : ℕ → Bool
 isPress edge = keyInRange edge
 
+-- the release of a number up to the last
+abbrev pub releaseUpTo : ℕ → ℕ → Bool
+releaseUpTo last edge = leb releases edge && leb (edge - releases) last
+
+-- keys end with 18
+abbrev pub lastKey : ℕ
+lastKey = 18
+
 abbrev pub isRelease : ℕ → Bool
-isRelease edge = leb releases edge && keyInRange (edge - releases)
+isRelease edge = releaseUpTo lastKey edge
 
 abbrev pub isPoll : ℕ → Bool
 isPoll edge = eqb edge polls
 
+-- WHICH EDGES ARE LISTED goes by the last number: the press and the release of each up to it, and the poll
+abbrev pub listedUpTo : ℕ → ℕ → Bool
+listedUpTo last edge = leb edge last || releaseUpTo last edge || isPoll edge
+
 abbrev pub listed : ℕ → Bool
-listed edge = isPress edge || isRelease edge || isPoll edge
+listed edge = listedUpTo lastKey edge
 
 -- TIME. Elapsed is this reading less the held one, modulo 65,536
 unfoldable pub elapsed : ℕ → ℕ → ℕ

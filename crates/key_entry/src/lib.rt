@@ -3,7 +3,7 @@
 ghost use mathlib.Core.Path.{_≡_};
 ghost use Rattle.lists.specs.Every.{every};
 ghost use Rattle.key_entry.specs.Codes.{columnOf, codeOf};
-ghost use Rattle.key_entry.specs.Rules.{isRelease, listed, elapsed as elapsedOf, inTicks, over as overOf, nothing as nothingOf, lit, pressed, polledShort, polledLong, polled, releaseCode, released, keyed};
+ghost use Rattle.key_entry.specs.Rules.{releaseUpTo, listedUpTo, elapsed as elapsedOf, inTicks, over as overOf, nothing as nothingOf, lit, pressed, polledShort, polledLong, polled, releaseCode, released, keyed};
 use record::AUTO;
 use record::Backlight;
 use record::Held;
@@ -39,7 +39,7 @@ const CODES: [[u8; 3]; 19] = [
 
 const KEYS: usize = 19;
 
-const LAST_KEY: u8 = 18;
+pub const LAST_KEY: u8 = 18;
 
 // Edge bytes: a key's number is its press, 128 more its release, and 255 a poll.
 pub const RELEASES: u8 = 128;
@@ -97,30 +97,31 @@ fn in_ticks(time: Tenths) -> u16
     10 * (tenths as u16)
 }
 
-fn is_release(edge: u8) -> bool
-    ensures { λ b. ⌜ b ≡ isRelease edge ⌝ }
+fn is_release(edge: u8, last: u8) -> bool
+    ensures { λ b. ⌜ b ≡ releaseUpTo last edge ⌝ }
 {
     if edge < RELEASES {
         return false;
     }
-    edge - RELEASES <= LAST_KEY
+    edge - RELEASES <= last
 }
 
-fn is_listed(edge: u8) -> bool
-    ensures { λ b. ⌜ b ≡ listed edge ⌝ }
+fn is_listed(edge: u8, last: u8) -> bool
+    ensures { λ b. ⌜ b ≡ listedUpTo last edge ⌝ }
 {
-    let release = is_release(edge);
-    (edge <= LAST_KEY) | release | (edge == POLL)
+    let release = is_release(edge, last);
+    (edge <= last) | release | (edge == POLL)
 }
 
-// It looks at the whole log, also past the place where the room for codes would end.
-pub fn all_listed(edges: &[u8]) -> bool
-    ensures same { λ b. ⌜ b ≡ every listed (now (edges .entry)) ⌝ }
+// Which edges are listed goes by the last number that a key, or what is logged beside the keys, can have. It looks at the whole log, also
+// past the place where the room for codes would end.
+pub fn all_listed(edges: &[u8], last: u8) -> bool
+    ensures same { λ b. ⌜ b ≡ every (listedUpTo last) (now (edges .entry)) ⌝ }
 {
     let mut ok = true;
     let mut i = 0;
     while i < edges.len() {
-        ok = ok & is_listed(edges[i]);
+        ok = ok & is_listed(edges[i], last);
         i += 1;
     }
     ok
@@ -263,7 +264,7 @@ pub fn take_entry(held: Held, times: Times, light: Backlight, now: u16, edge: u8
     if edge <= LAST_KEY {
         return press(held, light, now, edge);
     }
-    if is_release(edge) {
+    if is_release(edge, LAST_KEY) {
         return release(held, times, light, now, edge - RELEASES);
     }
     if edge == POLL {

@@ -2,19 +2,26 @@
 use Prim.Native.Nat.{ℕ, _+_}
 use Prim.Native.Char.{code}
 use mathlib.Core.Path.{_≡_, refl}
-use mathlib.Core.Bool.{false}
-use mathlib.Core.List.{List, [], _∷_, map, zipWith}
+use Prim.Native.String.{String}
+use mathlib.Core.Bool.{Bool, true, false}
+use mathlib.Core.List.{List, [], _∷_, _++_, map, zipWith}
+use Rattle.lists.specs.Codes.{ascii}
 use Rattle.record.specs.declared.Record.{Record}
 use Rattle.record.specs.declared.Held.{Held}
+use Rattle.record.specs.declared.Keys.{Keys}
 use Rattle.record.specs.declared.Times.{Times}
 use Rattle.record.specs.declared.Backlight.{Backlight}
 use Rattle.record.specs.Number.{paperNumber}
-use Rattle.record.specs.Range.{auto, textInRange, labelInRange, pictureInRange, inverseInRange, frameInRange, inRange}
-use Rattle.record.specs.PowerOn.{startingWith, powerOn, formerPowerOn}
+use Rattle.record.specs.Range.{auto, stageShort, stageLong, textInRange, labelInRange, pictureInRange, inverseInRange, frameInRange, inRange}
+use Rattle.record.specs.PowerOn.{noneDown, startingWith, powerOn, formerPowerOn, sisterPowerOn}
+use Rattle.record.specs.With.{withHeld, withEdition, withKeys as withKeysDown}
 use Rattle.turns.specs.Room.{run}
 use Rattle.key_entry.specs.declared.Stage.the-variants.{Short, Long, Repeat}
 use Rattle.key_entry.specs.Codes.{noCode, codeOf}
 use Rattle.key_entry.specs.Rules.{Entry, entry, releases, polls, elapsed, noneHeld, heldSince, longSince, keyed, withKeys, step}
+use Rattle.sister_entry.specs.Keys.{bitOf, isDown, withKey, withoutKey}
+use Rattle.sister_entry.specs.Rules.{signOf, heldSince as heldAs, falseWith, started, pressedBeside, keyPressed, leftDown, keyReleased, due, longSince as herLongSince, polled, lifted, putBack, pttPressed, pttReleased, pressed, released, entered}
+use Rattle.key_log.specs.Steps.{sisterStep, stepIn}
 use Rattle.key_log.specs.Log.{outcome}
 use Rattle.key_log.specs.Cuts.{ticksOf, edgesOf}
 
@@ -113,13 +120,17 @@ fresh time1 time2 = starting (times time1 time2) noneHeld 0
 abbrev heldLong : ℕ → ℕ → Held
 heldLong key tick = longSince (heldSince key tick) tick
 
--- what is looked at after a call: the number, the counts, the codes, the held key and the seconds left
+-- what is looked at after a call: the number, the counts, the codes, the held key and the seconds left; the sister's keys, whether it is
+-- on-hook and PTT pressed
 pub record Seen : Type 0 where
   pub number : ℕ
   pub used : ℕ
   pub codes : List ℕ
   pub held : Held
   pub left : ℕ
+  pub down : Keys
+  pub hook : Bool
+  pub ptt : Bool
 
 pub record Case : Type 0 where
   pub start : Record
@@ -137,17 +148,25 @@ found c =
       codes = o .ran .answers;
       held = o .ran .state .held;
       left = o .ran .state .settings .backlight .left .0;
+      down = o .ran .state .edition .keys;
+      hook = o .ran .state .settings .hook;
+      ptt = o .ran .state .edition .ptt;
     }
+
+-- a log of the first edition's leaves what is the sister's, and the hook
+abbrev expecting : Record → ℕ → ℕ → List ℕ → Held → ℕ → Seen
+expecting start number used codes held left =
+    record { number = number; used = used; codes = codes; held = held; left = left; down = start .edition .keys; hook = start .settings .hook; ptt = start .edition .ptt }
 
 -- a log with room for eight codes, and what is expected: all used, these codes, this held key, this left
 abbrev all : Record → List Entry → ℕ → List ℕ → Held → ℕ → Case
 all start log used codes held left =
-    record { start = start; ticks = ticksOf log; edges = edgesOf log; room = 8; expected = record { number = 0; used = used; codes = codes; held = held; left = left } }
+    record { start = start; ticks = ticksOf log; edges = edgesOf log; room = 8; expected = expecting start 0 used codes held left }
 
 -- a log with no room: what is used and held when the call stops
 abbrev noRoom : Record → List Entry → ℕ → Held → ℕ → Case
 noRoom start log used held left =
-    record { start = start; ticks = ticksOf log; edges = edgesOf log; room = 0; expected = record { number = 0; used = used; codes = []; held = held; left = left } }
+    record { start = start; ticks = ticksOf log; edges = edgesOf log; room = 0; expected = expecting start 0 used [] held left }
 
 -- a log that is refused with this number
 abbrev refusedWith : ℕ → Record → List ℕ → List ℕ → ℕ → Case
@@ -157,7 +176,26 @@ refusedWith number start ticks edges room =
       ticks = ticks;
       edges = edges;
       room = room;
-      expected = record { number = number; used = 0; codes = []; held = start .held; left = start .settings .backlight .left .0 };
+      expected = expecting start number 0 [] (start .held) (start .settings .backlight .left .0);
+    }
+
+-- THE SISTER'S: her power-on record has Time1 and Time2 12 and the light in auto for 30; here with these keys down
+abbrev sisterWithDown : Keys → Record
+sisterWithDown down = withEdition sisterPowerOn (withKeysDown (sisterPowerOn .edition) down)
+
+-- a message by the signs between ESC and CR LF
+abbrev message : String → List ℕ
+message signs = 0x1B ∷ ascii signs ++ 0x0D ∷ 0x0A ∷ []
+
+-- from these keys, with this room: what is used and sent, the keys, the seconds left, hook and PTT
+abbrev hers : Keys → List Entry → ℕ → ℕ → List ℕ → Keys → ℕ → Bool → Bool → Case
+hers from log room used sent down left hook ptt =
+    record {
+      start = sisterWithDown from;
+      ticks = ticksOf log;
+      edges = edgesOf log;
+      room = room;
+      expected = record { number = 0; used = used; codes = sent; held = noneHeld; left = left; down = down; hook = hook; ptt = ptt };
     }
 
 pub cases : List Case
@@ -212,9 +250,31 @@ cases =
     -- 1 before 5 and 4, and with an empty log: Time1 3 is out of range
     ∷ refusedWith 1 (fresh 3 12) (0 ∷ []) (19 ∷ 19 ∷ []) 8
     ∷ refusedWith 1 (fresh 3 12) [] [] 0
+    -- the sister: a press and its release, in just enough room
+    ∷ hers noneDown (press one 100 ∷ release one 150 ∷ []) 12 2 (message "K1s" ++ message "K1e") noneDown 30 true false
+    -- long at Time1 and not one tick before, then a repeat at Time2
+    ∷ hers noneDown (press one 100 ∷ poll 219 ∷ poll 220 ∷ poll 339 ∷ poll 340 ∷ []) 18 5 (message "K1s" ++ message "K1l" ++ message "K1r") (heldAs stageLong one 340) 30 true false
+    -- a second key: KFx once, and silence until none is down; the next message is an s
+    ∷ hers noneDown (press one 0 ∷ press two 5 ∷ poll 500 ∷ release one 510 ∷ press one 520 ∷ release two 530 ∷ release one 540 ∷ press two 550 ∷ []) 18 8 (message "K1s" ++ message "KFx" ++ message "K2s") (heldAs stageShort two 550) 30 true false
+    -- HOOK in the state false, and PTT: no seconds, and the keys 6 and 7 are still down
+    ∷ hers (falseWith 0xC0) (press 21 0 ∷ press 22 1 ∷ []) 12 2 (message "KHs" ++ message "KPs") (falseWith 0xC0) 0 false true
+    -- 5 bytes are too few for a message: the call stops before its entry, and nothing is written; nor is a second message cut
+    ∷ hers noneDown (press one 100 ∷ []) 5 0 [] noneDown 0 true false
+    ∷ hers noneDown (press one 100 ∷ release one 150 ∷ []) 11 1 (message "K1s") (heldAs stageShort one 100) 30 true false
+    -- no room hinders no entry that sends nothing
+    ∷ hers (falseWith 0xC0) (release one 0 ∷ release two 1 ∷ poll 2 ∷ []) 0 3 [] noneDown 0 true false
+    -- 4: the edges past PTT, press and release; in the first edition those of MUTE, REC/SOS, HOOK and PTT
+    ∷ refusedWith 4 sisterPowerOn (0 ∷ []) (23 ∷ []) 8
+    ∷ refusedWith 4 sisterPowerOn (0 ∷ []) (151 ∷ []) 8
+    ∷ refusedWith 4 (fresh 12 12) (0 ∷ []) (20 ∷ []) 8
+    ∷ refusedWith 4 (fresh 12 12) (0 ∷ []) (21 ∷ []) 8
+    ∷ refusedWith 4 (fresh 12 12) (0 ∷ []) (22 ∷ []) 8
+    ∷ refusedWith 4 (fresh 12 12) (0 ∷ []) (150 ∷ []) 8
+    -- 1: the first edition's held key is unused in hers
+    ∷ refusedWith 1 (withHeld sisterPowerOn (heldSince one 5)) [] [] 0
     ∷ []
 
 -- Every example is found as expected.
 pub cases-hold : map found cases ≡ map (λ (c : Case). c .expected) cases
-unfolding cases outcome inRange textInRange labelInRange pictureInRange inverseInRange frameInRange zipWith run step keyed elapsed codeOf
+unfolding cases outcome inRange textInRange labelInRange pictureInRange inverseInRange frameInRange zipWith run stepIn step keyed elapsed codeOf sisterStep bitOf isDown withKey withoutKey signOf started pressedBeside keyPressed leftDown keyReleased due herLongSince polled lifted putBack pttPressed pttReleased pressed released entered
 cases-hold = refl

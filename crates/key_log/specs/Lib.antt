@@ -1,3 +1,4 @@
+pub mod Steps
 pub mod Log
 pub mod Laws
 pub mod Turns

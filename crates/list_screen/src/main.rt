@@ -1,5 +1,7 @@
 // Reads a stream from a file or from standard input, from the power-on record, and prints the fields of the screen. Of an input
 // that fails nothing is printed: what came before is not the stream.
+// With --sister the power-on record is that of the sister handset, which reads her own frames. What is printed is what is kept, in
+// either edition: after her IDM2 it is MODE 5, and the letter that her IU2 has flashing is 255.
 // REPLIES counts answers, not their bytes. Codes outside 0x20 to 0x7E are printed as '.'. A frame that is still open at the end is
 // not seen.
 use program::Input;
@@ -107,15 +109,24 @@ fn say_fields(r: Record) {
 fn accepted() -> bool {
     program::accepts(
         b"list_screen",
-        b"usage: ./run list_screen [FILE]\n\
-        Reads a stream from FILE, or from standard input without one, and prints the fields of the screen.\n",
-        b"",
+        b"usage: ./run list_screen [--sister] [FILE]\n\
+        Reads a stream from FILE, or from standard input without one, and prints the fields of the screen.\n\
+        --sister reads the frames of the sister handset (AN1900); without it those of AN1901.\n",
+        b"--sister\n",
         true,
     )
 }
 
+// The record's own edition decides which frames are read.
+fn power_on_given() -> Record {
+    if program::is_given(b"--sister\n") {
+        return Record::sister_power_on();
+    }
+    Record::power_on()
+}
+
 fn list(input: Input) {
-    let heard = stream_input::hear(input.descriptor, Record::power_on());
+    let heard = stream_input::hear(input.descriptor, power_on_given());
     if heard.failed {
         program::complain_of(b"list_screen", input);
         return;

@@ -15,9 +15,9 @@ use Rattle.record.specs.declared.Volume.{Volume}
 use Rattle.record.specs.declared.Times.{Times}
 use Rattle.record.specs.declared.Hundredths.{Hundredths}
 use Rattle.record.specs.declared.Backlight.{Backlight}
-use Rattle.record.specs.declared.Edition.{Edition}
-use Rattle.record.specs.PowerOn.{powerOn, formerPowerOn, sisterPowerOn}
-use Rattle.record.specs.Range.{modeInRange, overlayInRange, cursorInRange, screenInRange, textInRange, labelInRange, pictureInRange, iconsInRange, volumeInRange, timesKept, buzzerInRange, backlightInRange, backlightKept, contrastKept, inverseInRange, heldKept, frameInRange, plainInRange, settingsInRange, editionKept, keptInRange, inRange}
+use Rattle.record.specs.declared.Stored.{Stored}
+use Rattle.record.specs.PowerOn.{powerOn, formerPowerOn, sisterWith, sisterPowerOn}
+use Rattle.record.specs.Range.{modeInRange, overlayInRange, cursorInRange, screenInRange, textInRange, labelInRange, pictureInRange, iconsInRange, volumeInRange, auto, sisterTimes, sisterBacklight, sisterContrast, brightnessInRange, speakerInRange, timesKept, buzzerInRange, backlightInRange, backlightKept, contrastKept, inverseInRange, heldKept, frameInRange, plainInRange, settingsInRange, editionKept, inRange}
 use Rattle.record.specs.With.{withScreen, withShown, withLeft, withRight, withIcons, withVolume, withTimes, withBuzzer, withBacklight, withContrast, withInverse}
 
 -- The power-on record is within its ranges, and so is the one of the former defaults.
@@ -26,8 +26,8 @@ unfolding inRange textInRange labelInRange pictureInRange inverseInRange frameIn
 power-on-in-range = (refl, refl)
 
 -- The sister's is within hers.
-pub sister-power-on-in-range : keptInRange sisterPowerOn ≡ true
-unfolding textInRange labelInRange pictureInRange inverseInRange frameInRange
+pub sister-power-on-in-range : inRange sisterPowerOn ≡ true
+unfolding inRange textInRange labelInRange pictureInRange inverseInRange frameInRange
 sister-power-on-in-range = refl
 
 -- The table as facts: a line for each row, at the place in the record of what it speaks of.
@@ -48,18 +48,13 @@ pub record SettingsRanges (sister pwm : Bool) (p : Settings) : Type 0 where
   pub contrast : contrastKept sister (p .contrast) ≡ true
   pub inverse : inverseInRange (p .inverse) ≡ true
 
--- what only the sister has; and, until her frames are read, it is the first edition
-pub record EditionRanges (e : Edition) : Type 0 where
-  pub kept : editionKept e ≡ true
-  pub first : e .sister ≡ false
-
 pub record Ranges (r : Record) : Type 0 where
   pub settings : SettingsRanges (r .edition .sister) (r .edition .pwm) (r .settings)
   pub text : textInRange (r .text) ≡ true
   pub picture : pictureInRange (r .picture) ≡ true
   pub held : heldKept (r .edition .sister) (r .held) ≡ true
   pub frame : frameInRange (r .frame) ≡ true
-  pub edition : EditionRanges (r .edition)
+  pub edition : editionKept (r .edition) ≡ true
 
 -- A record in range has each field in range, and the other way round.
 screen-ranges : (s : Screen) → screenInRange s ≡ true → ScreenRanges s
@@ -99,8 +94,7 @@ not-so false h = refl
 pub ranges : (r : Record) → inRange r ≡ true → Ranges r
 unfolding inRange
 ranges r h =
-    let first = both h in
-    let kept = both (first .0) in
+    let kept = both h in
     let frame = both (kept .0) in
     let held = both (frame .0) in
     let picture = both (held .0) in
@@ -111,8 +105,14 @@ ranges r h =
       picture = picture .1;
       held = held .1;
       frame = frame .1;
-      edition = record { kept = kept .1; first = not-so (r .edition .sister) (first .1) };
+      edition = kept .1;
     }
+
+-- The sister's power-on record is within her ranges whatever she has stored that is.
+pub sister-with-in-range : (s : Stored) → sisterTimes (s .times) ≡ true → sisterBacklight (record { mode = auto; duration = s .duration; left = record { 0 = 0 }; keypad = false }) true ≡ true
+    → sisterContrast (s .contrast) ≡ true → brightnessInRange (s .brightness) ≡ true → speakerInRange (s .speaker) ≡ true → inRange (sisterWith s) ≡ true
+unfolding inRange textInRange labelInRange pictureInRange inverseInRange frameInRange
+sister-with-in-range s times light contrast brightness speaker = rw (times, light, contrast, brightness, speaker)
 
 -- A backlight of either edition is within the first's.
 pub of-first : (sister pwm : Bool) (b : Backlight) → backlightKept sister pwm b ≡ true → backlightInRange b ≡ true
@@ -135,7 +135,7 @@ settings-in-range sister pwm p k =
 pub in-range : (r : Record) → Ranges r → inRange r ≡ true
 unfolding inRange
 in-range r k =
-    and-both (and-both (and-both (and-both (and-both (and-both (settings-in-range (r .edition .sister) (r .edition .pwm) (r .settings) (k .settings)) (k .text)) (k .picture)) (k .held)) (k .frame)) (k .edition .kept)) (rw (k .edition .first))
+    and-both (and-both (and-both (and-both (and-both (settings-in-range (r .edition .sister) (r .edition .pwm) (r .settings) (k .settings)) (k .text)) (k .picture)) (k .held)) (k .frame)) (k .edition)
 
 -- Where one part is changed for one in range all else stays in range: the new part's test says what that of the former said.
 module _ {sister pwm : Bool} {p : Settings} (k : SettingsRanges sister pwm p) where
@@ -163,8 +163,9 @@ module _ {sister pwm : Bool} {p : Settings} (k : SettingsRanges sister pwm p) wh
   pub buzzer-set : (n : Hundredths) → buzzerInRange (n .0) ≡ true → SettingsRanges sister pwm (withBuzzer p n)
   buzzer-set n h = settings-ranges sister pwm _ (rw (h ∙ sym (k .buzzer)) whole)
 
-  pub backlight-set : (b : Backlight) → backlightKept sister pwm b ≡ true → SettingsRanges sister pwm (withBacklight p b)
-  backlight-set b h = settings-ranges sister pwm _ (rw (h ∙ sym (k .backlight)) whole)
+  -- a light with PWM or without
+  pub backlight-set : {pwm′ : Bool} (b : Backlight) → backlightKept sister pwm′ b ≡ true → SettingsRanges sister pwm′ (withBacklight p b)
+  backlight-set {pwm′} b h = settings-ranges sister pwm′ _ (rw (h ∙ sym (k .backlight)) whole)
 
   pub contrast-set : (n : ℕ) → contrastKept sister n ≡ true → SettingsRanges sister pwm (withContrast p n)
   contrast-set n h = settings-ranges sister pwm _ (rw (h ∙ sym (k .contrast)) whole)

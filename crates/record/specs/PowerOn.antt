@@ -4,11 +4,10 @@ use lib.ListN.{replicate}
 use Rattle.lists.specs.Codes.{blank}
 use Rattle.record.specs.declared.Record.{Record}
 use Rattle.record.specs.declared.Times.{Times}
-use Rattle.record.specs.declared.Settings.{Settings}
 use Rattle.record.specs.declared.Keys.{Keys}
 use Rattle.record.specs.declared.Edition.{Edition}
 use Rattle.record.specs.declared.Stored.{Stored}
-use Rattle.record.specs.Range.{off, auto}
+use Rattle.record.specs.Range.{off, auto, stageNone}
 use Rattle.record.specs.With.{withSettings, withEdition, withTimes, withBacklight, withContrast}
 
 -- Time1 12, Time2 0: a held key does not repeat (request T-05; the note's default of 12 no longer holds)
@@ -20,11 +19,11 @@ abbrev pub formerTimes : Times
 formerTimes = record { time1 = record { 0 = 12 }; time2 = record { 0 = 12 } }
 
 -- nothing of the sister's is used
-abbrev pub noKeys : Keys
-noKeys = record { stage = 0; key = 0; tick = record { 0 = 0 }; down = 0 }
+abbrev pub noneDown : Keys
+noneDown = record { stage = stageNone; key = 0; tick = record { 0 = 0 }; down = 0 }
 
 abbrev pub firstEdition : Edition
-firstEdition = record { sister = false; brightness = 0; speaker = 0; pwm = false; ptt = false; keys = noKeys }
+firstEdition = record { sister = false; brightness = 0; speaker = 0; pwm = false; ptt = false; keys = noneDown }
 
 -- display on; mode 0; overlay none; cursor not shown, 0, 0; text and large line all 0x20; labels empty; picture 0; icons 0; volume none, 0, no,
 -- no; the times given; buzzer 0; backlight off, 30, 0, clear; contrast 10; on-hook; no inverse mark; held key none;
@@ -71,7 +70,7 @@ abbrev pub sisterWith : Stored → Record
 sisterWith stored =
     withEdition
     (withSettings powerOn (withContrast (withBacklight (withTimes (powerOn .settings) (stored .times)) (record { mode = auto; duration = stored .duration; left = record { 0 = 0 }; keypad = false })) (stored .contrast)))
-    (record { sister = true; brightness = stored .brightness; speaker = stored .speaker; pwm = true; ptt = false; keys = noKeys })
+    (record { sister = true; brightness = stored .brightness; speaker = stored .speaker; pwm = true; ptt = false; keys = noneDown })
 
 abbrev pub sisterPowerOn : Record
 sisterPowerOn = sisterWith storedAtDelivery

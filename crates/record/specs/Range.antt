@@ -227,13 +227,26 @@ keysUnused k = eqb (k .stage) 0 && eqb (k .key) 0 && eqb (k .tick .0) 0 && eqb (
 abbrev pub editionUnused : Edition → Bool
 editionUnused e = eqb (e .brightness) 0 && eqb (e .speaker) 0 && not (e .pwm) && not (e .ptt) && keysUnused (e .keys)
 
+-- the stages of her keys
+abbrev pub stageNone : ℕ
+stageNone = 0
+
+abbrev pub stageShort : ℕ
+stageShort = 1
+
+abbrev pub stageLong : ℕ
+stageLong = 2
+
+abbrev pub stageFalse : ℕ
+stageFalse = 3
+
 -- held keys: none 0; short 1 or long 2 with one key 0-20 and a tick; false 3: one or more of keys 0-20 down, a bit each, which are used in
 -- this state alone
 abbrev pub keysInRange : Keys → Bool
 keysInRange k =
     keysUnused k
-    || ((eqb (k .stage) 1 || eqb (k .stage) 2) && leb (k .key) 20 && eqb (k .down) 0)
-    || (eqb (k .stage) 3 && eqb (k .key) 0 && eqb (k .tick .0) 0 && leb 1 (k .down) && ltb (k .down) (2 ^ 21))
+    || ((eqb (k .stage) stageShort || eqb (k .stage) stageLong) && leb (k .key) 20 && eqb (k .down) 0)
+    || (eqb (k .stage) stageFalse && eqb (k .key) 0 && eqb (k .tick .0) 0 && leb 1 (k .down) && ltb (k .down) (2 ^ 21))
 
 -- By the edition ----------------------------------------------------------------------------------------------------
 
@@ -269,12 +282,8 @@ plainInRange sister pwm p =
 abbrev pub settingsInRange : Bool → Bool → Settings → Bool
 settingsInRange sister pwm p = plainInRange sister pwm p && labelInRange (p .left) && labelInRange (p .right)
 
--- every field is within its range in the record's edition
-abbrev pub keptInRange : Record → Bool
-keptInRange r =
+-- every field is within its range, in the record's edition
+unfoldable pub inRange : Record → Bool
+inRange r =
     settingsInRange (r .edition .sister) (r .edition .pwm) (r .settings) && textInRange (r .text) && pictureInRange (r .picture) && heldKept (r .edition .sister) (r .held)
     && frameInRange (r .frame) && editionKept (r .edition)
-
--- Until her frames are read the sister is refused, whatever her fields hold
-unfoldable pub inRange : Record → Bool
-inRange r = keptInRange r && not (r .edition .sister)

@@ -41,6 +41,20 @@ pub const OVERLONG: u8 = 2;
 
 pub const LONGEST_FRAME: usize = 250;
 
+// The stages of the sister's keys: none is down; one is, short or long; or more than one was, until none is.
+pub const STAGE_NONE: u8 = 0;
+
+pub const STAGE_SHORT: u8 = 1;
+
+pub const STAGE_LONG: u8 = 2;
+
+pub const STAGE_FALSE: u8 = 3;
+
+// The last of her keys, and the sets of them are below this.
+pub const LAST_SISTER_KEY: u8 = 20;
+
+pub const SETS_OF_KEYS: u32 = 2097152;
+
 // A count of 100 ms: Time1 and Time2 of the keys.
 #[repr(C)]
 pub struct Tenths(pub u8);
@@ -145,8 +159,8 @@ pub struct Held {
     pub long: bool,
 }
 
-// The sister's keys that are down. stage: none 0; short 1 or long 2, one key and a tick; false 3, in which `down` has a bit for each of
-// keys 0 to 20 that is down.
+// The sister's keys that are down. stage: none; short or long, one key and a tick; false, in which `down` has a bit for each of keys 0 to 20
+// that is down.
 #[repr(C)]
 pub struct Keys {
     pub stage: u8,
@@ -350,7 +364,7 @@ impl Settings {
 
 impl Keys {
     pub const NONE: Keys = Keys {
-        stage: 0,
+        stage: STAGE_NONE,
         key: 0,
         tick: Tick(0),
         down: 0,

@@ -3,8 +3,9 @@ ghost use mathlib.Core.Path.{_≡_};
 ghost use Prim.Native.Nat.{_≤_};
 ghost use lib.ListN.{length};
 ghost use Rattle.lists.specs.Every.{every};
-ghost use mathlib.Core.Bool.{not, _&&_};
-ghost use Rattle.record.specs.Range.{isFrameByte, isUnused, textInRange, labelInRange, pictureInRange, frameInRange, keysUnused, editionUnused, inRange};
+ghost use mathlib.Core.Bool.{_&&_};
+ghost use Rattle.record_ranges.specs.Editions.{firstAsked, sisterAsked};
+ghost use Rattle.record.specs.Range.{isFrameByte, isUnused, textInRange, labelInRange, pictureInRange, frameInRange, keysUnused, keysInRange, inRange};
 ghost use Rattle.record.specs.Parts.{together};
 ghost use Rattle.record_ranges.specs.Scan.{testOf, rightAt, filled};
 use lists::BLANK;
@@ -13,20 +14,31 @@ use lists::ESCAPE;
 use record::Edition;
 use record::FrameBytes;
 use record::Keys;
+use record::LAST_SISTER_KEY;
 use record::LOW_COLUMN_END;
 use record::Label;
 use record::OPEN;
 use record::OVERLONG;
 use record::Picture;
 use record::Record;
+use record::SETS_OF_KEYS;
+use record::STAGE_FALSE;
+use record::STAGE_LONG;
+use record::STAGE_SHORT;
 use record::Small;
 use record::Text;
+use record_small_ranges::sister_small_in_range;
 use record_small_ranges::small_in_range;
 
 // A length is a byte in a record.
 const MOST_CODES: u8 = record::LONGEST_LABEL as u8;
 
 const MOST_BYTES: u8 = record::LONGEST_FRAME as u8;
+
+// The greatest brightness and speaker volume.
+const BRIGHTEST: u8 = 100;
+
+const LOUDEST: u8 = 7;
 
 // Most frames have no more bytes than this. Of 16, 32 and 64 it took the fewest instructions.
 const SHORT_FRAME: usize = 32;
@@ -142,9 +154,50 @@ fn keys_unused(k: Keys) -> bool
 
 // The first edition: nothing of the sister's is used.
 fn is_first(e: Edition) -> bool
-    ensures { λ r. ⌜ r ≡ (editionUnused e && not (e .sister)) ⌝ }
+    ensures { λ r. ⌜ r ≡ firstAsked e ⌝ }
 {
     (e.brightness == 0) & (e.speaker == 0) & !e.pwm & !e.ptt & keys_unused(e.keys) & !e.sister
+}
+
+// The sister's keys that are down: none; one, short or long; in the stage false a set of them.
+fn keys_in_range(k: Keys) -> bool
+    ensures { λ r. ⌜ r ≡ keysInRange k ⌝ }
+{
+    keys_unused(k)
+        | (((k.stage == STAGE_SHORT) | (k.stage == STAGE_LONG))
+            & (k.key <= LAST_SISTER_KEY)
+            & (k.down == 0))
+        | ((k.stage == STAGE_FALSE)
+            & (k.key == 0)
+            & (k.tick.0 == 0)
+            & (1 <= k.down)
+            & (k.down < SETS_OF_KEYS))
+}
+
+// The sister, with what only she has in range.
+fn is_sister(e: Edition) -> bool
+    ensures { λ r. ⌜ r ≡ sisterAsked e ⌝ }
+{
+    (e.brightness <= BRIGHTEST) & (e.speaker <= LOUDEST) & keys_in_range(e.keys) & e.sister
+}
+
+// The rest, once what is small is asked: labels, text, picture and frame.
+fn rest_in_range<'a>(
+    fine: bool,
+    small: Small,
+    text: &'a Text,
+    picture: &'a Picture,
+    frame: &'a FrameBytes,
+) -> bool
+    ensures { λ b. ⌜ b ≡ (fine && labelInRange (small .settings .left) && labelInRange (small .settings .right) && textInRange (now (text .entry)) && pictureInRange (now (picture .entry)) && frameInRange (record { state = small .state; len = small .len; bytes = now (frame .entry) })) ⌝ }
+{
+    let settings = small.settings;
+    fine
+        & label_in_range(settings.left)
+        & label_in_range(settings.right)
+        & text_in_range(text)
+        & picture_in_range(picture)
+        & frame_in_range(small.state, small.len, frame)
 }
 
 // Whether every field is within its range, for one who keeps the arrays elsewhere. The edition is asked first and by itself: among the
@@ -158,13 +211,12 @@ pub fn in_range_lent<'a>(
     ensures same { λ b. ⌜ b ≡ inRange (together small (now (text .entry)) (now (picture .entry)) (now (frame .entry))) ⌝ }
 {
     if is_first(small.edition) {
-        let settings = small.settings;
-        return small_in_range(settings, small.held)
-            & label_in_range(settings.left)
-            & label_in_range(settings.right)
-            & text_in_range(text)
-            & picture_in_range(picture)
-            & frame_in_range(small.state, small.len, frame);
+        let fine = small_in_range(small.settings, small.held);
+        return rest_in_range(fine, small, text, picture, frame);
+    }
+    if is_sister(small.edition) {
+        let fine = sister_small_in_range(small.settings, small.held, small.edition.pwm);
+        return rest_in_range(fine, small, text, picture, frame);
     }
     false
 }

@@ -1,18 +1,25 @@
 // Whether the small fields of a record, all but its arrays, are within their ranges: the definitions of document 01's table are the
 // record's.
 ghost use mathlib.Core.Path.{_≡_};
-ghost use Rattle.record.specs.Range.{modeInRange, overlayInRange, cursorInRange, iconsInRange, volumeInRange, timesInRange, buzzerInRange, backlightInRange, contrastInRange, inverseInRange, heldInRange};
-ghost use Rattle.record_small_ranges.specs.Small.{smallInRange};
+ghost use Rattle.record.specs.Range.{modeInRange, overlayInRange, cursorInRange, iconsInRange, volumeInRange, timesInRange, buzzerInRange, backlightInRange, contrastInRange, inverseInRange, heldInRange, sisterTimes, sisterBacklight, heldUnused};
+ghost use Rattle.record_small_ranges.specs.Small.{smallInRange, smallKept};
+ghost use mathlib.Core.Bool.{true};
 use record::AUTO;
 use record::Backlight;
 use record::HANDSFREE;
 use record::Held;
 use record::Icons;
 use record::LARGE;
+use record::OFF;
 use record::Screen;
 use record::Settings;
 use record::Times;
 use record::Volume;
+
+// The sister's longest duration, and the greatest contrast.
+const LONGEST_DURATION: u8 = 250;
+
+const MOST_CONTRAST: u8 = 20;
 
 fn mode_in_range(mode: u8) -> bool
     ensures { λ r. ⌜ r ≡ modeInRange mode ⌝ }
@@ -76,7 +83,7 @@ pub fn backlight_in_range(b: Backlight) -> bool
 fn contrast_in_range(contrast: u8) -> bool
     ensures { λ r. ⌜ r ≡ contrastInRange contrast ⌝ }
 {
-    (1 <= contrast) & (contrast <= 20)
+    (1 <= contrast) & (contrast <= MOST_CONTRAST)
 }
 
 // At most one text row is marked.
@@ -108,4 +115,45 @@ pub fn small_in_range(p: Settings, held: Held) -> bool
         & contrast_in_range(p.contrast)
         & inverse_in_range(marks)
         & held_in_range(held)
+}
+
+// The sister's ranges, where they are not the first edition's.
+
+fn sister_times_in_range(t: Times) -> bool
+    ensures { λ r. ⌜ r ≡ sisterTimes t ⌝ }
+{
+    times_in_range(t) | ((t.time1.0 == 0) & (t.time2.0 == 0))
+}
+
+fn sister_backlight_in_range(b: Backlight, pwm: bool) -> bool
+    ensures { λ r. ⌜ r ≡ sisterBacklight b pwm ⌝ }
+{
+    backlight_in_range(b)
+        & (b.duration.0 <= LONGEST_DURATION)
+        & (b.left.0 <= LONGEST_DURATION)
+        & (!pwm | (b.mode != OFF))
+}
+
+fn held_unused(h: Held) -> bool
+    ensures { λ r. ⌜ r ≡ heldUnused h ⌝ }
+{
+    !h.down & (h.key == 0) & (h.tick.0 == 0) & !h.long
+}
+
+// The same of the sister, whose light may have PWM.
+pub fn sister_small_in_range(p: Settings, held: Held, pwm: bool) -> bool
+    ensures same { λ r. ⌜ r ≡ smallKept true pwm p held ⌝ }
+{
+    let marks = p.inverse;
+    mode_in_range(p.screen.mode)
+        & overlay_in_range(p.screen.overlay)
+        & cursor_in_range(p.screen)
+        & icons_in_range(p.icons)
+        & volume_in_range(p.volume)
+        & sister_times_in_range(p.times)
+        & buzzer_in_range(p.buzzer.0)
+        & sister_backlight_in_range(p.backlight, pwm)
+        & (p.contrast <= MOST_CONTRAST)
+        & inverse_in_range(marks)
+        & held_unused(held)
 }

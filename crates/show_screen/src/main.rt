@@ -3,7 +3,8 @@
 //
 //   ./run show_screen examples/picture.stream
 //
-// An icon that flashes is drawn lit, and with --pause as it is in the pause.
+// An icon that flashes is drawn lit, and with --pause as it is in the pause. With --sister the power-on record is that of the
+// sister handset, which reads her own frames.
 //
 // Each of the seven display rows is asked for by the proved row question and drawn as two lines of 48 places in a frame, 50
 // columns in all. A place is two dots wide and four high, so a picture row is drawn dot by dot in braille signs, and a code of
@@ -400,19 +401,28 @@ fn phase_given() -> Phase {
     Phase::Lit
 }
 
+// The record's own edition decides which frames are read.
+fn power_on_given() -> Record {
+    if program::is_given(b"--sister\n") {
+        return Record::sister_power_on();
+    }
+    Record::power_on()
+}
+
 fn accepted() -> bool {
     program::accepts(
         b"show_screen",
-        b"usage: ./run show_screen [--pause] [FILE]\n\
+        b"usage: ./run show_screen [--pause] [--sister] [FILE]\n\
         Reads a stream from FILE, or from standard input without one, and draws what a person then sees.\n\
-        --pause draws a flashing icon in its pause; without it the icon is lit.\n",
-        b"--pause\n",
+        --pause draws a flashing icon in its pause; without it the icon is lit.\n\
+        --sister reads the frames of the sister handset (AN1900); without it those of AN1901.\n",
+        b"--pause\n--sister\n",
         true,
     )
 }
 
 fn show(input: Input) {
-    let heard = stream_input::hear(input.descriptor, Record::power_on());
+    let heard = stream_input::hear(input.descriptor, power_on_given());
     if heard.failed {
         program::complain_of(b"show_screen", input);
         return;

@@ -2,9 +2,9 @@
 use Prim.Native.Nat.{ℕ, _+_, _≤_}
 use Prim.Native.Char.{code}
 use native.Mathlib.Omega.{arith}
-use mathlib.Core.Bool.{true, false, cond}
+use mathlib.Core.Bool.{true, false, true≢false, cond}
 use mathlib.Core.List.{List, [], _∷_, _++_}
-use mathlib.Core.Path.{_≡_, refl}
+use mathlib.Core.Path.{_≡_, refl, sym}
 use lib.ListN.{length, take, length-append}
 use Rattle.lists.specs.Codes.{ascii, carriageReturn, lineFeed}
 use Rattle.lists.specs.Counted.{counted-most}
@@ -97,3 +97,18 @@ told-begins (Ptt pressed) = refl
 
 pub told-not-empty : (t : Told) → isSilence t ≡ false → 1 ≤ length (toldBytes t)
 told-not-empty t h = omega (arith, counted-most isHead (toldBytes t), rw h at (told-head t))
+
+-- Silence says nothing.
+pub silence-says : (t : Told) → isSilence t ≡ true → toldBytes t ≡ []
+silence-says Silence h = refl
+silence-says Mark h = absurd (true≢false (sym h))
+silence-says Version h = absurd (true≢false (sym h))
+silence-says (Place row column) h = absurd (true≢false (sym h))
+silence-says (Mode n) h = absurd (true≢false (sym h))
+silence-says (Light mode duration) h = absurd (true≢false (sym h))
+silence-says (Contrast n) h = absurd (true≢false (sym h))
+silence-says (Brightness n) h = absurd (true≢false (sym h))
+silence-says (Speaker n) h = absurd (true≢false (sym h))
+silence-says (Times time1 time2) h = absurd (true≢false (sym h))
+silence-says (Hook onHook) h = absurd (true≢false (sym h))
+silence-says (Ptt pressed) h = absurd (true≢false (sym h))

@@ -9,7 +9,7 @@ ghost use Rattle.numeral.specs.Numeral.{decimal};
 ghost use Rattle.line.specs.Lines.{mostCodes, held, emptyLine, added};
 ghost use Rattle.line.specs.Laws.{Added};
 ghost use Rattle.answer.specs.Answers.{countAfter, bufferAfter};
-ghost use Rattle.sister_answer.specs.Told.{opening, answer, pair, toldBytes};
+ghost use Rattle.sister_answer.specs.Told.{opening, answer, pair, toldBytes, isSilence};
 use line::Line;
 use line::add;
 use line::add_number;
@@ -129,4 +129,24 @@ pub fn tell(answers: &mut [u8], written: usize, told: Told) -> usize
     ensures buffer { λ r. ⌜ now (answers .exit) ≡ bufferAfter (now (answers .entry)) written (toldBytes told) ⌝ }
 {
     put(answers, written, line_of(told))
+}
+
+// No answer at all.
+pub fn is_silence(told: Told) -> bool
+    ensures same { λ r. ⌜ r ≡ isSilence told ⌝ }
+{
+    match told {
+        Told::Silence => true,
+        Told::Mark => false,
+        Told::Version => false,
+        Told::Place(_, _) => false,
+        Told::Mode(_) => false,
+        Told::Light(_, _) => false,
+        Told::Contrast(_) => false,
+        Told::Brightness(_) => false,
+        Told::Speaker(_) => false,
+        Told::Times(_, _) => false,
+        Told::Hook(_) => false,
+        Told::Ptt(_) => false,
+    }
 }

@@ -12,7 +12,8 @@ use Rattle.sister_entry.specs.declared.SisterKeyed.{SisterKeyed}
 use Rattle.sister_entry.specs.declared.Message.{Message}
 use Rattle.sister_entry.specs.declared.Message.the-variants.{None, False, Event}
 use Rattle.sister_entry.specs.Keys.{bitOf, isDown, withKey, withoutKey}
-use Rattle.sister_entry.specs.Rules.{signOf, listed, before, noneDown, heldSince, falseWith, started, pressedBeside, keyPressed, leftDown, keyReleased, due, longSince, polled, lifted, putBack, pttPressed, pttReleased, pressed, released, entered, keyed}
+use Rattle.record.specs.PowerOn.{noneDown}
+use Rattle.sister_entry.specs.Rules.{signOf, listed, before, heldSince, falseWith, started, pressedBeside, keyPressed, leftDown, keyReleased, due, longSince, polled, lifted, putBack, pttPressed, pttReleased, pressed, released, entered, keyed}
 
 -- a log: tick and edge of each entry
 abbrev pub Log : Type 0

@@ -12,13 +12,14 @@ use Rattle.lists.specs.Tests.{either-way}
 use Rattle.record.specs.declared.Keys.{Keys}
 use Rattle.record.specs.declared.Times.{Times}
 use Rattle.record.specs.declared.Backlight.{Backlight}
-use Rattle.record.specs.Range.{auto, off, durationInRange, backlightInRange, keysInRange, sisterBacklight}
+use Rattle.record.specs.Range.{stageNone, stageShort, stageLong, stageFalse, auto, off, durationInRange, backlightInRange, keysInRange, sisterBacklight}
 use Rattle.record.specs.With.{withSecondsLeft}
 use Rattle.key_entry.specs.Rules.{releases, isPoll, lit}
+use Rattle.key_entry.specs.Laws.{lit-alike}
 use Rattle.sister_entry.specs.declared.SisterKeyed.{SisterKeyed}
 use Rattle.sister_entry.specs.declared.Message.{Message}
 use Rattle.sister_entry.specs.Keys.{isKey, noKeys, bitOf, isDown, withKey, withoutKey, low-bit}
-use Rattle.sister_entry.specs.Rules.{hookNumber, isPress, isRelease, before, stageShort, stageLong, stageFalse, stageNone, heldSince, falseWith, isHeld, withKeys, withHook, withPtt, started, pressedBeside, keyPressed, leftDown, keyReleased, due, longSince, polled, lifted, putBack, pttPressed, pttReleased, pressed, released, entered, keyed}
+use Rattle.sister_entry.specs.Rules.{hookNumber, isPress, isRelease, before, heldSince, falseWith, isHeld, withKeys, withHook, withPtt, started, pressedBeside, keyPressed, leftDown, keyReleased, due, longSince, polled, lifted, putBack, pttPressed, pttReleased, pressed, released, entered, keyed}
 
 -- Sets of keys ----------------------------------------------------------------------------------------------------
 
@@ -175,6 +176,12 @@ unfolding started
 light-after Q keys times light hook ptt now edge same anew =
     one-of-five (λ (k : SisterKeyed). Q (k .backlight)) (before keys light hook ptt) times now same (λ key low. anew) (λ other message stays. same)
     (λ other message. same) (λ other message. same) edge
+
+-- An entry changes nothing of the light but its seconds left.
+pub only-left : (keys : Keys) (times : Times) (light : Backlight) (hook ptt : Bool) (now edge : ℕ)
+    → keyed keys times light hook ptt now edge .backlight ≡ withSecondsLeft light (keyed keys times light hook ptt now edge .backlight .left)
+only-left keys times light hook ptt now edge =
+    light-after (λ (b : Backlight). b ≡ withSecondsLeft light (b .left)) keys times light hook ptt now edge refl (lit-alike light)
 
 -- The light stays in range.
 pub light-in-range : (keys : Keys) (times : Times) (light : Backlight) (hook ptt : Bool) (now edge : ℕ) (pwm : Bool) → sisterBacklight light pwm ≡ true

@@ -10,7 +10,9 @@ use Rattle.record.specs.declared.Keys.{Keys}
 use Rattle.record.specs.declared.Times.{Times}
 use Rattle.record.specs.declared.Tenths.{Tenths}
 use Rattle.record.specs.declared.Backlight.{Backlight}
-use Rattle.key_entry.specs.Rules.{releases, isPoll, over, lit}
+use Rattle.record.specs.Range.{stageNone, stageShort, stageLong, stageFalse}
+use Rattle.record.specs.PowerOn.{noneDown}
+use Rattle.key_entry.specs.Rules.{releases, releaseUpTo, isPoll, listedUpTo, over, lit}
 use Rattle.sister_entry.specs.declared.SisterKeyed.{SisterKeyed}
 use Rattle.sister_entry.specs.declared.Message.{Message}
 use Rattle.sister_entry.specs.declared.Message.the-variants.{None, False, Event}
@@ -30,10 +32,10 @@ abbrev pub isPress : ℕ → Bool
 isPress edge = isNumber edge
 
 abbrev pub isRelease : ℕ → Bool
-isRelease edge = leb releases edge && isNumber (edge - releases)
+isRelease edge = releaseUpTo pttNumber edge
 
 abbrev pub listed : ℕ → Bool
-listed edge = isPress edge || isRelease edge || isPoll edge
+listed edge = listedUpTo pttNumber edge
 
 -- SIGNS of the numbers 0 to 22, in their order; 0 for what is none of them
 abbrev pub signs : List ℕ
@@ -54,22 +56,6 @@ again = code "r"
 
 abbrev pub end : ℕ
 end = code "e"
-
--- STAGES of the keys
-abbrev pub stageNone : ℕ
-stageNone = 0
-
-abbrev pub stageShort : ℕ
-stageShort = 1
-
-abbrev pub stageLong : ℕ
-stageLong = 2
-
-abbrev pub stageFalse : ℕ
-stageFalse = 3
-
-abbrev pub noneDown : Keys
-noneDown = record { stage = stageNone; key = 0; tick = record { 0 = 0 }; down = noKeys }
 
 -- one key, held since a tick
 abbrev pub heldSince : ℕ → ℕ → ℕ → Keys

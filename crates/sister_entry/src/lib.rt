@@ -7,6 +7,10 @@ use key_entry::POLL;
 use key_entry::RELEASES;
 use record::Backlight;
 use record::Keys;
+use record::STAGE_FALSE;
+use record::STAGE_LONG;
+use record::STAGE_NONE;
+use record::STAGE_SHORT;
 use record::Tenths;
 use record::Tick;
 use record::Times;
@@ -16,7 +20,7 @@ const LAST_KEY: u8 = 20;
 
 const HOOK: u8 = 21;
 
-const PTT: u8 = 22;
+pub const PTT: u8 = 22;
 
 // The sign of each number, in the order of the numbers.
 const SIGNS: [u8; 23] = *b"LREAUD1234567890*#OMNHP";
@@ -34,15 +38,6 @@ const LONG: u8 = b'l';
 const AGAIN: u8 = b'r';
 
 const END: u8 = b'e';
-
-// The stages of the record's keys.
-const STAGE_NONE: u8 = 0;
-
-const STAGE_SHORT: u8 = 1;
-
-const STAGE_LONG: u8 = 2;
-
-const STAGE_FALSE: u8 = 3;
 
 // What is sent: nothing, KFx, or a sign and an event.
 pub enum Message {

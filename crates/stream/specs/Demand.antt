@@ -14,9 +14,7 @@ use Rattle.record.specs.declared.Record.{Record}
 use Rattle.record.specs.Parts.{together}
 use Rattle.record.specs.Range.{rowEndOf, heldKept, inRange}
 use Rattle.lists.specs.Tests.{either-way}
-use Rattle.command.specs.Reading.{orderOf}
 use Rattle.effect.specs.Effect.{storeText}
-use Rattle.effect.specs.Untouched.{obeyed-stays}
 use Rattle.record.specs.Laws.{ranges, in-range}
 use Rattle.turns.specs.Room.{Ran, Stops, run-stops, only-one}
 use Rattle.turns.specs.Taking.{Taken}
@@ -31,7 +29,9 @@ use Rattle.parting.specs.Kept.{Sound, Keeps, run-keeps}
 use Rattle.parting.specs.Exactly.{ExactlyOne, exactly-one}
 use Rattle.parting.specs.Demand.{Demand3, demand3, stands-for-some}
 use Rattle.record.specs.Core.{Core, coreOf}
-use Rattle.effect.specs.Keeps.{CoreInRange, core-of-record, record-of-core, obey-keeps, store-keeps}
+use Rattle.sister_effect.specs.Untouched.{frame-keeps-edition}
+use Rattle.sister_effect.specs.Keeps.{frame-keeps}
+use Rattle.effect.specs.Keeps.{CoreInRange, core-of-record, record-of-core, store-keeps}
 use Rattle.record.specs.declared.Small.{Small}
 use Rattle.stream.specs.declared.AfterBytes.{AfterBytes}
 use Rattle.stream_places.specs.Places.{emptied}
@@ -129,15 +129,15 @@ state-in-range r h = record { holds = core-of-record r (ranges r h); frame = fra
 
 -- Text bytes and frames keep a core in range.
 pub handset-keeps : Keeps handset CoreInRange
-handset-keeps = record { stored = λ core b l h. store-keeps core b h l; obeyed = λ core body p l h. obey-keeps core body h }
+handset-keeps = record { stored = λ core b l h. store-keeps core b h l; obeyed = λ core body p l h. frame-keeps core body h }
 
 -- .. and its edition.
-stored-stays : (c : Core) (b : ℕ) → storeText c b .edition .sister ≡ c .edition .sister
+pub stored-stays : (c : Core) (b : ℕ) → storeText c b .edition .sister ≡ c .edition .sister
 unfolding storeText
 stored-stays c b = either-way (λ (d : Core). d .edition .sister ≡ c .edition .sister) (ltb (c .settings .screen .column) (rowEndOf (c .settings .screen .mode))) (λ e. refl) (λ e. refl)
 
 pub edition-kept : (sister : Bool) → Keeps handset (λ (c : Core). c .edition .sister ≡ sister)
-edition-kept sister = record { stored = λ core b l h. stored-stays core b ∙ h; obeyed = λ core body p l h. obeyed-stays core (orderOf body) ∙ h }
+edition-kept sister = record { stored = λ core b l h. stored-stays core b ∙ h; obeyed = λ core body p l h. frame-keeps-edition core body ∙ h }
 
 pub run-stays : (r : Record) (bytes : List ℕ) (room : ℕ) → inRange r ≡ true → run handset (stateOf r) bytes room .state .core .edition .sister ≡ r .edition .sister
 run-stays r bytes room h =

@@ -1,11 +1,11 @@
 -- The handset's meaning for the parting's theory, how the record keeps a frame, and what the stream call hands back. Assumes nothing.
 use Prim.Native.Nat.{ℕ, _+_, _-_, _*_, _≤_, _<_}
 use mathlib.Core.Path.{_≡_}
-use mathlib.Core.Bool.{true, false, cond}
-use mathlib.Core.List.{List, [], _∷_, _++_}
+use mathlib.Core.Bool.{Bool, true, false, cond, _&&_}
+use mathlib.Core.List.{List, [], _++_}
 use lib.Dec.{eqb, ltb}
 use lib.ListN.{length, take, drop, set}
-use Rattle.lists.specs.Codes.{carriageReturn, questionMark}
+use Rattle.lists.specs.Codes.{carriageReturn}
 use Rattle.lists.specs.Padded.{padded}
 use Rattle.record.specs.Number.{numbered}
 use Rattle.record.specs.declared.Settings.{Settings}
@@ -22,23 +22,26 @@ use Rattle.parting.specs.Room.{Ran, run}
 use Rattle.turns.specs.Loop.{Account, still}
 use Rattle.record.specs.Core.{Core, coreOf}
 use Rattle.effect.specs.Effect.{storeText}
-use Rattle.command.specs.Reading.{orderOf}
+use Rattle.sister_answer.specs.Told.{toldBytes, isSilence as untold}
+use Rattle.sister_command.specs.Reading.{orderIn, isOwn}
+use Rattle.sister_effect.specs.declared.SisterObeyed.{SisterObeyed}
+use Rattle.sister_effect.specs.Obey.{obeyAny, answersTo, markOf}
 use Rattle.effect.specs.declared.Obeyed.{Obeyed}
 use Rattle.answer.specs.Answers.{answerBytes, isSilence}
 use Rattle.answer.specs.declared.Answer.{Answer}
-use Rattle.effect.specs.Obey.{obeyOrder, answerTo, core}
+use Rattle.effect.specs.Obey.{core}
 use Rattle.effect.specs.Keeps.{CoreInRange}
 use Rattle.stream.specs.declared.Fed.{Fed}
 use Rattle.stream.specs.declared.FedLent.{FedLent}
 use Rattle.stream.specs.declared.AfterBytes.{AfterBytes}
 
--- THE HANDSET: a text byte is stored; a good frame is obeyed, a question answered and any other in silence; a bad frame changes
--- nothing and gets one '?'
+-- THE HANDSET, by the record's edition: a text byte is stored; a good frame is obeyed, a question answered and any other in silence; a bad
+-- frame changes nothing and gets one '?'
 abbrev pub obeyFrame : Core → List ℕ → Answered Core
-obeyFrame c frame = record { core = obeyOrder c (orderOf frame); answers = answerBytes (answerTo (orderOf frame)) (c .settings .contrast) (c .settings .hook) }
+obeyFrame c frame = let found = orderIn (c .edition .sister) frame in record { core = obeyAny c found; answers = answersTo c found }
 
 abbrev pub handset : Meaning
-handset = record { Core = Core; store = storeText; obey = obeyFrame; badAnswer = λ c. questionMark ∷ [] }
+handset = record { Core = Core; store = storeText; obey = obeyFrame; badAnswer = λ c. markOf (c .edition .sister) }
 
 -- How the record keeps a frame: states none 0, open 1, overlong 2; unused places hold zero.
 abbrev pub keptFrame : Frame → KeptFrame
@@ -128,13 +131,29 @@ answerFrom settings answer = answerBytes answer (settings .contrast) (settings .
 abbrev pub collecting : ℕ → List ℕ → Frame
 collecting state body = cond (eqb state 1) (openFrame body) overlong
 
-pub record Closes (settings : Settings) (text picture : List ℕ) (edition : Edition) (state : ℕ) (body : List ℕ) (obeyed : Obeyed) (text′ picture′ : List ℕ) : Type 0 where
-  pub quiet : isSilence (obeyed .answer) ≡ true
-      → step handset (record { core = core settings text picture edition; frame = collecting state body }) carriageReturn ≡ quietly (record { core = core (obeyed .settings) text′ picture′ edition; frame = noFrame })
-  pub loud : isSilence (obeyed .answer) ≡ false
-      → step handset (record { core = core settings text picture edition; frame = collecting state body }) carriageReturn ≡ saying (answerFrom (obeyed .settings) (obeyed .answer)) (record { core = core (obeyed .settings) text′ picture′ edition; frame = noFrame })
-  pub keeps : isSilence (obeyed .answer) ≡ false → core settings text picture edition ≡ core (obeyed .settings) text′ picture′ edition
-  pub range : CoreInRange (core settings text picture edition) → CoreInRange (core (obeyed .settings) text′ picture′ edition)
+pub record Closes (before : Core) (state : ℕ) (body : List ℕ) (silent : Bool) (answer : List ℕ) (after : Core) : Type 0 where
+  pub quiet : silent ≡ true → step handset (record { core = before; frame = collecting state body }) carriageReturn ≡ quietly (record { core = after; frame = noFrame })
+  pub loud : silent ≡ false → step handset (record { core = before; frame = collecting state body }) carriageReturn ≡ saying answer (record { core = after; frame = noFrame })
+  pub keeps : silent ≡ false → before ≡ after
+  pub range : CoreInRange before → CoreInRange after
+
+-- CR closes a frame that spells a command of the sister's own
+abbrev pub closesOwn : ℕ → Bool → List ℕ → Bool
+closesOwn state sister body = eqb state 1 && sister && isOwn body
+
+-- what any other is answered, if it is: in her edition it is no question
+abbrev pub replyOf : Bool → Answer → ℕ → Bool → List ℕ
+replyOf true answer contrast hook = markOf true
+replyOf false answer contrast hook = answerBytes answer contrast hook
+
+abbrev pub SharedCloses : Settings → List ℕ → List ℕ → Edition → ℕ → List ℕ → Obeyed → List ℕ → List ℕ → Type 0
+SharedCloses settings text picture edition state body obeyed text′ picture′ =
+    Closes (core settings text picture edition) state body (isSilence (obeyed .answer)) (replyOf (edition .sister) (obeyed .answer) (obeyed .settings .contrast) (obeyed .settings .hook))
+    (core (obeyed .settings) text′ picture′ edition)
+
+abbrev pub OwnCloses : Settings → List ℕ → List ℕ → Edition → ℕ → List ℕ → SisterObeyed → List ℕ → List ℕ → Type 0
+OwnCloses settings text picture edition state body obeyed text′ picture′ =
+    Closes (core settings text picture edition) state body (untold (obeyed .told)) (toldBytes (obeyed .told)) (core (obeyed .settings) text′ picture′ (obeyed .edition))
 
 -- what the loop leaves
 pub record Reads (start : State Core) (bytes before : List ℕ) (done : AfterBytes) (text picture frame after : List ℕ) : Type 0 where

@@ -3,12 +3,13 @@ use Prim.Native.Nat.{ℕ, suc, _+_, _-_, _*_, _≤_, _<_}
 use native.Mathlib.Omega.{arith}
 use native.Mathlib.Numerals.{add-one}
 use mathlib.Core.Path.{_≡_, refl, sym, ap, _∙_, subst}
-use mathlib.Core.Bool.{Bool, true, false, cond, true≢false}
+use mathlib.Core.Bool.{Bool, true, false, cond, _&&_, true≢false}
 use mathlib.Core.List.{List, [], _∷_, _++_}
+use mathlib.Core.Option.{Option, none, some}
 use lib.Dec.{eqb, ltb, leb}
 use lib.ListN.{length, take, set, getD, replicate, length-set}
 use lib.Seq.{take-suc-set, length-take-le}
-use borrow.Author.Tests.{eqb-true, eqb-false, ne-eqb, lt-ltb, le-ltb, ltb-true, leb-true, leb-false}
+use borrow.Author.Tests.{eqb-true, eqb-false, eq-eqb, ne-eqb, lt-ltb, le-ltb, ltb-true, leb-true, leb-false}
 use Rattle.lists.specs.Tests.{by-test}
 use Rattle.lists.specs.Codes.{escape, carriageReturn, blank}
 use Rattle.lists.specs.Padded.{padded}
@@ -30,17 +31,31 @@ use Rattle.turns.specs.Begins.{begins-with}
 use Rattle.effect.specs.declared.Obeyed.{Obeyed}
 use Rattle.record.specs.Core.{Core}
 use Rattle.effect.specs.Effect.{storeText}
-use Rattle.command.specs.Reading.{orderOf}
+use Rattle.command.specs.Order.{Order}
+use Rattle.command.specs.Reading.{orderFound}
+use Rattle.command.specs.Table.{classes, nextStates}
+use Rattle.command.specs.Found.{order-by}
 use Rattle.answer.specs.Answers.{answerBytes, isSilence, fits, countAfter, bufferAfter}
 use Rattle.answer.specs.Laws.{answer-not-empty}
 use Rattle.answer.specs.declared.Answer.{Answer}
 use Rattle.answer.specs.declared.Answer.the-variants.{Silence, QuestionMark, Contrast, Hook, Version}
-use Rattle.effect.specs.Obey.{obeyOrder, answerTo, core, Obeys}
+use Rattle.effect.specs.Obey.{answerTo, core, Obeys}
 use Rattle.effect.specs.Questions.{answered-same}
-use Rattle.effect.specs.Keeps.{CoreInRange, obey-keeps, store-keeps}
+use Rattle.effect.specs.Keeps.{CoreInRange, store-keeps}
+use Rattle.sister_answer.specs.Told.{toldBytes, isSilence as untold}
+use Rattle.sister_answer.specs.Laws as told
+use Rattle.sister_command.specs.Order.{AnyOrder}
+use Rattle.sister_command.specs.Order as order
+use Rattle.sister_command.specs.Reading.{asFirst, orderIn, readIn, ownFound, isOwn}
+use Rattle.sister_command.specs.Own.{own-found, shared-found}
+use Rattle.sister_command.specs.Agree.{agree-in}
+use Rattle.sister_effect.specs.declared.SisterObeyed.{SisterObeyed}
+use Rattle.sister_effect.specs.Obey.{obeyAny, answersTo, toldTo, markOf, SisterObeys}
+use Rattle.sister_effect.specs.Questions.{told-same, answers-told, shared-silent, obeys-first, answers-first}
+use Rattle.sister_effect.specs.Keeps.{frame-keeps}
 use Rattle.stream_places.specs.Places.{emptied, emptied-of}
 use Rattle.stream.specs.declared.AfterBytes.{AfterBytes}
-use Rattle.stream.specs.Stream.{handset, keptFrame, frameIn, InRow, columnAfter, textAfter, collecting, standing, recordOf, quietly, saying, answerFrom, Fits, Closes, Reads}
+use Rattle.stream.specs.Stream.{handset, keptFrame, frameIn, InRow, columnAfter, textAfter, collecting, standing, recordOf, quietly, saying, answerFrom, Fits, Closes, closesOwn, replyOf, SharedCloses, OwnCloses, Reads}
 
 -- the frame that the locals show
 shows-noFrame : (state len : ℕ) (bs : List ℕ) → state ≡ 0 → frameIn state len bs ≡ noFrame
@@ -92,46 +107,122 @@ silence-says Contrast p h = absurd (true≢false (sym h))
 silence-says Hook p h = absurd (true≢false (sym h))
 silence-says Version p h = absurd (true≢false (sym h))
 
+pub reply-not-empty : (sister : Bool) (contrast : ℕ) (hook : Bool) (answer : Answer) → isSilence answer ≡ false → 1 ≤ length (replyOf sister answer contrast hook)
+reply-not-empty true contrast hook answer h = omega arith
+reply-not-empty false contrast hook answer h = answer-not-empty contrast hook answer h
+
+pub mark-not-empty : (sister : Bool) → 1 ≤ length (markOf sister)
+mark-not-empty true = omega arith
+mark-not-empty false = omega arith
+
 shows-collecting : (state len : ℕ) (bs : List ℕ) → (state ≡ 0 → ⊥) → frameIn state len bs ≡ collecting state (take len bs)
 unfolding frameIn
 shows-collecting state len bs n = rw (ne-eqb state 0 n)
 
 -- CR in a frame ---------------------------------------------------------------------------------------------------
 
-module _ (p : Settings) (t g : List ℕ) (ed : Edition) (state : ℕ) (body : List ℕ) where
+module _ (c : Core) (state : ℕ) (body : List ℕ) where
   abbrev in-frame : State Core
-  in-frame = record { core = core p t g ed; frame = collecting state body }
+  in-frame = record { core = c; frame = collecting state body }
 
   -- of an overlong one
-  pub closes-long : (state ≡ 1 → ⊥) → Closes p t g ed state body (record { settings = p; answer = QuestionMark }) t g
-  closes-long n =
+  pub closes-long : (answer : List ℕ) → markOf (c .edition .sister) ≡ answer → (state ≡ 1 → ⊥) → Closes c state body false answer c
+  closes-long answer mark n =
       record {
         quiet = λ x. absurd (true≢false (sym x));
-        loud = λ x. step-ends-overlong handset in-frame carriageReturn (rw (ne-eqb state 1 n)) refl;
+        loud = λ x. step-ends-overlong handset in-frame carriageReturn (rw (ne-eqb state 1 n)) refl ∙ ap (λ (a : List ℕ). saying a (record { core = c; frame = noFrame })) mark;
         keeps = λ x. refl;
         range = λ x. x;
       }
 
   -- of a whole one
-  module _ (o : Obeyed) (t′ g′ : List ℕ) (e : state ≡ 1) (q : Obeys (orderOf body) (core p t g ed) o (core (o .settings) t′ g′ ed)) where
-    closing : step handset in-frame carriageReturn ≡ record { state = record { core = obeyOrder (core p t g ed) (orderOf body); frame = noFrame }; answers = answerFrom p (o .answer) }
-    closing = step-closes handset in-frame carriageReturn body (rw e) refl ∙ (λ j. record { state = record { core = obeyOrder (core p t g ed) (orderOf body); frame = noFrame }; answers = answerFrom p (sym (q .answer) j) })
+  abbrev found : Option AnyOrder
+  found = orderIn (c .edition .sister) body
 
-    obeyed : isSilence (o .answer) ≡ true → step handset in-frame carriageReturn ≡ quietly (record { core = core (o .settings) t′ g′ ed; frame = noFrame })
-    obeyed x =
-        closing ∙ (λ j. record { state = record { core = sym (q .same) j; frame = noFrame }; answers = silence-says (o .answer) p x j })
+  pub closes-whole : (silent : Bool) (answer : List ℕ) (after : Core) → state ≡ 1 → after ≡ obeyAny c found → (silent ≡ true → answersTo c found ≡ []) → (silent ≡ false → answersTo c found ≡ answer) → (silent ≡ false → c ≡ after)
+      → Closes c state body silent answer after
+  closes-whole silent answer after e same nothing says keeps =
+      let closing : step handset in-frame carriageReturn ≡ saying (answersTo c found) (record { core = after; frame = noFrame }) =
+      step-closes handset in-frame carriageReturn body (rw e) refl ∙ (λ j. record { state = record { core = sym same j; frame = noFrame }; answers = answersTo c found })
+      in
+      record {
+        quiet = λ x. closing ∙ ap (λ (a : List ℕ). saying a (record { core = after; frame = noFrame })) (nothing x);
+        loud = λ x. closing ∙ ap (λ (a : List ℕ). saying a (record { core = after; frame = noFrame })) (says x);
+        keeps = keeps;
+        range = λ k. subst CoreInRange (sym same) (frame-keeps c body k);
+      }
 
-    same-core′ : isSilence (o .answer) ≡ false → obeyOrder (core p t g ed) (orderOf body) ≡ core p t g ed
-    same-core′ x = answered-same (core p t g ed) (orderOf body) (ap isSilence (sym (q .answer)) ∙ x)
+-- what is found in a frame that is none of the sister's own, and what it is answered
+found-in : (sister : Bool) {class next : List ℕ} (body : List ℕ) → class ≡ classes → next ≡ nextStates → (sister && isOwn body) ≡ false → orderIn sister body ≡ asFirst (orderFound (readIn sister class next body) body)
+found-in true body p q h = shared-found body h
+found-in false body p q h = ap asFirst (sym (order-by body p q))
 
-    loud-keeps : isSilence (o .answer) ≡ false → core p t g ed ≡ core (o .settings) t′ g′ ed
-    loud-keeps x = sym (q .same ∙ same-core′ x)
+shared-quiet : (c : Core) (found : Option Order) → isSilence (answerTo found) ≡ true → answersTo c (asFirst found) ≡ []
+shared-quiet c none h = absurd (true≢false (sym h))
+shared-quiet c (some o) h = silence-says (answerTo (some o)) (c .settings) h
 
-    told : isSilence (o .answer) ≡ false → step handset in-frame carriageReturn ≡ saying (answerFrom (o .settings) (o .answer)) (record { core = core (o .settings) t′ g′ ed; frame = noFrame })
-    told x = closing ∙ (λ j. record { state = record { core = sym (q .same) j; frame = noFrame }; answers = answerFrom (loud-keeps x j .settings) (o .answer) })
+shared-loud : (sister : Bool) (c : Core) → c .edition .sister ≡ sister → (body : List ℕ) (found : Option Order) → orderIn sister body ≡ asFirst found → isSilence (answerTo found) ≡ false
+    → answersTo c (asFirst found) ≡ replyOf sister (answerTo found) (c .settings .contrast) (c .settings .hook)
+shared-loud true c e body none f h = ap markOf e
+shared-loud true c e body (some o) f h = absurd (true≢false (sym (ap isSilence (shared-silent o (agree-in true (order.first o) body .0 f))) ∙ h))
+shared-loud false c e body found f h = answers-first c e found
 
-    pub closes-whole : Closes p t g ed state body o t′ g′
-    closes-whole = record { quiet = obeyed; loud = told; keeps = loud-keeps; range = λ k. rw (q .same) (obey-keeps (core p t g ed) body k) }
+mark-reply : (sister : Bool) (contrast : ℕ) (hook : Bool) → markOf sister ≡ replyOf sister QuestionMark contrast hook
+mark-reply true contrast hook = refl
+mark-reply false contrast hook = refl
+
+module _ (p : Settings) (t g : List ℕ) (ed : Edition) (state : ℕ) (body : List ℕ) where
+  pub shared-long : (state ≡ 1 → ⊥) → SharedCloses p t g ed state body (record { settings = p; answer = QuestionMark }) t g
+  shared-long n = closes-long (core p t g ed) state body _ (mark-reply (ed .sister) (p .contrast) (p .hook)) n
+
+  module _ {class next : List ℕ} {sister : Bool} (a : class ≡ classes) (b : next ≡ nextStates) (same : ed .sister ≡ sister) (others : closesOwn state sister body ≡ false) where
+    pub shared-whole : (o : Obeyed) (t′ g′ : List ℕ) → state ≡ 1 → Obeys (orderFound (readIn sister class next body) body) (core p t g ed) o (core (o .settings) t′ g′ ed) → SharedCloses p t g ed state body o t′ g′
+    shared-whole o t′ g′ e q =
+        closes-whole (core p t g ed) state body (isSilence (o .answer)) (replyOf (ed .sister) (o .answer) (o .settings .contrast) (o .settings .hook)) (core (o .settings) t′ g′ ed) e
+        (q .same ∙ sym (obeys-first (core p t g ed) read) ∙ ap (obeyAny (core p t g ed)) (sym by-found))
+        (λ x. ap (answersTo (core p t g ed)) by-found ∙ shared-quiet (core p t g ed) read (ap isSilence (sym (q .answer)) ∙ x))
+        (λ x. ap (answersTo (core p t g ed)) by-found ∙ shared-loud sister (core p t g ed) same body read is-found (ap isSilence (sym (q .answer)) ∙ x)
+        ∙ (λ j. replyOf (sym same j) (sym (q .answer) j) (p .contrast) (p .hook))
+        ∙ ap (λ (c : Core). replyOf (ed .sister) (o .answer) (c .settings .contrast) (c .settings .hook)) (same-core′ x))
+        same-core′
+      where
+        read : Option Order
+        read = orderFound (readIn sister class next body) body
+
+        is-found : orderIn sister body ≡ asFirst read
+        is-found = found-in sister body a b (rw (eq-eqb state 1 e) at others)
+
+        by-found : orderIn (ed .sister) body ≡ asFirst read
+        by-found = ap (λ (s : Bool). orderIn s body) same ∙ is-found
+
+        same-core′ : isSilence (o .answer) ≡ false → core p t g ed ≡ core (o .settings) t′ g′ ed
+        same-core′ x = sym (q .same ∙ answered-same (core p t g ed) read (ap isSilence (sym (q .answer)) ∙ x))
+
+  -- a command of the sister's own
+  module _ (own : closesOwn state (ed .sister) body ≡ true) where
+    pub own-closes : (o : SisterObeyed) (t′ g′ : List ℕ) → SisterObeys (ownFound body) (core p t g ed) o (core (o .settings) t′ g′ (o .edition)) → OwnCloses p t g ed state body o t′ g′
+    own-closes o t′ g′ q =
+        closes-whole (core p t g ed) state body (untold (o .told)) (toldBytes (o .told)) (core (o .settings) t′ g′ (o .edition)) is-open
+        (q .same ∙ ap (obeyAny (core p t g ed)) (sym by-own))
+        (λ x. says ∙ told.silence-says (o .told) x) (λ x. says)
+        (λ x. sym (q .same ∙ told-same (core p t g ed) (ownFound body) (ap untold (sym (q .told)) ∙ x)))
+      where
+        hers : ((eqb state 1 && ed .sister) ≡ true) × (isOwn body ≡ true)
+        hers = both {a = eqb state 1 && ed .sister} own
+
+        is-open : state ≡ 1
+        is-open = eqb-true state 1 (both {a = eqb state 1} (hers .0) .0)
+
+        sister : ed .sister ≡ true
+        sister = both {a = eqb state 1} (hers .0) .1
+
+        by-own : orderIn (ed .sister) body ≡ ownFound body
+        by-own = ap (λ (s : Bool). orderIn s body) sister ∙ own-found body (hers .1)
+
+        says : answersTo (core p t g ed) (orderIn (ed .sister) body) ≡ toldBytes (o .told)
+        says =
+            ap (λ (s : Bool). answersTo (core p t g ed) (orderIn s body)) sister ∙ answers-told (core p t g ed) body sister
+            ∙ ap (λ (x : Option AnyOrder). toldBytes (toldTo (core p t g ed) x)) (own-found body (hers .1)) ∙ ap toldBytes (sym (q .told))
 
 -- A turn -------------------------------------------------------------------------------------------------------------
 
@@ -153,19 +244,19 @@ module _ (p : Settings) (t g : List ℕ) (ed : Edition) (state len : ℕ) (fr : 
   turn-skip e l n = step-skips handset here b (shows-noFrame state len fr e) l n
 
   -- ESC in a frame
-  pub loud-esc : (state ≡ 0 → ⊥) → b ≡ escape → step handset (standing p t g ed state len fr) b ≡ saying (answerFrom p QuestionMark) (standing p t g ed 1 0 fr)
-  loud-esc n h = step-abandons handset here b (shows-some state len fr n) h ∙ answered (answerFrom p QuestionMark) (core p t g ed) (sym (shows-new 0 fr refl))
+  pub loud-esc : (state ≡ 0 → ⊥) → b ≡ escape → step handset (standing p t g ed state len fr) b ≡ saying (markOf (ed .sister)) (standing p t g ed 1 0 fr)
+  loud-esc n h = step-abandons handset here b (shows-some state len fr n) h ∙ answered (markOf (ed .sister)) (core p t g ed) (sym (shows-new 0 fr refl))
 
   -- CR in a frame
-  module _ {o : Obeyed} {t′ g′ : List ℕ} (n : state ≡ 0 → ⊥) (e : b ≡ carriageReturn) (k : Closes p t g ed state (take len fr) o t′ g′) where
+  module _ {silent : Bool} {answer : List ℕ} {p′ : Settings} {t′ g′ : List ℕ} {ed′ : Edition} (n : state ≡ 0 → ⊥) (e : b ≡ carriageReturn) (k : Closes (core p t g ed) state (take len fr) silent answer (core p′ t′ g′ ed′)) where
     ended : step handset (standing p t g ed state len fr) b ≡ step handset (record { core = core p t g ed; frame = collecting state (take len fr) }) carriageReturn
     ended = λ j. step handset (record { core = core p t g ed; frame = shows-collecting state len fr n j }) (e j)
 
-    pub turn-quiet : isSilence (o .answer) ≡ true → step handset (standing p t g ed state len fr) b ≡ quietly (standing (o .settings) t′ g′ ed 0 0 fr)
-    turn-quiet x = ended ∙ k .quiet x ∙ inSilence (core (o .settings) t′ g′ ed) (sym (shows-noFrame 0 0 fr refl))
+    pub turn-quiet : silent ≡ true → step handset (standing p t g ed state len fr) b ≡ quietly (standing p′ t′ g′ ed′ 0 0 fr)
+    turn-quiet x = ended ∙ k .quiet x ∙ inSilence (core p′ t′ g′ ed′) (sym (shows-noFrame 0 0 fr refl))
 
-    pub loud-return : isSilence (o .answer) ≡ false → step handset (standing p t g ed state len fr) b ≡ saying (answerFrom (o .settings) (o .answer)) (standing (o .settings) t′ g′ ed 0 0 fr)
-    loud-return x = ended ∙ k .loud x ∙ answered (answerFrom (o .settings) (o .answer)) (core (o .settings) t′ g′ ed) (sym (shows-noFrame 0 0 fr refl))
+    pub loud-return : silent ≡ false → step handset (standing p t g ed state len fr) b ≡ saying answer (standing p′ t′ g′ ed′ 0 0 fr)
+    loud-return x = ended ∙ k .loud x ∙ answered answer (core p′ t′ g′ ed′) (sym (shows-noFrame 0 0 fr refl))
 
   -- any other byte in a frame
   pub turn-collect : Fits state len fr → state ≡ 1 → (b ≡ escape → ⊥) → (b ≡ carriageReturn → ⊥) → len < limit → step handset (standing p t g ed state len fr) b ≡ quietly (standing p t g ed state (len + 1) (set fr len b))
@@ -225,14 +316,14 @@ pub record Going (bytes before : List ℕ) (s : State Core) (answers : List ℕ)
   pub fits : Fits state len fr
 
 module _ {bytes before : List ℕ} {s : State Core} {answers : List ℕ} {p : Settings} {t g : List ℕ} {ed : Edition} {state len : ℕ} {fr : List ℕ} {i w : ℕ} (k : Going bytes before s answers p t g ed state len fr i w) (h : i < length bytes) where
-  pub go-quiet : {p′ : Settings} {t′ g′ : List ℕ} {state′ len′ : ℕ} {fr′ : List ℕ} → CoreInRange (core p′ t′ g′ ed) → Fits state′ len′ fr′ → step handset (standing p t g ed state len fr) (getD bytes i 0) ≡ quietly (standing p′ t′ g′ ed state′ len′ fr′)
-      → Going bytes before s answers p′ t′ g′ ed state′ len′ fr′ (i + 1) w
+  pub go-quiet : {p′ : Settings} {t′ g′ : List ℕ} {ed′ : Edition} {state′ len′ : ℕ} {fr′ : List ℕ} → CoreInRange (core p′ t′ g′ ed′) → Fits state′ len′ fr′ → step handset (standing p t g ed state len fr) (getD bytes i 0) ≡ quietly (standing p′ t′ g′ ed′ state′ len′ fr′)
+      → Going bytes before s answers p′ t′ g′ ed′ state′ len′ fr′ (i + 1) w
   go-quiet x y e = record { account = Loop.go-quiet (step handset) (k .account) (begins-with bytes i 0 h) _ e; range = x; fits = y }
 
   -- an answer is written whole, and the count says so,
-  pub go-loud : {p′ : Settings} {t′ g′ : List ℕ} {state′ len′ : ℕ} {fr′ : List ℕ} {w′ : ℕ} {answers′ answer : List ℕ} → CoreInRange (core p′ t′ g′ ed) → Fits state′ len′ fr′ → step handset (standing p t g ed state len fr) (getD bytes i 0) ≡ saying answer (standing p′ t′ g′ ed state′ len′ fr′)
-      → w′ ≡ countAfter answers w answer → answers′ ≡ bufferAfter answers w answer → w < w′ → Going bytes before s answers′ p′ t′ g′ ed state′ len′ fr′ (i + 1) w′
-  go-loud {p′} {t′} {g′} {state′} {len′} {fr′} {w′} {answers′} {answer} x y e m n more =
+  pub go-loud : {p′ : Settings} {t′ g′ : List ℕ} {ed′ : Edition} {state′ len′ : ℕ} {fr′ : List ℕ} {w′ : ℕ} {answers′ answer : List ℕ} → CoreInRange (core p′ t′ g′ ed′) → Fits state′ len′ fr′ → step handset (standing p t g ed state len fr) (getD bytes i 0) ≡ saying answer (standing p′ t′ g′ ed′ state′ len′ fr′)
+      → w′ ≡ countAfter answers w answer → answers′ ≡ bufferAfter answers w answer → w < w′ → Going bytes before s answers′ p′ t′ g′ ed′ state′ len′ fr′ (i + 1) w′
+  go-loud {p′} {t′} {g′} {ed′} {state′} {len′} {fr′} {w′} {answers′} {answer} x y e m n more =
       by-test (fits answers w answer)
       (λ room.
       let there : w + length answer ≤ length answers = leb-true (w + length answer) (length answers) room in

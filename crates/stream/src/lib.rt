@@ -9,7 +9,10 @@ ghost use Rattle.record.specs.Parts.{together};
 ghost use Rattle.record.specs.declared.Edition.{Edition as KeptEdition};
 ghost use Rattle.command.specs.Table.{classes, nextStates};
 ghost use Rattle.stream.specs.Turns.{Stores, Ends, Drops, Collects};
-ghost use Rattle.stream.specs.Stream.{InRow, lentOf, standing, fedOf, answersAfter, Ready, Closes, Reads};
+ghost use mathlib.Core.Bool.{true, false};
+ghost use Rattle.answer.specs.Answers.{countAfter, bufferAfter};
+ghost use Rattle.sister_effect.specs.Obey.{markOf};
+ghost use Rattle.stream.specs.Stream.{InRow, lentOf, standing, fedOf, answersAfter, closesOwn, replyOf, Ready, SharedCloses, Reads};
 use answer::Answer;
 use command::NextStates;
 use effect::Obeyed;
@@ -29,6 +32,7 @@ use record::Record;
 use record::Settings;
 use record::Small;
 use record::Text;
+use sister_answer::Told;
 
 pub struct Fed {
     pub number: Number,
@@ -131,26 +135,67 @@ fn store_all(text: &mut Text, start: usize, column: u8, end: u8, bytes: &[u8], f
     }
 }
 
-// CR in a frame: a whole one is obeyed, if it is good. One that is not, and an overlong one, gets a question mark.
+// CR in a frame that spells no command of the sister's own: a whole one is obeyed, if it is good. One that is not, and an overlong one, gets a question mark.
 fn close(
     settings: Settings,
     text: &mut Text,
     picture: &mut Picture,
     frame: &[u8],
     state: u8,
+    sister: bool,
     class: &Classes,
     next: &NextStates,
 ) -> Obeyed
     requires { ⌜ (now class ≡ classes) × (now next ≡ nextStates) ⌝ }
-    ensures { λ o. ⌜ ((e : KeptEdition) → Closes settings (now (text .entry)) (now (picture .entry)) e state (now (frame .entry)) o (now (text .exit)) (now (picture .exit))) ⌝ }
+    requires { ⌜ closesOwn state sister (now frame) ≡ false ⌝ }
+    ensures { λ o. ⌜ ((e : KeptEdition) → e .sister ≡ sister → SharedCloses settings (now (text .entry)) (now (picture .entry)) e state (now (frame .entry)) o (now (text .exit)) (now (picture .exit))) ⌝ }
 {
     if state == OPEN {
-        return effect::obey(settings, text, picture, frame, class, next);
+        return effect::obey(settings, text, picture, frame, sister, class, next);
     }
     Obeyed {
         settings: settings,
         answer: Answer::QuestionMark,
     }
+}
+
+// Whether CR closes a frame that spells a command of the sister's own.
+fn closes_own(state: u8, sister: bool, frame: &[u8]) -> bool
+    ensures { λ r. ⌜ r ≡ closesOwn state sister (now (frame .entry)) ⌝ }
+{
+    if (state == OPEN) & sister {
+        return sister_command::is_own(frame);
+    }
+    false
+}
+
+// The mark of a bad frame behind what is written, if all of it has room there: how much is written then.
+fn mark(answers: &mut [u8], written: usize, sister: bool) -> usize
+    ensures { λ r. ⌜ r ≡ countAfter (now (answers .entry)) written (markOf sister) ⌝ }
+    ensures { λ r. ⌜ now (answers .exit) ≡ bufferAfter (now (answers .entry)) written (markOf sister) ⌝ }
+{
+    if sister {
+        return sister_answer::tell(answers, written, Told::Mark);
+    }
+    answer::say(answers, written, Answer::QuestionMark, 0, false)
+}
+
+// What a frame is answered that is none of the sister's own: in her edition such a one is no question.
+fn reply(
+    answers: &mut [u8],
+    written: usize,
+    sister: bool,
+    said: Answer,
+    contrast: u8,
+    hook: bool,
+) -> usize
+    ensures { λ r. ⌜ r ≡ countAfter (now (answers .entry)) written (replyOf sister said contrast hook) ⌝ }
+    ensures { λ r. ⌜ now (answers .exit) ≡ bufferAfter (now (answers .entry)) written (replyOf sister said contrast hook) ⌝ }
+{
+    if sister {
+        return mark(answers, written, true);
+    }
+    answer::say(answers, written, said, contrast, hook)
 }
 
 // Collects bytes of an open frame, as long as they come and it has room: how many. Most bytes that are not text are collected, so this loop is as short as that of text. The first byte is known to be one of them, so the reader gets on.
@@ -177,7 +222,7 @@ fn read(
     text: &mut Text,
     picture: &mut Picture,
     frame: &mut [u8],
-    edition: Edition,
+    mut edition: Edition,
     mut state: u8,
     mut len: usize,
     bytes: &[u8],
@@ -210,13 +255,7 @@ fn read(
             continue;
         }
         if b == ESCAPE {
-            let told = answer::say(
-                answers,
-                w,
-                Answer::QuestionMark,
-                settings.contrast,
-                settings.hook,
-            );
+            let told = mark(answers, w, edition.sister);
             if w < told {
                 w = told;
                 state = OPEN;
@@ -234,7 +273,52 @@ fn read(
             };
         }
         if b == CARRIAGE_RETURN {
-            let o = close(settings, text, picture, &frame[..len], state, class, next);
+            if closes_own(state, edition.sister, &frame[..len]) {
+                let hers = sister_effect::obey_own_frame(
+                    settings,
+                    edition,
+                    text,
+                    picture,
+                    &frame[..len],
+                );
+                let said = hers.told;
+                let obeyed = hers.settings;
+                let kept = hers.edition;
+                settings = obeyed;
+                edition = kept;
+                if sister_answer::is_silence(said) {
+                    state = NO_FRAME;
+                    len = 0;
+                    i += 1;
+                    continue;
+                }
+                let told = sister_answer::tell(answers, w, said);
+                if w < told {
+                    w = told;
+                    state = NO_FRAME;
+                    len = 0;
+                    i += 1;
+                    continue;
+                }
+                return AfterBytes {
+                    settings: settings,
+                    edition: edition,
+                    state: state,
+                    len: len,
+                    used: i,
+                    written: w,
+                };
+            }
+            let o = close(
+                settings,
+                text,
+                picture,
+                &frame[..len],
+                state,
+                edition.sister,
+                class,
+                next,
+            );
             let said = o.answer;
             let obeyed = o.settings;
             settings = obeyed;
@@ -244,7 +328,14 @@ fn read(
                 i += 1;
                 continue;
             }
-            let told = answer::say(answers, w, said, settings.contrast, settings.hook);
+            let told = reply(
+                answers,
+                w,
+                edition.sister,
+                said,
+                settings.contrast,
+                settings.hook,
+            );
             if w < told {
                 w = told;
                 state = NO_FRAME;

@@ -5,6 +5,7 @@ use native.Mathlib.Omega.{arith}
 use mathlib.Core.Path.{_≡_, refl, sym, ap, _∙_, subst}
 use mathlib.Core.Bool.{Bool, true, false}
 use mathlib.Core.List.{List, [], _∷_, _++_}
+use mathlib.Core.Option.{some}
 use lib.Dec.{eqb, leb}
 use lib.ListN.{length, length-drop, take, drop}
 use lib.Seq.{take-add, take-all, take-append-seam}
@@ -22,13 +23,21 @@ use Rattle.parting.specs.Rules.{Frame, noFrame, openFrame, overlong}
 use Rattle.parting.specs.Meaning.{State, Taken}
 use Rattle.parting.specs.Reading.{step, stepFrom, reading, step-closes}
 use Rattle.parting.specs.Room.{run}
-use Rattle.record.specs.Core.{Core}
+use Rattle.record.specs.Core.{Core, coreOf}
 use Rattle.effect.specs.Obey.{answerTo}
 use Rattle.command.specs.declared.Command.the-variants.{VersionAsked}
 use Rattle.command.specs.Order.{plain}
-use Rattle.command.specs.Grammar.{Spells}
 use Rattle.command.specs.Reading.{orderOf}
-use Rattle.command.specs.Agree.{agree}
+use Rattle.sister_command.specs.declared.SisterCommand.the-variants.{Asked}
+use Rattle.sister_command.specs.declared.Question.the-variants.{Version}
+use Rattle.sister_command.specs.Order as any
+use Rattle.sister_command.specs.Order.{AnyOrder, own}
+use Rattle.sister_command.specs.Grammar.{SpellsIn}
+use Rattle.sister_command.specs.Reading.{sisterOrderOf, orderIn}
+use Rattle.sister_command.specs.Agree.{agree-in}
+use Rattle.sister_effect.specs.Obey.{markOf, answersTo, toldTo}
+use Rattle.sister_effect.specs.Questions.{answers-told, answers-first}
+use Rattle.sister_answer.specs.Laws.{told-at-most}
 use Rattle.answer.specs.Answers.{heads}
 use Rattle.answer.specs.Laws.{answer-at-most, heads-append}
 use Rattle.stream.specs.Stream.{handset, stateOf, recordOf, fedOf, answersAfter}
@@ -40,46 +49,73 @@ use Rattle.stream_input.specs.Heard.{greatest, capped, recordAfter, repl
 
 -- Progress ----------------------------------------------------------------------------------------------------------
 
--- the longest answer, the version's
-abbrev pub longest : ℕ
-longest = 29
+-- the longest answer of each edition, and the question that gets it: the version's
+abbrev pub longest : Bool → ℕ
+longest true = 31
+longest false = 29
 
-abbrev AtMostLongest : Taken Core → Type 0
-AtMostLongest taken = length (taken .answers) ≤ longest
+abbrev pub versionAsked : Bool → AnyOrder
+versionAsked true = own (Asked Version)
+versionAsked false = any.first (plain VersionAsked)
 
--- A byte is answered with 29 bytes at most.
-pub one-answer : (state : State Core) (b : ℕ) → length (step handset state b .answers) ≤ longest
+abbrev AtMostLongest : Core → Taken Core → Type 0
+AtMostLongest core taken = length (taken .answers) ≤ longest (core .edition .sister)
+
+answers-at-most : (c : Core) (body : List ℕ) → length (answersTo c (orderIn (c .edition .sister) body)) ≤ longest (c .edition .sister)
+answers-at-most c body = go (c .edition .sister) refl
+  where
+    go : (sister : Bool) → c .edition .sister ≡ sister → length (answersTo c (orderIn sister body)) ≤ longest sister
+    go true h = rw (answers-told c body h) (told-at-most (toldTo c (sisterOrderOf body)))
+    go false h = rw (answers-first c h (orderOf body)) (answer-at-most (c .settings .contrast) (c .settings .hook) (answerTo (orderOf body)))
+
+mark-at-most : (sister : Bool) → length (markOf sister) ≤ longest sister
+mark-at-most true = omega arith
+mark-at-most false = omega arith
+
+-- A byte is answered with 29 bytes at most, of the sister's with 31.
+pub one-answer : (state : State Core) (b : ℕ) → length (step handset state b .answers) ≤ longest (state .core .edition .sister)
 unfolding step
 one-answer state b = go (state .frame)
   where
-    go : (frame : Frame) → AtMostLongest (stepFrom handset (state .core) frame b)
-    go noFrame = either-way AtMostLongest (eqb b escape) (λ e. omega arith) (λ e. either-way AtMostLongest (leb blank b) (λ f. omega arith) (λ f. omega arith))
-    go (openFrame body) =
-        either-way AtMostLongest (eqb b escape) (λ e. omega arith)
-        (λ e. either-way AtMostLongest (eqb b carriageReturn) (λ f. answer-at-most (state .core .settings .contrast) (state .core .settings .hook) (answerTo (orderOf body))) (λ f. omega arith))
-    go overlong = either-way AtMostLongest (eqb b escape) (λ e. omega arith) (λ e. either-way AtMostLongest (eqb b carriageReturn) (λ f. omega arith) (λ f. omega arith))
+    none : 0 ≤ longest (state .core .edition .sister)
+    none = omega arith
 
-run-goes-on : (state : State Core) (bytes : List ℕ) (room : ℕ) → longest ≤ room → 0 < length bytes → 0 < run handset state bytes room .used
+    mark : length (markOf (state .core .edition .sister)) ≤ longest (state .core .edition .sister)
+    mark = mark-at-most (state .core .edition .sister)
+
+    go : (frame : Frame) → AtMostLongest (state .core) (stepFrom handset (state .core) frame b)
+    go noFrame = either-way (AtMostLongest (state .core)) (eqb b escape) (λ e. none) (λ e. either-way (AtMostLongest (state .core)) (leb blank b) (λ f. none) (λ f. none))
+    go (openFrame body) =
+        either-way (AtMostLongest (state .core)) (eqb b escape) (λ e. mark) (λ e. either-way (AtMostLongest (state .core)) (eqb b carriageReturn) (λ f. answers-at-most (state .core) body) (λ f. none))
+    go overlong = either-way (AtMostLongest (state .core)) (eqb b escape) (λ e. mark) (λ e. either-way (AtMostLongest (state .core)) (eqb b carriageReturn) (λ f. mark) (λ f. none))
+
+run-goes-on : (state : State Core) (bytes : List ℕ) (room : ℕ) → longest (state .core .edition .sister) ≤ room → 0 < length bytes → 0 < run handset state bytes room .used
 unfolding Room.run
 run-goes-on state [] room l m = omega arith
 run-goes-on state (b ∷ rest) room l m = rw (le-leb (length (step handset state b .answers)) room (omega (arith, one-answer state b))) (omega arith)
 
 -- So a call that is offered a byte uses one, if its room takes the longest answer.
-pub goes-on : (r : Record) (bytes : List ℕ) (room : ℕ) → inRange r ≡ true → longest ≤ room → 0 < length bytes → 0 < fedOf r bytes room .used
+pub goes-on : (r : Record) (bytes : List ℕ) (room : ℕ) → inRange r ≡ true → longest (r .edition .sister) ≤ room → 0 < length bytes → 0 < fedOf r bytes room .used
 unfolding fedOf
 goes-on r bytes room h l m = rw h (run-goes-on (stateOf r) bytes room l m)
 
--- With less room it does not get past the question for the version: where that frame is open, its CR is not used, whatever follows.
-run-waits : (state : State Core) (frame rest : List ℕ) (room : ℕ) → Spells (plain VersionAsked) frame → state .frame ≡ openFrame frame → room < longest
-    → run handset state (carriageReturn ∷ rest) room .used ≡ 0
-unfolding Room.run
-run-waits state frame rest room s f l =
-    rw (step-closes handset state carriageReturn frame f refl, agree (plain VersionAsked) frame .1 s, lt-leb longest room l)
+version-answer : (c : Core) → length (answersTo c (some (versionAsked (c .edition .sister)))) ≡ longest (c .edition .sister)
+version-answer c = by-test (c .edition .sister) (λ h. rw h) (λ h. rw h)
 
-pub waits-for-room : (r : Record) (frame rest : List ℕ) (room : ℕ) → inRange r ≡ true → Spells (plain VersionAsked) frame → stateOf r .frame ≡ openFrame frame → room < longest
-    → fedOf r (carriageReturn ∷ rest) room .used ≡ 0
-unfolding fedOf
-waits-for-room r frame rest room h s f l = rw h (run-waits (stateOf r) frame rest room s f l)
+-- With less room it does not get past the question for the version: where that frame is open, its CR is not used, whatever follows.
+module _ (r : Record) (frame rest : List ℕ) (room : ℕ) where
+  abbrev sister : Bool
+  sister = r .edition .sister
+
+  run-waits : SpellsIn sister (versionAsked sister) frame → stateOf r .frame ≡ openFrame frame → room < longest sister → run handset (stateOf r) (carriageReturn ∷ rest) room .used ≡ 0
+  unfolding Room.run
+  run-waits s f l =
+      let found = agree-in sister (versionAsked sister) frame .1 s in
+      rw (step-closes handset (stateOf r) carriageReturn frame f refl, found, version-answer (coreOf r), lt-leb (longest sister) room l)
+
+  pub waits-for-room : inRange r ≡ true → SpellsIn sister (versionAsked sister) frame → stateOf r .frame ≡ openFrame frame → room < longest sister → fedOf r (carriageReturn ∷ rest) room .used ≡ 0
+  unfolding fedOf
+  waits-for-room h s f l = rw h (run-waits s f l)
 
 -- One call ----------------------------------------------------------------------------------------------------------
 
@@ -168,6 +204,10 @@ heard-then before first second =
 
 -- Pieces ------------------------------------------------------------------------------------------------------------
 
+longest-fits : (sister : Bool) → longest sister ≤ 64
+longest-fits true = omega arith
+longest-fits false = omega arith
+
 -- a piece heard up to this place
 pub record SoFar (start : Heard) (piece : List ℕ) (now : Heard) (at : ℕ) : Type 0 where
   pub within : at ≤ length piece
@@ -193,7 +233,7 @@ module _ {start : Heard} {piece : List ℕ} {now : Heard} {at : ℕ} (so-far : S
 
   -- A room of 64 makes progress before the end of the piece,
   pub progress : inRange (start .record) ≡ true → at < length piece → 0 < fedOf (now .record) rest 64 .used
-  progress h l = goes-on (now .record) rest 64 (good h) (omega arith) (omega (arith, rest-length))
+  progress h l = goes-on (now .record) rest 64 (good h) (longest-fits (now .record .edition .sister)) (omega (arith, rest-length))
 
   -- and the piece is heard as far as the call used it.
   pub further : (call : Call) → call ≡ callOf (now .record) rest 64 → (call .fed .used ≡ 0 → ⊥)

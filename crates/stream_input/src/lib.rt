@@ -10,7 +10,7 @@ ghost use Rattle.stream_input.specs.Heard.{capped, recordAfter, repliesT
 use record::Record;
 use stream::Fed;
 
-// Any room does that takes the longest answer, the version's 29 bytes.
+// Any room does that takes the longest answer, the sister's version of 31 bytes.
 const ROOM: usize = 64;
 
 // The record after the stream, how many answers there were, and whether the input failed before its end.

@@ -1,8 +1,8 @@
 // Writes the frames of a collector from lines of plain words. Its input, a file or standard input, has a command on each line;
 // standard output gets the bytes of its frame, through the proved writers. A line that can't be taken is named on standard error,
 // with its number and the reason, and nothing of it is written. Words are parted by blanks and numbers have one to three digits, without leading zeros.
-// An empty line says nothing, and so does one that begins with #. A line has at most 1024 bytes, and may end with CR LF. The
-// usage below has the lines.
+// An empty line says nothing, and so does one that begins with #. A line has at most 1024 bytes, and may end with CR LF. With
+// --sister the frames are those of the sister handset. The usage below has the lines.
 ghost use Prim.Native.Nat.{_≤_};
 ghost use lib.ListN.{length};
 use command::Command;
@@ -17,6 +17,10 @@ use numeral::read_number;
 use picture::MOST_COLUMNS;
 use program::Input;
 use record::Number;
+use sister_command::LightChange;
+use sister_command::Question;
+use sister_command::SisterCommand;
+use sister_command::Step;
 use writer::Written;
 
 // Past every place of a line, and past every count of digits; it is odd, as no count of whole columns is.
@@ -30,6 +34,11 @@ const NUMBER_SIGN: u8 = b'#';
 
 // Stands there before the words of a range.
 const COLON: u8 = b':';
+
+// Stand there before a phrase that only the first edition has, and one that only the sister has.
+const FIRST_ONLY: u8 = b'<';
+
+const SISTER_ONLY: u8 = b'>';
 
 // The lines of the table are counted from 1.
 const NO_PHRASE: u8 = 0;
@@ -56,6 +65,9 @@ const FIRST_COMMAND: u8 = 9;
 
 // The number of the command that light off says with a 0.
 const LIGHT: u8 = 20;
+
+// The sister's own commands follow those of the first edition.
+const FIRST_OWN: u8 = 33;
 
 const LAST_ROW: u16 = record::LAST_ROW as u16;
 
@@ -86,8 +98,10 @@ struct Given {
     end: usize,
 }
 
-// The number of the line that is being read, and how many of its bytes are held; NOWHERE of a line that is too long.
+// Whether the lines are the sister's, the number of the one that is being read, and how many of its bytes are held; NOWHERE of a line
+// that is too long.
 struct Reading {
+    sister: bool,
     number: u64,
     held: usize,
 }
@@ -127,6 +141,18 @@ fn send(room: &[u8], w: Written) -> Outcome {
 fn send_command(c: Command) -> Outcome {
     let mut room = [0u8; 200];
     let w = writer::write_command(c, &mut room);
+    send(&room, w)
+}
+
+fn send_own(c: SisterCommand) -> Outcome {
+    let mut room = [0u8; 200];
+    let w = writer::write_own(c, &mut room);
+    send(&room, w)
+}
+
+fn send_shared(c: Command) -> Outcome {
+    let mut room = [0u8; 200];
+    let w = writer::write_shared(c, &mut room);
     send(&room, w)
 }
 
@@ -192,6 +218,23 @@ fn behind_sign(line: &[u8], at: usize, sign: u8) -> usize {
     NOWHERE
 }
 
+// The place, unless the phrase is the other edition's.
+fn unless(other: bool, at: usize) -> usize {
+    if other {
+        return NOWHERE;
+    }
+    at
+}
+
+// Where a line goes on behind one sign of a phrase; a mark has no place in it.
+fn follow(line: &[u8], at: usize, sign: u8, sister: bool) -> usize {
+    match sign {
+        FIRST_ONLY => unless(sister, at),
+        SISTER_ONLY => unless(!sister, at),
+        _ => behind_sign(line, at, sign),
+    }
+}
+
 // The place behind the one blank that ends a word; 0 where the word goes on, and at NOWHERE.
 fn behind_word(line: &[u8], at: usize) -> usize
     ensures { λ r. ⌜ r ≤ length (now (line .entry)) ⌝ }
@@ -207,8 +250,9 @@ fn behind_word(line: &[u8], at: usize) -> usize
     0
 }
 
-// The longest phrase of the table that a line has from this place on. At NOWHERE the rest of a line of the table is passed by.
-fn find(phrases: &[u8], line: &[u8], start: usize) -> Found
+// The longest phrase of the table, in that edition, that a line has from this place on. At NOWHERE the rest of a line of the table is
+// passed by.
+fn find(phrases: &[u8], line: &[u8], start: usize, sister: bool) -> Found
     ensures { λ r. ⌜ (r .behind ≤ length (now (phrases .entry))) × (r .at ≤ length (now (line .entry))) ⌝ }
 {
     let mut found = NO_PHRASE;
@@ -219,7 +263,7 @@ fn find(phrases: &[u8], line: &[u8], start: usize) -> Found
     for i in 0..phrases.len() {
         let sign = phrases[i];
         if (sign != NUMBER_SIGN) & (sign != COLON) & (sign != LINE_FEED) {
-            at = behind_sign(line, at, sign);
+            at = follow(line, at, sign, sister);
             continue;
         }
         let tail = behind_word(line, at);
@@ -276,8 +320,58 @@ fn wanted(behind: &[u8]) -> usize
     seek(behind, 0, NUMBER_SIGN, false)
 }
 
+// A command of the sister's own, in the order of the table; any kind above the others is the last.
+fn own_of(kind: u8, a: u16, b: u16) -> SisterCommand {
+    match kind {
+        0 => SisterCommand::Cursor(a),
+        1 => SisterCommand::Restart,
+        2 => SisterCommand::Mode(a),
+        3 => SisterCommand::Light(a),
+        4 => SisterCommand::Light(0),
+        5 => SisterCommand::LightTo(LightChange::On),
+        6 => SisterCommand::LightTo(LightChange::AutoStart),
+        7 => SisterCommand::LightTo(LightChange::Auto),
+        8 => SisterCommand::LightTo(LightChange::PwmOn),
+        9 => SisterCommand::LightTo(LightChange::PwmAuto),
+        10 => SisterCommand::LightTo(LightChange::Restart),
+        11 => SisterCommand::LightTo(LightChange::KeypadSet),
+        12 => SisterCommand::LightTo(LightChange::KeypadClearedStart),
+        13 => SisterCommand::LightTo(LightChange::KeypadCleared),
+        14 => SisterCommand::IconU(a),
+        15 => SisterCommand::Brightness(a),
+        16 => SisterCommand::KeyTimes(a, b),
+        17 => SisterCommand::Speaker(a),
+        18 => SisterCommand::Asked(Question::Position),
+        19 => SisterCommand::Asked(Question::Version),
+        20 => SisterCommand::Asked(Question::Hook),
+        21 => SisterCommand::Asked(Question::Ptt),
+        22 => SisterCommand::Asked(Question::Contrast),
+        23 => SisterCommand::Asked(Question::Mode),
+        24 => SisterCommand::Asked(Question::Light),
+        25 => SisterCommand::Asked(Question::Brightness),
+        26 => SisterCommand::Asked(Question::Times),
+        27 => SisterCommand::Asked(Question::Speaker),
+        28 => SisterCommand::Step(Step::ContrastUp),
+        29 => SisterCommand::Step(Step::ContrastDown),
+        30 => SisterCommand::Step(Step::BrightnessUp),
+        31 => SisterCommand::Step(Step::BrightnessDown),
+        32 => SisterCommand::Step(Step::SpeakerUp),
+        _ => SisterCommand::Step(Step::SpeakerDown),
+    }
+}
+
+fn send_numbered(kind: u8, a: u16, b: u16, sister: bool) -> Outcome {
+    if FIRST_OWN <= kind {
+        return send_own(own_of(kind - FIRST_OWN, a, b));
+    }
+    if sister {
+        return send_shared(command_of(kind, a, b));
+    }
+    send_command(command_of(kind, a, b))
+}
+
 // A command by its number, and the words behind its phrase: as many numbers as are wanted, and nothing else.
-fn obey_command(kind: u8, most: usize, words: &[u8]) -> Outcome {
+fn obey_command(kind: u8, most: usize, words: &[u8], sister: bool) -> Outcome {
     let first = next_number(words, 0, 0 < most);
     let second = next_number(words, first.end, 1 < most);
     let n = first.number;
@@ -288,7 +382,7 @@ fn obey_command(kind: u8, most: usize, words: &[u8]) -> Outcome {
     if (n == NO_NUMBER) | (m == NO_NUMBER) {
         return Outcome::BadNumbers;
     }
-    send_command(command_of(kind, n, m))
+    send_numbered(kind, n, m, sister)
 }
 
 // Picture rows.
@@ -360,7 +454,7 @@ fn obey_picture(words: &[u8]) -> Outcome {
 
 // The usage, which --help asks for; its lines, which a line help asks for. Tells whether the program goes on.
 fn usage(asked_by_line: bool) -> bool {
-    let text = b"usage: ./run write_frame [FILE]\n\
+    let text = b"usage: ./run write_frame [--sister] [FILE]\n\
         Reads lines from FILE, or from standard input without one, and writes the bytes of their frames. The lines:\n\
         display on | display off\n\
         mode N                    text mode 0 1 5 6 10, or overlay 11 to 18\n\
@@ -388,12 +482,25 @@ fn usage(asked_by_line: bool) -> bool {
         picture ROW COLUMNS       row 0-6; 1 to 96 columns, two digits 0-9 A-F each, blanks between them or not\n\
         text TEXT                 all behind one blank, as it is and in no frame; codes 0x20-0xFF\n\
         frame TEXT                a frame as it is typed, good, bad or out of range: ESC, all behind one blank, CR LF\n\
-        help                      these lines, on standard error\n";
+        help                      these lines, on standard error\n\
+        --sister writes the frames of the sister handset (AN1900). She has no cursor show, cursor hide, handsfree note and light default, but:\n\
+        mode N                    0-3 for the text modes 0 1 5 6, 4 for mode 10, 5-12 for the overlays 11 to 18\n\
+        cursor N                  1 shown, 0 not\n\
+        icon U N                  0-2; 2 flashes\n\
+        times N N                 as above, or 0 0\n\
+        light N                   the duration, 1-250 s; 0 for off\n\
+        light pwm on | light pwm auto\n\
+        light restart             its time starts anew, in auto\n\
+        keypad off start          keypad off, and its time starts anew\n\
+        brightness N | speaker N  0-100 | 0-7\n\
+        contrast up | contrast down, and so brightness and speaker\n\
+        restart                   as at power-on, but for what is stored\n\
+        ask position | ask ptt | ask mode | ask light | ask brightness | ask times | ask speaker\n";
     if asked_by_line {
         program::tell_help(text);
         return true;
     }
-    program::accepts(b"write_frame", text, b"", true)
+    program::accepts(b"write_frame", text, b"--sister\n", true)
 }
 
 fn help() -> Outcome {
@@ -402,9 +509,9 @@ fn help() -> Outcome {
 }
 
 // A phrase of the table, how many numbers it wants, and all that stands behind it.
-fn obey_phrase(phrase: u8, most: usize, rest: &[u8]) -> Outcome {
+fn obey_phrase(phrase: u8, most: usize, rest: &[u8], sister: bool) -> Outcome {
     if FIRST_COMMAND <= phrase {
-        return obey_command(phrase - FIRST_COMMAND, most, rest);
+        return obey_command(phrase - FIRST_COMMAND, most, rest, sister);
     }
     match phrase {
         LEFT => send_label(Side::Left, rest),
@@ -414,7 +521,7 @@ fn obey_phrase(phrase: u8, most: usize, rest: &[u8]) -> Outcome {
         PICTURE => obey_picture(rest),
         HELP => help(),
         ICON => Outcome::NoSuchIcon,
-        LIGHT_OFF => obey_command(LIGHT, most, rest),
+        LIGHT_OFF => obey_command(LIGHT, most, rest, sister),
         _ => Outcome::NoSuchCommand,
     }
 }
@@ -458,18 +565,19 @@ fn tell_outcome(outcome: Outcome, behind: &[u8], number: u64) {
     }
 }
 
-fn obey_words(phrases: &[u8], line: &[u8], start: usize, number: u64) {
-    let found = find(phrases, line, start);
+fn obey_words(phrases: &[u8], line: &[u8], start: usize, number: u64, sister: bool) {
+    let found = find(phrases, line, start, sister);
     let at = found.at;
     let from = found.behind;
     let behind = &phrases[from..];
-    let outcome = obey_phrase(found.phrase, wanted(behind), &line[at..]);
+    let outcome = obey_phrase(found.phrase, wanted(behind), &line[at..], sister);
     tell_outcome(outcome, behind, number);
 }
 
 // The table of phrases. Behind a phrase stand a # for each number that is wanted and, where something can be out of range, a colon and
 // what is in range. The commands come in the order of their numbers. Of phrases that begin with the same words the longest is meant.
-fn obey(line: &[u8], number: u64) {
+// Before a phrase that one edition alone has stands its mark.
+fn obey(line: &[u8], number: u64, sister: bool) {
     let start = seek(line, 0, BLANK, false);
     if line.len() <= start {
         return;
@@ -485,43 +593,78 @@ fn obey(line: &[u8], number: u64) {
         picture: picture rows are 0-6, and columns of row 6 are 00-1F\n\
         help\n\
         icon\n\
-        light off\n\
+        <light off\n\
         display off\n\
         display on\n\
-        mode#: mode is 0 1 5 6 10 or 11 to 18\n\
-        cursor show\n\
-        cursor hide\n\
+        <mode#: mode is 0 1 5 6 10 or 11 to 18\n\
+        <cursor show\n\
+        <cursor hide\n\
         clear\n\
         at##: at is a row 0-4 and a column 0-15\n\
         labels empty\n\
         icon S#: icon S is 0-1\n\
-        icon U#: icon U is 0 1 or 255\n\
+        <icon U#: icon U is 0 1 or 255\n\
         icon F#: icon F is 0-6\n\
         icon R#: icon R is 0-1\n\
         icon P#: icon P is 0-19\n\
         icon W#: icon W is 0-3\n\
         private#: private is 0-10\n\
         handsfree#: handsfree is 0-10\n\
-        handsfree note#: handsfree is 0-10\n\
+        <handsfree note#: handsfree is 0-10\n\
         mute#: mute is 0-1\n\
-        times##: times are 4-50 and 0 or 4-50\n\
+        <times##: times are 4-50 and 0 or 4-50\n\
         buzzer#: buzzer is 0-255\n\
-        light#: light is 0-255\n\
-        light on\n\
-        light auto\n\
-        light auto keep\n\
-        light default\n\
-        keypad on\n\
-        keypad off\n\
+        <light#: light is 0-255\n\
+        <light on\n\
+        <light auto\n\
+        <light auto keep\n\
+        <light default\n\
+        <keypad on\n\
+        <keypad off\n\
         contrast#: contrast is 1-20\n\
-        ask contrast\n\
-        ask hook\n\
-        ask version\n\
+        <ask contrast\n\
+        <ask hook\n\
+        <ask version\n\
         clear line\n\
-        inverse#: inverse is 0-5\n",
+        inverse#: inverse is 0-5\n\
+        >cursor#: cursor is 0-1\n\
+        >restart\n\
+        >mode#: mode is 0-12\n\
+        >light#: light is 0-250\n\
+        >light off\n\
+        >light on\n\
+        >light auto\n\
+        >light auto keep\n\
+        >light pwm on\n\
+        >light pwm auto\n\
+        >light restart\n\
+        >keypad on\n\
+        >keypad off start\n\
+        >keypad off\n\
+        >icon U#: icon U is 0-2\n\
+        >brightness#: brightness is 0-100\n\
+        >times##: times are 4-50 and 0 or 4-50, or 0 and 0\n\
+        >speaker#: speaker is 0-7\n\
+        >ask position\n\
+        >ask version\n\
+        >ask hook\n\
+        >ask ptt\n\
+        >ask contrast\n\
+        >ask mode\n\
+        >ask light\n\
+        >ask brightness\n\
+        >ask times\n\
+        >ask speaker\n\
+        >contrast up\n\
+        >contrast down\n\
+        >brightness up\n\
+        >brightness down\n\
+        >speaker up\n\
+        >speaker down\n",
         line,
         start,
         number,
+        sister,
     );
 }
 
@@ -539,21 +682,25 @@ fn without_return(line: &[u8], held: usize) -> usize
     held
 }
 
-fn take_line(line: &[u8], held: usize, number: u64) {
+fn take_line(line: &[u8], reading: Reading) {
+    let held = reading.held;
+    let number = reading.number;
     if line.len() < held {
         refuse(number, b": longer than 1024 bytes\n");
         return;
     }
     let end = without_return(line, held);
-    obey(&line[..end], number);
+    obey(&line[..end], number, reading.sister);
 }
 
 fn take_byte(reading: Reading, b: u8, line: &mut [u8]) -> Reading {
     let number = reading.number;
     let held = reading.held;
+    let sister = reading.sister;
     if b == LINE_FEED {
-        take_line(line, held, number);
+        take_line(line, reading);
         return Reading {
+            sister: sister,
             number: std::num::wrapping_add_u64(number, 1),
             held: 0,
         };
@@ -561,11 +708,13 @@ fn take_byte(reading: Reading, b: u8, line: &mut [u8]) -> Reading {
     if held < line.len() {
         line[held] = b;
         return Reading {
+            sister: sister,
             number: number,
             held: held + 1,
         };
     }
     Reading {
+        sister: sister,
         number: number,
         held: NOWHERE,
     }
@@ -583,7 +732,11 @@ fn take_piece(reading: Reading, piece: &[u8], line: &mut [u8]) -> Reading {
 fn take_input(input: Input) {
     let mut line = [0u8; 1024];
     let mut piece = io::buffer();
-    let mut reading = Reading { number: 1, held: 0 };
+    let mut reading = Reading {
+        sister: program::is_given(b"--sister\n"),
+        number: 1,
+        held: 0,
+    };
     let mut left = MOST_PIECES;
     while 0 < left {
         let read = program::read_piece(b"write_frame", input, &mut piece);
@@ -598,7 +751,7 @@ fn take_input(input: Input) {
         left -= 1;
     }
     // The last line may lack its LF.
-    take_line(&line, reading.held, reading.number);
+    take_line(&line, reading);
 }
 
 fn main() {

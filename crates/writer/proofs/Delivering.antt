@@ -3,14 +3,14 @@ use Prim.Native.Nat.{ℕ, _+_, _≤_}
 use native.Mathlib.Omega.{arith}
 use mathlib.Core.Bool.{Bool, true, false}
 use mathlib.Core.List.{List, [], _∷_, _++_}
-use mathlib.Core.Path.{_≡_, _∙_, ap, sym}
+use mathlib.Core.Path.{_≡_, refl, _∙_, ap, sym}
 use lib.Dec.{leb}
 use lib.ListN.{length}
 use Rattle.lists.specs.Codes.{escape, carriageReturn, lineFeed}
 use Rattle.record.specs.Number.{numbered}
 use Rattle.line.specs.declared.Line.{Line}
 use Rattle.line.specs.Lines.{held, emptyLine, added, findsRoom, roomWith}
-use Rattle.line.specs.Laws.{Added, adding, then, held-added, held-from-empty, length-held, finds-room, room-with}
+use Rattle.line.specs.Laws.{Added, adding, then, held-added, held-from-empty, length-from-empty, length-held, finds-room, room-with}
 use Rattle.writer.specs.declared.Written.{Written}
 use Rattle.writer.specs.Writing.{frameOf, reply, writtenOf, roomAfter}
 
@@ -55,7 +55,20 @@ framed body p q h =
     let all = then p q (omega arith) in
     ap (λ (x : List ℕ). x ++ carriageReturn ∷ lineFeed ∷ []) (ap held (all .same) ∙ held-from-empty (escape ∷ body) (omega (arith, all .most)))
 
+-- a body in a line of its own
+pub body-held : (codes : List ℕ) (line : Line) → length codes ≤ 197 → line ≡ added emptyLine codes → (held line ≡ codes) × (line .len ≤ 197)
+body-held codes line h e =
+    let size : line .len ≡ length codes = ap (λ (x : Line). x .len) e ∙ length-from-empty codes (omega arith) in
+    (ap held e ∙ held-from-empty codes (omega arith), omega arith)
+
 -- a frame in range that was delivered
 pub delivered : (ok : Bool) (line body room : List ℕ) {written : Written} {after : List ℕ} → ok ≡ true → line ≡ frameOf body
     → Right true line room written after → Right ok (frameOf body) room written after
 delivered ok line body room p e r = rw (p, ← e) r
+
+-- the frame of a body, if it is in range
+pub body-delivered : (ok : Bool) (codes room : List ℕ) {good : Bool} {line : Line} {written : Written} {after : List ℕ} → good ≡ ok → line ≡ added emptyLine codes → (ok ≡ true → length codes ≤ 197)
+    → Right good (frameOf (held line)) room written after → Right ok (frameOf codes) room written after
+unfolding writtenOf roomAfter
+body-delivered true codes room {line = line} e l few r = rw (e, body-held codes line (few refl) l .0) at r
+body-delivered false codes room e l few r = rw e at r

@@ -1,4 +1,5 @@
-// The writers, for those who build collectors: a command, a label or a picture row becomes the bytes of its frame.
+// The writers, for those who build collectors: a command of either edition, a label or a picture row becomes the bytes of its frame.
+// Labels and picture rows are the same in both.
 // A frame is built once, in a line of its own, and copied once into the lent room. One that is out of range or finds no room
 // leaves the room as it was.
 ghost use mathlib.Core.Path.{_≡_};
@@ -12,9 +13,12 @@ ghost use Rattle.line.specs.Laws.{Added};
 ghost use Rattle.picture.specs.Writing.{encode};
 ghost use Rattle.command.specs.Order.{plain, label, draw};
 ghost use Rattle.command.specs.InRange.{commandInRange, mostRows};
-ghost use Rattle.command.specs.Spell.{spelling};
+ghost use Rattle.command.specs.Spell.{spell, spelling};
+ghost use Rattle.sister_command.specs.Order.{first, own};
+ghost use Rattle.sister_command.specs.Grammar.{sisterForm};
+ghost use Rattle.sister_command.specs.InRange.{ownInRange};
 ghost use Rattle.writer_ranges.specs.Fitting.{isLabel, isRow};
-ghost use Rattle.writer.specs.Writing.{frameOf, writtenOf, roomAfter};
+ghost use Rattle.writer.specs.Writing.{frameOf, sharedInRange, writtenOf, roomAfter};
 use command::Command;
 use command::Side;
 use command_form::body;
@@ -28,6 +32,11 @@ use lists::ESCAPE;
 use lists::LINE_FEED;
 use picture_writer::write_data;
 use record::Number;
+use sister_command::SisterCommand;
+use sister_form::is_shared;
+use sister_form::own_body;
+use sister_form::own_in_range;
+use sister_form::shared_body;
 use writer_ranges::label_in_range;
 use writer_ranges::row_in_range;
 
@@ -45,17 +54,6 @@ fn opened() -> Line
     ensures { λ r. ⌜ Added emptyLine (escape ∷ []) 1 r × (r .len ≡ 1) ⌝ }
 {
     add(empty(), &[ESCAPE])
-}
-
-// The body of a command's frame.
-fn add_body(line: Line, c: Command) -> Line
-    requires { ⌜ commandInRange mostRows c ≡ true ⌝ }
-    ensures { λ r. ⌜ Added line (spelling (plain c)) 197 r ⌝ }
-{
-    let codes = body(c);
-    let len = codes.len;
-    let bytes = codes.bytes;
-    add(line, &bytes[..len])
 }
 
 // The body of a label's frame.
@@ -111,18 +109,45 @@ fn deliver(line: Line, room: &mut [u8]) -> Written
     }
 }
 
-// The frame of a command.
-pub fn write_command(c: Command, room: &mut [u8]) -> Written
-    ensures same { λ r. ⌜ r ≡ writtenOf (commandInRange mostRows c) (frameOf (spelling (plain c))) (now (room .entry)) ⌝ }
-    ensures left { λ _. ⌜ now (room .exit) ≡ roomAfter (commandInRange mostRows c) (frameOf (spelling (plain c))) (now (room .entry)) ⌝ }
+// The frame of a command whose body stands in a line of its own, if it is in range.
+fn deliver_body(good: bool, body: Line, room: &mut [u8]) -> Written
+    requires { ⌜ (good ≡ true → body .len ≤ 197) ⌝ }
+    ensures same { λ r. ⌜ r ≡ writtenOf good (frameOf (held body)) (now (room .entry)) ⌝ }
+    ensures left { λ _. ⌜ now (room .exit) ≡ roomAfter good (frameOf (held body)) (now (room .entry)) ⌝ }
 {
-    if in_range(c, MOST_ROWS) {
-        return deliver(add_body(opened(), c), room);
+    if good {
+        let len = body.len;
+        let bytes = body.bytes;
+        return deliver(add(opened(), &bytes[..len]), room);
     }
     Written {
         number: Number::CommandOutOfRange,
         count: 0,
     }
+}
+
+// The frame of a command.
+pub fn write_command(c: Command, room: &mut [u8]) -> Written
+    ensures same { λ r. ⌜ r ≡ writtenOf (commandInRange mostRows c) (frameOf (spelling (plain c))) (now (room .entry)) ⌝ }
+    ensures left { λ _. ⌜ now (room .exit) ≡ roomAfter (commandInRange mostRows c) (frameOf (spelling (plain c))) (now (room .entry)) ⌝ }
+{
+    deliver_body(in_range(c, MOST_ROWS), body(c), room)
+}
+
+// The sister's frame of a command of her own.
+pub fn write_own(c: SisterCommand, room: &mut [u8]) -> Written
+    ensures same { λ r. ⌜ r ≡ writtenOf (ownInRange c) (frameOf (spell (sisterForm (own c)))) (now (room .entry)) ⌝ }
+    ensures left { λ _. ⌜ now (room .exit) ≡ roomAfter (ownInRange c) (frameOf (spell (sisterForm (own c)))) (now (room .entry)) ⌝ }
+{
+    deliver_body(own_in_range(c), own_body(c), room)
+}
+
+// The sister's frame of a command that she shares with the first edition; one that she has not is out of range.
+pub fn write_shared(c: Command, room: &mut [u8]) -> Written
+    ensures same { λ r. ⌜ r ≡ writtenOf (sharedInRange c) (frameOf (spell (sisterForm (first (plain c))))) (now (room .entry)) ⌝ }
+    ensures left { λ _. ⌜ now (room .exit) ≡ roomAfter (sharedInRange c) (frameOf (spell (sisterForm (first (plain c))))) (now (room .entry)) ⌝ }
+{
+    deliver_body(is_shared(c) & in_range(c, MOST_ROWS), shared_body(c), room)
 }
 
 // The frame of a soft-key label.

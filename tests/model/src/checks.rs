@@ -2,11 +2,11 @@
 //! a line they stand in tables of text.
 
 use crate::choice::{self, Broken};
-use crate::commands::LONGEST;
+use crate::commands::{mark, LONGEST, LONGEST_OF_FIRST};
 use crate::fields::{contents, field, in_range, set};
-use crate::generate::{self, frame as framed, DAMAGED, MODES};
+use crate::generate::{self, frame as framed, DAMAGED, HER_DAMAGED, MODES};
 use crate::grammar::spelt;
-use crate::places::{list_parts, list_verdicts, part_at, parts_from, verdict, Found, Kind, Verdict};
+use crate::places::{judge, list_parts, list_verdicts, part_at, parts_from, verdict, Found, Kind, Verdict};
 use crate::record::*;
 use crate::script::{self, Answer, Call};
 use crate::seen::{self, Bar, Column, Half, Owner, Phase, PHASES};
@@ -72,11 +72,35 @@ fn full() -> Record {
     record
 }
 
-/// A record by its name: `full`, or frames from power-on (`-` for none).
+/// The sister's record after these frames, from power-on.
+fn hers_after(words: &str) -> Record {
+    let mut record = sister_power_on();
+    assert_eq!(feed(&mut record, &frames(words)), b"", "{words}");
+    record
+}
+
+/// The sister's record with something in every field that hers has.
+fn her_full() -> Record {
+    let mut record = hers_after(
+        "IDM4 'large_line IDM3 &H4;3 'abcdefghijklmnop &H2;15 'z IDM7 &C1 IK1Keep IK2Leave IS1 \
+        IU2 IF4 IR1 IP17 IW2 IJ7 IM1 IT20;8 IB77 IE9 IEA IEe IA7 IZ5 IN33 IV6 Gr0,c00dFFg331B2Cf00z \
+        Gr6,1F0EFFz",
+    );
+    let mut room = [0; 24];
+    assert_eq!(keys::call(&mut record, &[100, 300, 301, 302], &[0, 255, 21, 22], &mut room), (0, 4, 24));
+    assert_eq!(room, *b"\x1BKLs\r\n\x1BKLl\r\n\x1BKHs\r\n\x1BKPs\r\n");
+    record
+}
+
+/// A record by its name: `full`, or frames from power-on (`-` for none). Behind
+/// `her` it is the sister's.
 fn start(words: &str) -> Record {
-    match words {
-        "full" => full(),
-        "-" => power_on(),
+    match words.split_once(' ').unwrap_or((words, "")) {
+        ("full", _) => full(),
+        ("-", _) => power_on(),
+        ("her", "full") => her_full(),
+        ("her", "-") => sister_power_on(),
+        ("her", rest) => hers_after(rest),
         _ => after(words),
     }
 }
@@ -189,16 +213,197 @@ const FRAMES: &str = "
     IZ1 ID10 | IZ0 | inverse mark@0..1=0
 ";
 
+/// The same of the sister, line by line of her note; `refused` is good by its
+/// spelling and answered as a bad frame is. She is delivered with the light in
+/// auto by PWM; `her full` has it in normal auto, with 9 seconds.
+const HER_FRAMES: &str = "
+    -    | &C0 | cursor shown=0
+    -    | &C1 | cursor shown=1
+    full | &C0 | cursor shown=0
+    full | &C2 &C3 &C9 &C10 &C999 | passed over
+    full | &C &C00 &C01 &C1000 &C? &CC | bad
+    IDM4 | &C1 | cursor shown=1
+    full | &D | text@0..80=32, large line@0..24=32, row=0, column=0
+    full | &# &D0 &DD &D? | bad
+    -    | &H3;15 | row=3, column=15
+    -    | &H2;5 | row=2, column=5
+    -    | &H4;0 &H0;16 &H5;0 &H999;999 | passed over
+    IDM2 | &H4;0 | row=4
+    IDM2 | &H5;0 | passed over
+    IDM4 '12 | &H0;0 &H0;15 &H3;3 | passed over
+    full | [1;2H &H &H1 &H1; &H;1 &H01;2 &H1;02 &H1;2H &H1,2 | bad
+    '0123456789abcdef &H0;3 | &K | text@3..16=32
+    '0123456789abcdef | &K | column=16
+    IDM4 '0123 IDM4 | &K | large line@0..24=32
+    full | [K &K0 &K? &k | bad
+    full | &0 &000 &OO &0O &O &o &01 &10 | bad
+    full | &V IH IA &S? &S IX9600 IX? IX INIT KH KP KH?? Kh? KF? | bad
+    full | IA1 | contrast=1
+    full | IA20 | contrast=20
+    full | IA0 IA21 IA22 IA255 IA999 | passed over
+    full | IA+ | contrast=8
+    full | IA- | contrast=6
+    IA19 | IA+ | contrast=20
+    IA20 | IA+ | refused
+    IA20 | IA- | contrast=19
+    IA1  | IA- | contrast=0
+    IA1 IA- | IA- | refused
+    IA1 IA- | IA+ | contrast=1
+    IA1 IA- | IA0 | passed over
+    full | IA05 IA+1 IA++ IA1+ IA-1 IA-- IA+? | bad
+    full | IB0 | buzzer=0
+    full | IB255 | buzzer=255
+    full | IB256 IB999 | passed over
+    full | IB IB00 IB? IB+ | bad
+    full | IDM0 | text mode=0, overlay=0, row=0, column=0
+    full | IDM1 | text mode=1, overlay=0, row=0, column=0
+    full | IDM2 | text mode=5, overlay=0, row=0, column=0
+    full | IDM3 | text mode=6, overlay=0, row=0, column=0
+    full | IDM4 | text mode=10, overlay=0, row=0, column=0
+    full | IDM5 | overlay=11
+    full | IDM6 | overlay=12
+    full | IDM7 | overlay=13
+    full | IDM8 | overlay=14
+    full | IDM9 | overlay=15
+    full | IDM10 | overlay=16
+    full | IDM11 | overlay=17
+    full | IDM12 | overlay=18
+    full | IDM13 IDM14 IDM18 IDM99 IDM999 | passed over
+    full | IDMD | display=0
+    IDMD | IDME | display=1
+    IDMD | IDM0 | row=0
+    full | ID0 ID5 ID10 ID18 ID IDD IDE IDM IDM00 IDM01 IDMd IDMe IDMDE IDM0M | bad
+    full | IE0 | backlight mode=0, left=0
+    full | IEE | backlight mode=1, left=0
+    full | IEA | left=9
+    full | IES | left=9
+    full | IEP | backlight mode=1, left=0, PWM=1
+    full | IEQ | PWM=1
+    full | IER | left=9
+    full | IE1 | duration=1
+    full | IE250 | duration=250
+    full | IE251 IE255 IE256 IE999 | passed over
+    full | IE IE00 IE01 IEr IEa IEq IEp IEC IE1;2 IE+ IE- | bad
+    full | IEe | keypad flag=1
+    full | IEs | keypad flag=0
+    full | IEc | keypad flag=0, left=9
+    full IE7 | IER | left=7
+    full IE7 | IEc | keypad flag=0, left=7
+    full IE7 | IEA | left=7
+    full IE7 | IES | duration=7
+    full IE7 | IEQ | PWM=1
+    -    | IER | left=30
+    -    | IE0 | backlight mode=0, PWM=0
+    -    | IEE | backlight mode=1, PWM=0
+    -    | IEA | PWM=0, left=30
+    -    | IES | PWM=0
+    -    | IEP | backlight mode=1
+    -    | IEQ | PWM=1
+    -    | IEe IEc IEs | refused
+    IEP  | IEe IEc IEs | refused
+    IEE  | IEe IEc IEs | refused
+    IE0  | IEe IEc IEs | refused
+    IES  | IEe | keypad flag=1
+    IES  | IEc | left=30
+    IEP  | IER | backlight mode=1
+    IEE  | IER | backlight mode=1
+    IE0  | IER | backlight mode=0
+    IE0  | IEQ | backlight mode=2, PWM=1
+    IE0  | IES | backlight mode=2
+    IE0  | IEP | backlight mode=1, PWM=1
+    IEP  | IE0 | backlight mode=0, PWM=0
+    IER  | IES | PWM=0
+    IER  | IEP | backlight mode=1, left=0
+    IES IEe | IEQ | PWM=1
+    IES IEe IEQ | IES | PWM=0
+    IES IEe IE0 | IEE | backlight mode=1
+    IES IEe IE0 | IEs | refused
+    full | IJ5 | volume which=2, volume level=5
+    full | IJ0 | volume which=0, volume level=0, hidden=1
+    full | IL4 | volume which=1, volume level=4
+    full | IJ11 IL11 IM2 IF7 IP20 IR2 IS2 IW4 | passed over
+    full | II5 II0 II | bad
+    full | IM0 | mute=0
+    full | IF6 | icon F=6
+    full | IP19 | icon P=19
+    full | IR0 | icon R=0
+    full | IS0 | icon S=0
+    full | IW3 | icon W=3
+    full | IU0 | icon U=0
+    full | IU1 | icon U=1
+    -    | IU2 | icon U=255
+    full | IU3 IU254 IU255 IU256 | passed over
+    full | IU02 IU IS00 IP05 IF06 IL04 IJ04 IM01 IW03 IR01 | bad
+    full | IK0 | left label=, right label=
+    full | IK12 | left label=2
+    full | IK21234567 | right label=1234567
+    full | IK IK00 IK3x IK112345678 | bad
+    full | IN0 | brightness=0
+    full | IN100 | brightness=100
+    full | IN101 IN255 IN256 IN999 | passed over
+    full | IN+ | brightness=34
+    full | IN- | brightness=32
+    IN99 | IN+ | brightness=100
+    IN100 | IN+ | refused
+    IN100 | IN- | brightness=99
+    IN1  | IN- | brightness=0
+    IN0  | IN- | refused
+    IN0  | IN+ | brightness=1
+    IE0  | IN7 | brightness=7
+    IE0  | IN+ | brightness=51
+    full | IN IN00 IN05 IN0100 IN+1 IN-1 IN1000 | bad
+    full | IT4;4 | Time1=4, Time2=4
+    full | IT50;50 | Time1=50, Time2=50
+    full | IT4;0 | Time1=4, Time2=0
+    full | IT0;0 | Time1=0, Time2=0
+    IT0;0 | IT12;12 | Time1=12, Time2=12
+    full | IT0;4 IT0;5 IT0;50 IT0;3 IT3;0 IT3;4 IT4;3 IT51;0 IT4;51 IT999;999 | passed over
+    full | IT00;0 IT0;00 IT04;4 IT4;04 IT IT0 IT0; IT;0 IT20;8; | bad
+    full | IV0 | speaker volume=0
+    full | IV7 | speaker volume=7
+    full | IV8 IV10 IV255 IV999 | passed over
+    full | IV+ | speaker volume=7
+    full | IV- | speaker volume=5
+    IV7  | IV+ | refused
+    IV7  | IV- | speaker volume=6
+    IV0  | IV- | refused
+    IV0  | IV+ | speaker volume=1
+    full | IV IV00 IV07 IV+1 IV-1 Iv5 | bad
+    full | IZ0 | inverse mark@4..5=0
+    full | IZ1 | inverse mark@0..1=1, inverse mark@4..5=0
+    full | IZ6 IZ7 IZ999 | passed over
+    IDM4 | IZ1 IZ5 | passed over
+    full | IZ IZ00 IZ01 IZ? | bad
+    full | Gr0,55z | picture@0..1=85
+    full | Gr6,FFE0z | picture@576..577=31, picture@577..578=0
+    full | Gr7,00z Gr9,00z | passed over
+    full | Gr0;00z Gr0,00 Gr00,00z Gr0,ffz IG0;00 | bad
+";
+
 #[test]
 fn frames_alone() {
-    for [before, words, what] in table(FRAMES) {
-        let before = start(before);
+    let tables = [("", FRAMES), ("her ", HER_FRAMES)];
+    let rows = tables.into_iter().flat_map(|(whose, text)| table(text).into_iter().map(move |row| (whose, row)));
+    for (whose, [before, words, what]) in rows {
+        let (full, more) = before.split_once(' ').unwrap_or((before, ""));
+        let mut before = match full {
+            "full" => start(&format!("{whose}full")),
+            _ => start(&format!("{whose}{before}")),
+        };
+        if full == "full" {
+            assert_eq!(feed(&mut before, &frames(more)), b"");
+        }
+        let mark = mark(!whose.is_empty());
         for word in words.split(' ') {
             let mut record = before.clone();
             let said = feed(&mut record, &framed(word));
             let mut wanted = before.clone();
             match what {
-                "bad" => assert_eq!(said, b"?", "{word}"),
+                "bad" | "refused" => {
+                    assert_eq!(said, mark, "{word}");
+                    let told = if what == "bad" { Verdict::Bad } else { Verdict::Refused };
+                    assert_eq!(judge(&before, word.as_bytes()), told, "{word}");
+                }
                 "passed over" => assert_eq!(said, b"", "{word}"),
                 list => {
                     assert_eq!(said, b"", "{word}");
@@ -208,10 +413,13 @@ fn frames_alone() {
             assert_eq!(record, wanted, "{word}");
         }
     }
-    let full = full();
+    let (full, hers) = (full(), her_full());
     let bad = ["", "ID1 ", "Gr0,0 0z", "IK1ab\x01", "IK1\n", "ID5\n"].into_iter();
-    for form in bad.chain(DAMAGED.split('|')) {
+    for form in bad.clone().chain(DAMAGED.split('|')) {
         assert_eq!(feed(&mut full.clone(), &framed(form)), b"?", "{form:?}");
+    }
+    for form in bad.chain(HER_DAMAGED.split('|')) {
+        assert_eq!(feed(&mut hers.clone(), &framed(form)), b"?\r\n", "{form:?}");
     }
     for number in (0..1000).filter(|n| ![0, 1, 5, 6].contains(n) && !(10..=18).contains(n)) {
         let mut record = full.clone();
@@ -222,12 +430,12 @@ fn frames_alone() {
 
 #[test]
 fn picture_data() {
-    let good = spelt(b"Gr0,c00dFFg331B2Cf00z").unwrap();
+    let good = spelt(false, b"Gr0,c00dFFg331B2Cf00z").unwrap();
     let wanted = [&[0x00; 4][..], &[0xFF; 5], &[0x33; 8], &[0x1B, 0x2C], &[0x00; 7]].concat();
     assert_eq!((good.codes.len(), good.codes), (26, wanted));
     for (letter, columns) in [("a", 2), ("y", 26)] {
         let body = format!("Gr0,{letter}3Cz");
-        assert_eq!(spelt(body.as_bytes()).unwrap().codes, vec![0x3C; columns]);
+        assert_eq!(spelt(true, body.as_bytes()).unwrap().codes, vec![0x3C; columns]);
     }
     // 96 columns are as many as there can be, whatever the row.
     let data = |row: u8, columns: usize, more: &str| format!("Gr{row},{}{more}z", "00".repeat(columns));
@@ -239,7 +447,7 @@ fn picture_data() {
         (data(7, 97, ""), false),
         (data(1, 72, "x00"), false),
     ] {
-        assert_eq!(spelt(body.as_bytes()).is_some(), good, "{body}");
+        assert_eq!([false, true].map(|sister| spelt(sister, body.as_bytes()).is_some()), [good; 2], "{body}");
     }
     let mut room = [9; 300];
     for (columns, text) in
@@ -257,7 +465,7 @@ fn one_spelling_of_a_number() {
     for digits in 1..=4 {
         for n in 0..10_u16.pow(digits) {
             let spelling = format!("{n:0width$}", width = digits as usize);
-            let good = spelt(format!("IB{spelling}").as_bytes());
+            let good = spelt(digits % 2 == 0, format!("IB{spelling}").as_bytes());
             assert_eq!(good.is_some(), n < 1000 && n.to_string() == spelling, "{spelling}");
             values.extend(good.map(|good| good.numbers[0]));
         }
@@ -265,7 +473,7 @@ fn one_spelling_of_a_number() {
     assert_eq!(values, (0..1000).collect::<Vec<u16>>());
     // Commands by their letters, though some have one effect.
     let all = "IL0 IJ0 II0 IE30 IER IP20 IP21 IK0 IK1 IA IA0 IA10 IZ0 IZ1 IZ6 IH &V [K";
-    let all: Vec<_> = all.split(' ').map(|body| spelt(body.as_bytes()).unwrap()).collect();
+    let all: Vec<_> = all.split(' ').map(|body| spelt(false, body.as_bytes()).unwrap()).collect();
     for (place, one) in all.iter().enumerate() {
         assert!(!all[..place].contains(one));
     }
@@ -288,6 +496,15 @@ fn volume_and_mute() {
     assert_eq!(volume, Volume { which: 0, level: 0, mute: true, hidden: true });
 }
 
+/// The listings from the power-on record.
+fn listing(stream: &[u8]) -> String {
+    seen::listing(&power_on(), stream)
+}
+
+fn verdicts_of(stream: &[u8]) -> String {
+    list_verdicts(&power_on(), stream)
+}
+
 #[test]
 fn list_screen() {
     let stream = b"\x1BID0\r\n\x1B[1;2H\r\nMeter\r\n\x1BIK1Keep\r\n\x1BQ\r";
@@ -297,17 +514,17 @@ fn list_screen() {
         TEXT 1 [  Meter         ]\nTEXT 2 [{blank}]\nTEXT 3 [{blank}]\nTEXT 4 [{blank}]\n\
         LEFT [Keep]\nRIGHT []\nICONS 0 0 0 0 0 0\nVOLUME 0 0 0 0\n"
     );
-    assert_eq!(seen::listing(stream), wanted);
+    assert_eq!(listing(stream), wanted);
     let none = wanted.replace("REPLIES 1", "REPLIES 0").replace("0 1 7", "0 0 0");
-    assert_eq!(seen::listing(b""), none.replace("  Meter", "       ").replace("Keep", ""));
+    assert_eq!(listing(b""), none.replace("  Meter", "       ").replace("Keep", ""));
     // A tail left open is not seen; codes outside 0x20 to 0x7E are points.
-    let odd = seen::listing(b"\x1BIK1a\x7F\xFFb\r\xE4\x1BIK1Mine");
+    let odd = listing(b"\x1BIK1a\x7F\xFFb\r\xE4\x1BIK1Mine");
     assert!(odd.starts_with("REPLIES 0\n") && odd.contains("LEFT [a..b]\n"));
     assert!(odd.contains("TEXT 0 [.               ]\n"));
-    let large = seen::listing(b"\x1BID10\r12345678901234567\x1BID18\r");
+    let large = listing(b"\x1BID10\r12345678901234567\x1BID18\r");
     assert!(large.contains("\nMODE 10 OVER 18 DISPLAY 1\nCURSOR 0 0 17\nTEXT 0 [      "));
     // It counts answers, not bytes.
-    let asked = seen::listing(b"\x1B&V\r\x1BIA\r\x1BQ\r\x1BIH\r\x1BIA5\r");
+    let asked = listing(b"\x1B&V\r\x1BIA\r\x1BQ\r\x1BIH\r\x1BIA5\r");
     assert!(asked.starts_with("REPLIES 4\nMODE 0 ") && asked.lines().count() == 12);
 }
 
@@ -372,7 +589,7 @@ fn answers_to_questions() {
     let before = record.clone();
     let said = feed(&mut record, b"\x1B&V\r\n");
     assert_eq!(said, b"\x1B&VHA209 V.01.01 11.07.2006\r\n");
-    assert_eq!((said.len(), record == before), (LONGEST, true));
+    assert_eq!((said.len(), record == before), (LONGEST_OF_FIRST, true));
     // What the handset says is no question when it comes back.
     assert_eq!(feed(&mut record, &said), b"?");
     assert_eq!(feed(&mut record, b"\x1BIHH\r\x1BIHh\r\x1BIH\r"), b"??\x1BIHh\r");
@@ -385,6 +602,103 @@ fn answers_to_questions() {
     assert_eq!(feed(&mut record, b"H\r"), b"\x1BIHh\r");
     assert_eq!(script::hook(&mut record, true), 0);
     assert_eq!(record, power_on());
+}
+
+/// Frames before it, and a question of the sister with its answer, but for its
+/// ESC, CR and LF.
+const HER_ANSWERS: &str = "
+    -    | &H?  | &H: 0;0
+    &H3;15 | &H? | &H: 3;15
+    '0123456789abcdefg | &H? | &H: 0;16
+    IDM4 '0123456789012345678901234 | &H? | &H: 0;24
+    -    | &V?  | &V: HA400 V.01.00 25.09.2006
+    -    | KH?  | KH: H
+    full | KH?  | KH: h
+    -    | KP?  | KP: p
+    full | KP?  | KP: P
+    -    | IA?  | IA: 10
+    IA20 | IA?  | IA: 20
+    IA1 IA- | IA? | IA: 0
+    -    | IDM? | IDM: 0
+    IDM1 | IDM? | IDM: 1
+    IDM2 | IDM? | IDM: 2
+    IDM3 | IDM? | IDM: 3
+    IDM4 | IDM? | IDM: 4
+    IDM5 | IDM? | IDM: 5
+    IDM10 | IDM? | IDM: 10
+    IDM3 IDM12 | IDM? | IDM: 12
+    IDM12 IDM3 | IDM? | IDM: 3
+    IDM7 IDMD | IDM? | IDM: 7
+    -    | IE?  | IE: 2;30
+    IE15 | IE?  | IE: 2;15
+    IEP IE250 | IE? | IE: 3;250
+    IEA IE1 | IE? | IE: 0;1
+    IES  | IE?  | IE: 0;30
+    IEE  | IE?  | IE: 1;30
+    IE0  | IE?  | IE: 4;30
+    -    | IN?  | IN: 50
+    IN0  | IN?  | IN: 0
+    IN100 | IN? | IN: 100
+    IE0 IN7 | IN? | IN: 7
+    -    | IT?  | IT: 12;12
+    IT0;0 | IT? | IT: 0;0
+    IT4;0 | IT? | IT: 4;0
+    IT50;50 | IT? | IT: 50;50
+    -    | IV?  | IV: 3
+    IV4  | IV?  | IV: 4
+    IV7 IV- | IV? | IV: 6
+";
+
+#[test]
+fn her_answers() {
+    for [before, question, answer] in table(HER_ANSWERS) {
+        let before = start(&format!("her {before}"));
+        let mut record = before.clone();
+        let wanted = format!("\x1B{answer}\r\n").into_bytes();
+        assert_eq!(feed(&mut record, &framed(question)), wanted, "{question}");
+        assert_eq!(record, before);
+        // Whole, or the call stops before its CR.
+        let (used, said, waiting) = call(&before, &framed(question), wanted.len() - 1);
+        assert_eq!((used, said.len(), waiting.frame.state), (question.len() + 1, 0, 1));
+        assert_eq!(call(&waiting, b"\r", wanted.len()), (1, wanted, before));
+        // What she says is no question when it comes back.
+        assert_eq!(feed(&mut record, &framed(answer)), b"?\r\n");
+    }
+    // Byte for byte, as the note has it.
+    assert_eq!(feed(&mut sister_power_on(), b"\x1BIA?\r\n"), [0x1B, 0x49, 0x41, 0x3A, 0x20, 0x31, 0x30, 0x0D, 0x0A]);
+    assert_eq!(feed(&mut sister_power_on(), b"\x1B&V?\r").len(), LONGEST);
+    assert_eq!(feed(&mut sister_power_on(), b"\x1BQ\r"), [0x3F, 0x0D, 0x0A]);
+    // Abandoned and overlong frames are marked in the same way.
+    let long = [&[ESC], &[b'0'; 251][..]].concat();
+    for (bytes, marks) in [(&b"\x1B\r"[..], 1), (b"\x1B\x1B\r", 2), (&[&long[..], b"\r"].concat(), 1), (&long, 0)] {
+        assert_eq!(feed(&mut sister_power_on(), bytes), b"?\r\n".repeat(marks));
+        assert_eq!(stream::bound(&sister_power_on(), bytes), (0, 3 * bytes.iter().filter(|&&b| b == ESC).count()));
+    }
+    for (state, more) in [(0, 0), (1, 3), (2, 3)] {
+        let mut record = sister_power_on();
+        record.frame.state = state;
+        assert_eq!(stream::bound(&record, &[ESC; 4096]), (0, 3 * 4096 + more));
+    }
+}
+
+#[test]
+fn her_restart() {
+    // Six numbers are kept; all else is as delivered, and nothing is said.
+    let before = her_full();
+    let mut record = before.clone();
+    assert_eq!(feed(&mut record, b"\x1B&00\r"), b"");
+    let mut wanted = sister_power_on();
+    change(&mut wanted, "Time1=20, Time2=8, contrast=7, brightness=33, speaker volume=6, duration=9");
+    assert_eq!(record, wanted);
+    // The bytes behind it are read on, and an abandoned frame before it gets
+    // its mark.
+    let mut record = before.clone();
+    assert_eq!(feed(&mut record, b"\x1BIA\x1B&00\r\nab\x1BIA?\r\x1BKH?\r\x1BIK"), b"?\r\n\x1BIA: 7\r\n\x1BKH: H\r\n");
+    assert_eq!((&record.text[..3], record.column, record.frame.length), (&b"ab "[..], 2, 2));
+    // It needs no room.
+    assert_eq!(call(&before, b"\x1B&00\r", 0), (5, vec![], wanted));
+    // The first edition has none.
+    assert_eq!(feed(&mut full(), b"\x1B&00\r"), b"?");
 }
 
 /// Frames before a call, its bytes and room; how many it uses, and the answer.
@@ -408,9 +722,34 @@ const STOPS: &str = "
     -  | ^Q$^IP2$y        | 1  | 9  | ?
 ";
 
+/// The same of the sister.
+const HER_STOPS: &str = "
+    -    | ab^Q$cd         | 2  | 4  |
+    -    | ab^Q$cd         | 3  | 7  | ?$\\n
+    -    | ^Q$^Q$x         | 5  | 5  | ?$\\n
+    -    | ^I^IP2$         | 2  | 2  |
+    -    | ^I^IP2$         | 3  | 7  | ?$\\n
+    -    | ^IE?$^Q$        | 13 | 7  | ^IE: 2;30$\\n
+    -    | ^IE?$^Q$        | 14 | 8  | ^IE: 2;30$\\n?$\\n
+    -    | ^IA5$^IA?$      | 7  | 9  |
+    -    | ^IA5$^IA?$      | 8  | 10 | ^IA: 5$\\n
+    -    | ^IV+$^IV+$^IV-$ | 0  | 15 |
+    ^IV7$| ^IV-$^IV+$^IV+$ | 2  | 14 |
+    ^IV7$| ^IV-$^IV+$^IV+$ | 3  | 15 | ?$\\n
+    -    | x^IEe$y         | 2  | 5  |
+    -    | x^IEe$y         | 3  | 7  | ?$\\n
+    -    | ^IN101$^&00$^&C7$ | 0 | 17 |
+";
+
 #[test]
 fn stops_for_room() {
     let bytes = |text: &str| text.replace("\\n", "\n").replace('^', "\x1B").replace('$', "\r").into_bytes();
+    for [before, stream, room, used, answer] in table(HER_STOPS) {
+        let mut record = sister_power_on();
+        feed(&mut record, &if before == "-" { vec![] } else { bytes(before) });
+        let (now, said, _) = call(&record, &bytes(stream), number(room));
+        assert_eq!((now, said), (number(used), bytes(answer)), "{before} {stream} {room}");
+    }
     for [before, stream, room, used, answer] in table(STOPS) {
         let mut record = power_on();
         feed(&mut record, &if before == "-" { vec![] } else { bytes(before) });
@@ -459,10 +798,10 @@ fn bound_of_the_answers() {
 
 // Keys and seconds.
 
-/// Takes a log whole; gives the codes.
+/// Takes a log whole; gives the codes or messages.
 fn log(record: &mut Record, log: &[(u16, u8)]) -> Vec<u8> {
     let (ticks, edges): (Vec<u16>, Vec<u8>) = log.iter().copied().unzip();
-    let mut room = [0; 9];
+    let mut room = [0; 99];
     let (number, used, written) = keys::call(record, &ticks, &edges, &mut room);
     assert_eq!((number, used), (0, log.len()));
     room[..written].to_vec()
@@ -539,6 +878,135 @@ fn log_numbers() {
     assert_eq!(keys::call(&mut record, &[1], &[], &mut room), (1, 0, 0));
 }
 
+/// The sister's key log: edges and ticks of a log from power-on, and the signs
+/// and events of its messages. `+` is a press, `-` a release, `.` a poll; a
+/// number behind it is the time since the entry before, 1 where there is none.
+const HER_LOGS: &str = "
+    +1 -1 | 1s 1e
+    +1 .119 .1 .119 .1 .120 -1 | 1s 1l 1r 1r 1e
+    +1 .500 .119 .1 -1 | 1s 1l 1r 1e
+    +1 .118 -1 | 1s 1e
+    +1 -1@500 | 1s 1e
+    .1 .500 -1 -L -# | -
+    +1 +1 .500 +1 -1 +1 | 1s 1l 1e 1s
+    +1 -2 .1 -1 | 1s 1e
+    +1 +2 .500 .500 -1 .500 -2 .500 +3 -3 | 1s Fx 3s 3e
+    +1 +2 +3 -1 -2 .500 +1 -1 -3 +1 | 1s Fx 1s
+    +1 +2 -1 +1 -1 -2 +2 | 1s Fx 2s
+    +1 .500 +2 -2 -1 -1 +M | 1s 1l Fx Ms
+    +1 +2 -3 -1 -2 -1 | 1s Fx
+    +E .120 .120 -E +A .120 .120 -A | Es El Er Ee As Al Ar Ae
+    +M .120 -M +N .120 .120 -N | Ms Ml Me Ns Nl Nr Ne
+    +H .500 +H -H -H | Hs He
+    -H -P +P .500 +P -P -P | Ps Pe
+    +1 +H .118 -H .1 +P .120 -1 -P | 1s Hs He 1l Ps 1r 1e Pe
+    +1 +2 +H +P -H -P -1 -2 | 1s Fx Hs Ps He Pe
+    +H +1 +P -1 -H -P | Hs 1s Ps 1e He Pe
+";
+
+/// Takes such a log; gives the messages in its words.
+fn her_log(record: &mut Record, words: &str) -> String {
+    let mut now = 65_500_u16;
+    let mut entries = vec![];
+    for word in words.split(' ') {
+        let (name, after) = word[1..].split_once('@').unwrap_or((&word[1..], "1"));
+        let key = keys::SIGNS.iter().position(|&sign| name.as_bytes() == [sign]);
+        let (edge, after) = match &word[..1] {
+            "+" => (key.unwrap() as u8, number(after)),
+            "-" => (128 + key.unwrap() as u8, number(after)),
+            _ => (255, number(name)),
+        };
+        now = now.wrapping_add(after as u16);
+        entries.push((now, edge));
+    }
+    let sent = log(record, &entries);
+    let messages = sent.chunks(6).map(|message| {
+        assert_eq!((&message[..2], &message[4..]), (&b"\x1BK"[..], &b"\r\n"[..]));
+        String::from_utf8_lossy(&message[2..4]).into_owned()
+    });
+    let messages: Vec<String> = messages.collect();
+    if messages.is_empty() {
+        "-".to_string()
+    } else {
+        messages.join(" ")
+    }
+}
+
+#[test]
+fn her_key_rules() {
+    for [words, messages] in table(HER_LOGS) {
+        assert_eq!(her_log(&mut sister_power_on(), words), messages, "{words}");
+    }
+    // Table 5 of the note, byte for byte; and the signs of table 6.
+    let (s, l, r, e) = (0x73, 0x6C, 0x72, 0x65);
+    let wanted: Vec<u8> = [s, l, r, r, e].into_iter().flat_map(|event| [0x1B, 0x4B, 0x31, event, 0x0D, 0x0A]).collect();
+    let held = [(7, 6), (127, 255), (247, 255), (367, 255), (368, 134)];
+    assert_eq!(log(&mut sister_power_on(), &held), wanted);
+    let signs = "4C 52 45 41 55 44 31 32 33 34 35 36 37 38 39 30 2A 23 4F 4D 4E 48 50";
+    assert_eq!(script::hex(&keys::SIGNS), signs.replace(' ', ""));
+    for key in 0..21 {
+        let sign = keys::SIGNS[usize::from(key)];
+        let wanted: Vec<u8> = [s, l, r, e].into_iter().flat_map(|event| [ESC, b'K', sign, event, CR, LF]).collect();
+        assert_eq!(log(&mut sister_power_on(), &[(0, key), (120, 255), (240, 255), (241, 128 + key)]), wanted);
+    }
+    let wrong = log(&mut sister_power_on(), &[(0, 6), (1, 7)]);
+    assert_eq!(wrong[6..], [0x1B, 0x4B, 0x46, 0x78, 0x0D, 0x0A]);
+    // Times of 0 switch messages off; the stage stays, and a later Time2 counts
+    // from the long message.
+    let mut record = hers_after("IT0;0");
+    assert_eq!(her_log(&mut record, "+1 .5000 .5000 -1"), "1s 1e");
+    let mut record = hers_after("IT4;0");
+    assert_eq!(her_log(&mut record, "+1 .39 .1 .5000"), "1s 1l");
+    feed(&mut record, b"\x1BIT4;8\r");
+    assert_eq!(her_log(&mut record, ".6000"), "1r");
+    assert_eq!((record.edition.keys.stage, record.edition.keys.key, record.held), (2, 6, NO_KEY));
+    // The first key starts the seconds in either auto, whatever is left; a
+    // second one does not, nor a switch.
+    for (light, left) in [("IEQ", 30), ("IES", 30), ("IEP", 0), ("IE0", 0)] {
+        let mut record = hers_after(light);
+        her_log(&mut record, "+1 -1");
+        assert_eq!(record.backlight.left, left, "{light}");
+    }
+    let mut record = hers_after("IEA");
+    assert_eq!(her_log(&mut record, "+1"), "1s");
+    record.backlight.left = 3;
+    assert_eq!(her_log(&mut record, "+2 +H +P .500 -1 -2 -P"), "Fx Hs Ps Pe");
+    assert_eq!((record.backlight.left, record.hook), (3, false));
+    // A restart lets all go: then the release of HOOK is no change.
+    assert_eq!(her_log(&mut record, "+1 +2 +P"), "1s Fx Ps");
+    feed(&mut record, b"\x1B&00\r");
+    assert_eq!(her_log(&mut record, "-1 -2 -H -P +H"), "Hs");
+    // The hook call sends nothing, and counts for what is a change.
+    assert_eq!(script::hook(&mut record, true), 0);
+    assert_eq!(her_log(&mut record, "-H +H"), "Hs");
+}
+
+#[test]
+fn her_log_numbers() {
+    let (mut record, mut room) = (sister_power_on(), [7; 12]);
+    for edge in [23, 127, 151, 254] {
+        assert_eq!(keys::call(&mut record, &[1; 3], &[0, 128, edge], &mut room), (4, 0, 0));
+    }
+    // In the first edition no more than nineteen keys are listed.
+    for edge in [19, 20, 21, 22, 147, 148, 149, 150] {
+        assert_eq!(keys::call(&mut power_on(), &[1], &[edge], &mut room), (4, 0, 0));
+        assert_eq!(keys::call(&mut sister_power_on(), &[1], &[edge], &mut [0; 6]).0, 0);
+    }
+    assert_eq!(keys::call(&mut record, &[1], &[23, 24], &mut room), (5, 0, 0));
+    assert_eq!((&record, room), (&sister_power_on(), [7; 12]));
+    // A message is written whole, or the call stops before its entry.
+    for size in 0..18 {
+        let (mut record, mut room) = (sister_power_on(), [7; 18]);
+        let counts = keys::call(&mut record, &[1, 2, 2, 3], &[6, 22, 255, 134], &mut room[..size]);
+        let whole = size / 6;
+        assert_eq!(counts, (0, [0, 1, 3][whole], 6 * whole));
+        assert_eq!(room[..6 * whole], b"\x1BK1s\r\n\x1BKPs\r\n"[..6 * whole]);
+        assert!(room[6 * whole..].iter().all(|&byte| byte == 7));
+        assert_eq!((record.edition.keys.stage, record.edition.ptt), (u8::from(whole > 0), whole > 1));
+    }
+    assert_eq!(keys::call(&mut record, &[9; 3], &[255, 134, 150], &mut []), (0, 3, 0));
+}
+
 #[test]
 fn seconds() {
     let mut record = full();
@@ -553,6 +1021,15 @@ fn seconds() {
         let mut light = before;
         assert_eq!((script::thin(&mut light), light), (number, before));
     }
+    // The sister's seconds pass in auto, by PWM or not; alone her backlight is
+    // judged as the first edition's.
+    for words in ["IER", "IEA", "IEA IEQ"] {
+        let mut record = hers_after(words);
+        assert_eq!((script::second(&mut record), record.backlight.left), (0, 29), "{words}");
+    }
+    let mut record = hers_after("IER");
+    record.backlight.duration = 251;
+    assert_eq!((script::second(&mut record), script::thin(&mut record.backlight)), (1, 0));
 }
 
 // Ranges.
@@ -617,7 +1094,7 @@ const RANGES: &str = "
     open | frame bytes | 0 | 27 13 | 0 10 255
     open | frame bytes | 1 | 27 13 | 0 10 255
     open | frame bytes | 2 | 1 | 0
-    -    | sister | 0 | 1 256 65535 | 0
+    -    | sister | 0 | | 0 1 256 65535
     full | sister | 0 | 1 256 65535 | 0
     -    | brightness | 0 | 1 50 100 255 | 0 256
     -    | speaker volume | 0 | 1 3 7 255 | 0 256
@@ -629,28 +1106,74 @@ const RANGES: &str = "
     -    | sister's keys down | 0 | 1 128 255 | 0 256
     full | sister's keys down | 2 | 1 16 32 | 0
     -    | sister's keys down | 3 | 1 128 255 | 0
-    sister | sister | 0 | 0 1 |
-    sister | brightness | 0 | 0 50 100 101 |
-    sister | speaker volume | 0 | 0 7 8 |
-    sister | PWM | 0 | 0 1 |
-    sister | PTT | 0 | 0 1 |
-    sister | sister's stage | 0 | 0 1 2 3 |
-    sister | contrast | 0 | 0 1 20 |
-    sister | Time1 | 0 | 0 12 |
-    sister | duration | 0 | 1 250 251 |
+    her -    | sister | 0 | 0 | 1 256 65535
+    her full | sister | 0 | 0 | 1
+    her -    | brightness | 0 | 101 128 255 | 0 50 100 256
+    her full | speaker volume | 0 | 8 128 255 | 0 3 7
+    her -    | PWM | 0 | | 0 1
+    her IE0  | PWM | 0 | 1 256 | 0
+    her IEE  | PWM | 0 | | 0 1
+    her -    | PTT | 0 | | 0 1
+    her -    | hook | 0 | | 0 1
+    her -    | contrast | 0 | 21 255 | 0 1 20 256
+    her -    | Time1 | 0 | 0 1 3 51 255 | 4 12 50
+    her -    | Time2 | 0 | 1 3 51 255 | 0 4 12 50
+    her IT4;0 | Time1 | 0 | 1 3 51 255 | 0 4 50
+    her IT0;0 | Time1 | 0 | 1 3 51 255 | 0 4 50
+    her IT0;0 | Time2 | 0 | 1 3 4 12 50 51 255 | 0
+    her -    | duration | 0 | 0 251 255 | 1 30 250
+    her -    | left | 0 | 251 255 | 0 1 250
+    her IES  | left | 0 | 251 255 | 0 1 250
+    her IE0  | left | 0 | 1 250 251 255 | 0
+    her IEE  | left | 0 | 1 250 255 | 0
+    her -    | backlight mode | 0 | 0 3 255 | 1 2
+    her IES  | backlight mode | 0 | 3 255 | 0 1 2
+    her -    | keypad flag | 0 | | 0 1
+    her -    | icon U | 0 | 2 254 | 0 1 255
+    her IDM4 | column | 0 | 25 | 24
+    her -    | text mode | 0 | 2 3 4 | 0 1 5 6 10
+    her -    | overlay | 0 | 1 5 10 19 | 0 11 18
+    her -    | held | 0 | 1 256 | 0
+    her -    | held key | 0 | 1 18 | 0
+    her -    | held tick | 0 | 1 65535 | 0
+    her -    | stage | 0 | 1 | 0
+    her -    | sister's stage | 0 | 3 4 255 | 0 1 2
+    her -    | sister's key | 0 | 1 20 255 | 0
+    her -    | sister's tick | 0 | 1 65535 | 0
+    her -    | sister's keys down | 0 | 1 255 | 0
+    her full | sister's stage | 0 | 0 3 4 255 | 1 2
+    her full | sister's key | 0 | 21 22 255 | 0 1 20
+    her full | sister's tick | 0 | | 0 1 256 65535
+    her full | sister's keys down | 0 | 1 255 | 0
+    her full | sister's keys down | 3 | 1 128 | 0
+    false | sister's stage | 0 | 0 1 2 4 255 | 3
+    false | sister's key | 0 | 1 20 | 0
+    false | sister's tick | 0 | 1 65535 | 0
+    false | sister's keys down | 0 | | 0 1 255
+    false | sister's keys down | 1 | | 0 1 255
+    false | sister's keys down | 2 | 32 63 128 255 | 0 1 16 31
+    false | sister's keys down | 3 | 1 128 255 | 0
+    one   | sister's keys down | 0 | 0 | 1 32 255
+    one   | sister's keys down | 1 | | 0 255
+    one   | sister's keys down | 2 | 32 | 0 31
 ";
 
 #[test]
 fn ranges_of_the_record() {
     let mut open = power_on();
     feed(&mut open, b"\x1BIP");
-    for record in [power_on(), former_power_on(), full(), open.clone()] {
-        assert!(in_range(&record));
+    // Keys 0 and 20 are down in the state false, or key 5 alone.
+    let [mut both, mut one] = [sister_power_on(), sister_power_on()];
+    assert_eq!(log(&mut both, &[(1, 0), (2, 20)]), b"\x1BKLs\r\n\x1BKFx\r\n");
+    assert_eq!(log(&mut one, &[(1, 0), (2, 5), (3, 128)]), b"\x1BKLs\r\n\x1BKFx\r\n");
+    for record in [&power_on(), &former_power_on(), &sister_power_on(), &full(), &her_full(), &open, &both, &one] {
+        assert!(in_range(record));
     }
     for [base, name, place, wrong, right] in table(RANGES) {
         let base = match base {
             "open" => open.clone(),
-            "sister" => sister_power_on(),
+            "false" => both.clone(),
+            "one" => one.clone(),
             _ => start(base),
         };
         for (values, good) in [(wrong, false), (right, true)] {
@@ -1073,11 +1596,17 @@ fn listings_of_a_stream() {
     assert_eq!(list_parts(stream), parts.replace('|', "\n"));
     // The row is one of the mode that the frames before it have set.
     let verdicts = "0 obeyed|6 obeyed|14 passed over 20|22 obeyed|27 passed over 4|34 bad|";
-    assert_eq!(list_verdicts(stream), verdicts.replace('|', "\n"));
-    assert_eq!([list_parts(b""), list_verdicts(b"")], ["", ""]);
+    assert_eq!(verdicts_of(stream), verdicts.replace('|', "\n"));
+    assert_eq!([list_parts(b""), verdicts_of(b"")], ["", ""]);
     let long = [&[ESC], &[b'0'; 251][..], &[CR]].concat();
-    assert_eq!([list_parts(&long), list_verdicts(&long)], ["0 closed 253\n", "0 bad\n"]);
-    assert_eq!(list_verdicts(b"A\x1B&V\r"), "1 obeyed\n");
+    assert_eq!([list_parts(&long), verdicts_of(&long)], ["0 closed 253\n", "0 bad\n"]);
+    assert_eq!(verdicts_of(b"A\x1B&V\r"), "1 obeyed\n");
+    // Of the sister: what a frame may do rests on the frames before it.
+    let stream = b"\x1BIEe\r\x1BIES\r\x1BIEe\r\x1BIN101\r\x1BIN100\r\x1BIN+\r\x1BID0\r\x1B&00\r\x1BIEc\r";
+    let verdicts = "0 refused|5 obeyed|10 obeyed|15 passed over 101|22 obeyed|29 refused|34 bad|39 obeyed|44 refused|";
+    assert_eq!(list_verdicts(&sister_power_on(), stream), verdicts.replace('|', "\n"));
+    let listed = seen::listing(&sister_power_on(), b"\x1BIDM2\r\x1BIU2\r\x1BIDM12\r\x1BIA?\r\x1BQ\r\x1BIE");
+    assert!(listed.starts_with("REPLIES 2\nMODE 5 OVER 18 DISPLAY 1\n") && listed.contains("\nICONS 0 255 0 "));
 }
 
 // The choice screen.
@@ -1300,7 +1829,35 @@ const SCRIPT: &str = "
     C | ~ | /edition 0132{00*5}010200000080/
     P | ~ | /edition {00*13}/
     S 2800000001 | ~ | /edition 01{00*12}/
-    F 000041 | ^ | F 0100000000/buffer/screen 010000000000/
+    R | = | R 01
+    F 00031B49410D | ^ | F 0000040003/buffer 3F0D0A/
+    Z | ^ | Z 00/screen 010000000000/
+    Z | ~ | /backlight 021E0000/switches 0A010000000000/keys 00000000000C0C/edition 0132030100{00*8}/frame 0000/
+    R | = | R 01
+    F 00021B0D | ^ | F 0000010000/buffer 030A/
+    F 00030D | ^ | F 0000010003/buffer 3F0D0A/
+    F 00051B49553C1B495532 | ~ | /frame 0103/bytes 495532
+    F 00000D | ~ | /icons 00FF
+    F 00211B26563F0D | ^ | F 000005001F/buffer 1B26563A20484134303020562E30312E30302032352E30392E323030360D0ADCE3/
+    F 001E1B26563F0D | ^ | F 0000040000/
+    Z | ^ | Z 00/
+    K 000600010001146E | ^ | K 0500000000/buffer 030A11181F26/
+    K 00060001000114 | ^ | K 0000010006/buffer 1B4B4E730D0A/
+    K 00050001000294 | ~ | /edition 01320301000114000100000000/
+    K 0006000100020F | ~ | /edition 01320301000300000000801000/
+    K 00000002000300049494 | ~ | /edition 01320301000300000000800000/
+    K 00060001000597 | ^ | K 0400000000/
+    K 0006000100058F | ~ | /edition 0132030100{00*8}/
+    K 000C00020006000715167E | ^ | K 0500000000/
+    K 000C0002000600071516 | ~ | /edition 0132030101{00*8}/
+    S 2E00000015 | ~ | /edition 0132030101001500
+    R | = | R 00
+    S 2E00000000 | ^ | S 00/
+    N 1b1B0D | = | N 000006
+    N {1B*4096} | = | N 003000
+    S 1A000000FB | ~ | /backlight 02FB
+    R | = | R 00
+    B | = | B 00/backlight 02FB1D00
     P | ^ | P 00/
     N | = | N 000000
     N 0D | = | N 000000
@@ -1353,7 +1910,7 @@ const SCRIPT: &str = "
 ";
 
 /// Lines that can't be taken, and others that are at a limit and can.
-const MISFITS: &str = " |P  | P|p|P\r|P 00|o|O 00|O  | O|F|F |F 00|F 012D|F 00014|F 00014g|F 0001 41|\
+const MISFITS: &str = " |P  | P|p|P\r|P 00|o|O 00|O  | O|z|Z 00|Z  | Z|Y|F|F |F 00|F 012D|F 00014|F 00014g|F 0001 41|\
     F  000141|F000141|F 0001-|F +001|F 0000{41*4097}|n 1B|N 1|N 1B1|N  1B|N1B|N 1B |N {1B*4097}|\
     N {41*40000}|D|D |D 00|D 000|D 00004|D 0000 41|D0000|d 0000|D 0000{41*4097}|D FFFF{1B*40000}|J|\
     J |J 0|J 004|J 00 41|J00|j 00|J 00{41*4097}|J FF{41*40000}|E 1|E 1B4|E 1B |E  1B|E1B|e|\
@@ -1366,7 +1923,7 @@ const MISFITS: &str = " |P  | P|p|P\r|P 00|o|O 00|O  | O|F|F |F 00|F 012D|F 0001
 const LIMITS: &str = "F 0000{41*4096}|F 012C|N {1B*4096}|D 0000{41*4096}|D FFFF{41*4096}|D 0000|\
     J 00{41*4096}|J FF|E {41*4096}|K 00000400{00*3072}|K 00000000{FF*1024}|K 000000010000|\
     T 000000{41*300}|T 000001|G 000000{41*300}|Q 0401|M 01|U 046001|S 2300000000|S 2400170000|\
-    S 2700040000|S 3000030000|W 00002000000000|H 00|H FF|P |R |N |E ";
+    S 2700040000|S 3000030000|W 00002000000000|H 00|H FF|P |R |N |E |Z ";
 
 #[test]
 fn script_lines() {
@@ -1386,6 +1943,7 @@ fn script_lines() {
         assert!(right, "{line}: {told}");
     }
     let [now, former] = ["P", "O"].map(&mut ask);
+    assert_eq!(ask("Z").lines().count(), 15);
     assert_eq!((now[1..].replace("0C00\n", "0C0C\n"), former.lines().count()), (former[1..].into(), 15));
     for line in LIMITS.split('|') {
         assert_ne!(ask(line), "what\n", "{line}");
@@ -1406,7 +1964,7 @@ fn lines_of_calls_read_back() {
 
 #[test]
 fn kinds_are_kept() {
-    let all = "F PSRF O OK K W TG QUMV CB H FH SH N FN SN D J DJ SD E SE";
+    let all = "F PSRF O OK K W TG QUMV CB H FH SH N FN SN D J DJ SD E SE Z ZF ZK ZS ZSFKCHRN PZ";
     for kinds in all.split(' ') {
         let calls = generate::calls(5, 300, kinds);
         assert_eq!(calls.len(), 300);
@@ -1450,7 +2008,7 @@ fn every_field_is_printed_and_set() {
 #[test]
 fn scripts_reach_everything() {
     // So many scripts are compared if nothing else is said.
-    let cover = cover::over(0..120, 2000);
+    let cover = cover::over(0..150, 2000);
     let mut missing = cover::wanted();
     missing.retain(|name| cover.count(name) == 0);
     assert!(missing.is_empty(), "{missing:?}");
@@ -1464,6 +2022,11 @@ fn model_agrees_with_itself() {
     for (name, check) in property::CHECKS {
         for seed in 0..60 {
             check(seed).unwrap_or_else(|why| panic!("{name}, seed {seed}: {why}"));
+        }
+    }
+    for (name, check) in property::BOTH {
+        for (seed, sister) in (0..60).flat_map(|seed| [(seed, false), (seed, true)]) {
+            check(seed, sister).unwrap_or_else(|why| panic!("{name}, seed {seed}, sister {sister}: {why}"));
         }
     }
 }

@@ -2,7 +2,7 @@
 //!
 //! Each rule names all places where it is broken. The earliest place decides,
 //! and there the first rule. No record is taken: what the rules ask of a frame
-//! rests on its bytes alone.
+//! rests on its bytes alone. They are of the first edition.
 
 use crate::grammar::Spelt;
 use crate::record::LARGE;
@@ -29,7 +29,7 @@ pub fn pieces(stream: &[u8]) -> Vec<Piece> {
         .into_iter()
         .map(|(part, behind)| {
             let good = match &part {
-                Part::Closed(body) => good(body),
+                Part::Closed(body) => good(false, body),
                 _ => None,
             };
             Piece { part, good, place: std::mem::replace(&mut place, behind) }

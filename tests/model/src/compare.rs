@@ -6,7 +6,7 @@ use std::path::{Path, PathBuf};
 use std::process::{Command, Stdio};
 use std::time::{Duration, Instant};
 
-use crate::record::{power_on, LF};
+use crate::record::{power_on, sister_power_on, LF};
 use crate::{generate, script};
 
 /// How long the program may take for one script.
@@ -125,16 +125,19 @@ pub fn script_differs(words: &[String], folder: &Folder, seed: u64, calls: usize
         .map(|line| format!("seed {seed}: {} lines more than the model, the first: {}", rest.len(), short(line)))
 }
 
-/// Compares one listing of the program "list screen".
+/// Compares one listing of the program "list screen". With the word that chooses
+/// the sister among the program's it is hers.
 pub fn listing_differs(words: &[String], folder: &Folder, seed: u64) -> Option<String> {
-    let mut rng = crate::rng::Rng::new(seed ^ 0x5C4EE);
+    let sister = words.iter().any(|word| word == "--sister");
+    let mut rng = generate::Dice::new(seed ^ 0x5C4EE, sister);
     let pieces = match rng.below(10) {
         0 => 0,
         1 => rng.between(100, 1500),
         _ => rng.between(1, 60),
     };
     let stream = generate::stream_of(&mut rng, pieces);
-    let ours = crate::seen::listing(&stream);
+    let start = if sister { sister_power_on() } else { power_on() };
+    let ours = crate::seen::listing(&start, &stream);
     let theirs = match run(words, folder, &stream) {
         Ok(theirs) => theirs,
         Err(why) => return Some(format!("seed {seed}: the program {why}")),

@@ -1,14 +1,15 @@
 //! Counts what random scripts reach, and names what they should reach. What
-//! has to do with commands, fields and letters goes by their tables.
+//! has to do with commands, fields and letters goes by their tables. What is
+//! seen on a record of the sister counts apart, under a name that says so.
 
 use std::collections::HashMap;
 
 use crate::choice::{self, Broken, Piece};
-use crate::commands::{self, COMMANDS, LONGEST};
+use crate::commands::{self, mark, table, LONGEST, LONGEST_OF_FIRST};
 use crate::fields::*;
-use crate::generate::{self, tried, BORDERS, DAMAGED, MODES, OVERLAYS};
+use crate::generate::{self, damaged, tried, BORDERS, DAMAGED, MODES, OVERLAYS};
 use crate::grammar::{spelt, Command, Spelt, MOST_ROWS};
-use crate::keys::{self, Edge, KEYS};
+use crate::keys::{self, Edge, KEYS, SIGNS};
 use crate::places::{Found, Kind, Verdict};
 use crate::record::*;
 use crate::script::{self, cell, command, command_count, letter, words, Answer, Call, LETTERS};
@@ -22,7 +23,12 @@ macro_rules! see {
 #[derive(Default)]
 pub struct Cover {
     counts: HashMap<String, u64>,
+    /// Stands before each name: whose record it is.
+    whose: &'static str,
 }
+
+/// Stands before all that is seen on the sister's record.
+const HERS: &str = "sister: ";
 
 /// What scripts should reach. In corners stands what takes the place: words
 /// between strokes, all numbers from one to another, or all that a list has.
@@ -51,9 +57,9 @@ refused <R|F|N|K|C|H|Q|U|M|V> for <refusable> alone
 refused B for <backlight mode|duration|left> alone
 field <field> set at its <first|last> place
 field <flag> set to <0|1|2 or more>
-refused <R|F|N|K|C|H|Q|U|M|V> for the sister as delivered
-<brightness|speaker volume|sister's stage|sister's key|sister's keys down> <1|255> refused
+<sister's key|sister's keys down> <1|255> refused
 sister's tick <1|65535> refused
+PWM 1 refused
 field inverse mark place <0..4> set to <0|1>
 field sister's keys down place <0..3> set to <1|255>
 row 4 refused in mode <0|1>
@@ -81,8 +87,9 @@ empty log
 log and bad edge past the stop
 unequal lengths and a bad edge
 log stops at a <poll|release>
-<power-on|former power-on> <from itself|from the other|in range|out of range>
+<power-on|former power-on|sister power-on> <from itself|from another|in range|out of range>
 key log right after <power-on|former power-on>
+field sister set in range to <the first|the sister>
 second <at left 0|at left 1|lowers left>
 a line that can't be taken
 an empty line
@@ -246,6 +253,131 @@ choice yes of 4096 bytes
 choice broken by rule 2 at 4096
 ";
 
+/// What scripts should reach on records of the sister.
+const WANTED_OF_HERS: &str = "
+frame <command> obeyed
+frame <ranged> passed over
+frame <refusing> refused
+<command> obeyed with <an overlay|the display off|a key held|keys in the state false|a mark|a line that isn't blank>
+<placed> obeyed in mode <mode>
+frame <number> with the number 0
+padded zero in <number>
+<1..2> zeros before number 0 of <number>
+<1..2> zeros before number 1 of <two>
+all numbers of <two> padded
+padded <number>, else obeyed
+padded <narrow>, else passed over
+<four digits|a zero and three digits> in <number>
+answer <F|N|C|H|B|M|V|R> <0|1>
+answer K <0|1|4|5>
+answer <Q|U> <0|1|4>
+refused <R|F|N|K|C|H|Q|U|M|V> for <refusable> alone
+refused B for <backlight mode|duration|left> alone
+B taken though the record is refused for <duration|left> alone
+PWM 1 refused with the light off
+Time2 <4|12|50> refused with Time1 0
+left <1|255> refused in light mode <0..1>
+left <251|255> refused in light mode 2
+sister's key <1|255> refused in stage <0|3>
+sister's key <21|255> refused in stage <1..2>
+sister's tick <1|65535> refused in stage <0|3>
+sister's keys down refused in stage <0..3>
+sister's keys down empty refused in stage 3
+sister's keys down with key <21|31> refused in stage 3
+edge <23|127|151|254> not listed
+message <message>
+rule <rule>
+<short poll|long poll> <one below|at|one above> the threshold
+elapsed runs over
+poll of a <short key with Time1 0|long key with Time2 0>
+poll <with none held|in the state false>
+press of the held key again
+press of a key that is down in the state false
+press with <HOOK lifted|PTT pressed>
+release of <a key not held|a key not down in the state false|the last key in the state false>
+state false with <1..4> keys
+press starts the seconds <with|without> PWM
+press of a second key with seconds to start
+<press|release> of <HOOK|PTT> <that changes it|that changes nothing> in stage <0..3>
+<press|release> of <HOOK|PTT> with seconds to start
+empty log
+log and bad edge past the stop
+unequal lengths and a bad edge
+log stops at a <press|poll|release>
+log stops with <0..5> left
+message sent with <6|7> left
+key log right after power-on
+second <at left 0|at left 1|lowers left>
+second lowers left <with|without> PWM
+row <0..6> in mode <mode> overlay <0|18>
+sms <0..2>
+volume panel <0..3>
+owner <0..8>
+column owner <0..8>
+IDM<screen> obeyed in mode <mode>
+text to the large line under overlay <overlay>
+cursor frame 0;0 in mode 10
+cursor frame in mode 10, else <obeyed|passed over>
+[K blanks from column <0..15> in mode <0|1|5|6>
+[K at column 16 in mode <0|1|5|6>
+[K at column 24 in mode 10
+mark <0..4> seen by <row|column>
+stop at <CR|ESC>
+stop at <CR|ESC> of an overlong frame
+stop <with room 0|after some answers>
+room 0 and all used
+frame <abandoned|open before the call>
+frame <abandoned overlong|closed overlong|overlong before the call>
+frame closed <empty|with 250 bytes>
+frame outside the grammar
+bad frame <damaged>
+tail <of 0 bytes|of 250 bytes|overlong>
+text <stored|stored in the large line|dropped|dropped behind the large line>
+picture frame of 96 columns
+picture frame of row 6 cut to five bits
+label frame of <0|7> codes
+mark stopped with <0..2> left
+mark written with <3|4> left
+<refusing> stopped with <0..2> left
+<refusing> written with <3|4> left
+<asked> stopped <at once|behind an answer>
+<asked> answered behind an answer
+<asked> open before, <answered|stopped>
+<question> <abandoned|left open|open before, spoilt>
+contrast <0|1|20> told
+brightness <0|100> told
+speaker volume <0..7> told
+<PTT|no PTT> told
+<on-hook|off-hook> told
+light <0..4> told
+duration <1|250> told
+times <0;0|4;0|4;4|50;50|12;12> told
+screen <0..12> told
+place <0;0|0;16|3;15|4;16> told
+place 0;<0|24> told in mode 10
+<contrast|brightness|speaker volume> stepped <up|down> <to its end|from its end|in between>
+<lighting> in light mode <0..4>
+<lighting> in light mode <0..4> with the keypad flag
+<lighting> in light mode <0|2> with seconds to start
+hook call to <on-hook|off-hook> from <on-hook|off-hook>
+hook call to <on-hook|off-hook> while AskHook waits
+hook call with a <frame open|key held>
+Restart with <text|a frame|an ESC|nothing> behind it
+Restart with <HOOK lifted|PTT pressed|another contrast|another brightness|another speaker volume|another time|another duration>
+three answers of several bytes in one call
+a question mark behind a long answer
+stop at ESC behind a long answer
+more than 255 bytes of answers in one call
+stop with room 300
+bound with <frame> and <no bytes|bytes without ESC|ESC alone|one ESC|256 ESC or more|some ESC>
+refused N with <frame> and <no bytes|bytes without ESC|ESC alone|some ESC>
+bound <reached|not reached|passed by questions> with <frame>
+room of the bound, all used, with <frame>
+room of <1|2> less than the bound, <all used|stopped>
+bound <0|3|6|9|12288|12291>
+room of the bound, stopped by a question
+";
+
 /// What is open when the bound is asked for, and what is offered.
 const FRAMES: &str = "no frame|an open frame|an overlong frame";
 const OFFERED: &str = "no bytes|4,096 bytes without ESC|bytes without ESC|4,096 ESC|ESC alone|\
@@ -254,11 +386,12 @@ const OFFERED: &str = "no bytes|4,096 bytes without ESC|bytes without ESC|4,096 
 /// What makes the labels of a choice screen be looked at.
 const LOOKS: &str = "text|a text mode|an overlay|an IDn passed over|the end";
 
-/// The list that a word in corners stands for.
-fn list(word: &str) -> Vec<String> {
+/// The list that a word in corners stands for, by the sister's tables or those
+/// of the first edition.
+fn list(word: &str, sister: bool) -> Vec<String> {
     let strings = |list: &[u8]| list.iter().map(u8::to_string).collect();
     let of = |keep: &dyn Fn(&Command) -> bool| {
-        let kept = COMMANDS.iter().filter(|command| keep(command));
+        let kept = table(sister).iter().filter(|command| keep(command));
         kept.map(|command| command.name.to_string()).collect()
     };
     let written = |c: &Command| !c.has_rest();
@@ -288,20 +421,23 @@ fn list(word: &str) -> Vec<String> {
         "written" => of(&written),
         "written with numbers" => of(&|c| written(c) && !c.ranges().is_empty()),
         "question" => of(&Command::is_question),
+        "refusing" => of(&Command::may_be_refused),
+        "lighting" => of(&|c| c.spell::<u16>(&[], &[]).starts_with(b"IE")),
         "capital" => of(&capital),
-        "screen" => generate::numbers_of_mode().iter().map(u16::to_string).collect(),
+        "screen" => generate::numbers_of_mode(sister).iter().map(u16::to_string).collect(),
         "mode" => strings(&MODES),
         "mode with rows" => strings(&MODES[..4]),
         "overlay" => strings(&OVERLAYS),
         "border" => strings(&BORDERS),
         "field" => names(&|_| true),
         "flag" => names(&|field| values(field).len() == 2),
-        "refusable" => names(&|field| refusable().contains(&field)),
+        "refusable" => names(&|field| refusable(sister).contains(&field)),
         "key" => keys(true),
         "repeating key" => keys(false),
-        "rule" => keys::RULES.iter().map(|rule| rule.name.to_string()).collect(),
-        "damaged" => DAMAGED.split('|').map(|form| format!("{form:?}")).collect(),
-        "asked" => ASKED.iter().map(|(name, length)| format!("{name} of {length}")).collect(),
+        "rule" => keys::rules(sister).iter().map(|rule| rule.name.to_string()).collect(),
+        "message" => messages(),
+        "damaged" => damaged(sister).split('|').map(|form| format!("{form:?}")).collect(),
+        "asked" => asked(sister).iter().map(|(name, length)| format!("{name} of {length}")).collect(),
         "part" => PARTS[1..].iter().map(|kind| kind.word().to_string()).collect(),
         "judged mode" => [&MODES[..], &[255]].concat().into_iter().map(mode_name).collect(),
         "frame" => FRAMES.split('|').map(str::to_string).collect(),
@@ -312,12 +448,50 @@ fn list(word: &str) -> Vec<String> {
 }
 
 /// The questions, each with a length of its answer.
-const ASKED: [(&str, usize); 4] = [("AskContrast", 5), ("AskContrast", 6), ("AskHook", 5), ("AskVersion", LONGEST)];
+const ASKED: &[(&str, usize)] =
+    &[("AskContrast", 5), ("AskContrast", 6), ("AskHook", 5), ("AskVersion", LONGEST_OF_FIRST)];
+const ASKED_OF_HERS: &[(&str, usize)] = &[
+    ("AskPosition", 10),
+    ("AskPosition", 11),
+    ("AskVersion", LONGEST),
+    ("AskHook", 8),
+    ("AskPtt", 8),
+    ("AskContrast", 8),
+    ("AskContrast", 9),
+    ("AskMode", 9),
+    ("AskMode", 10),
+    ("AskLight", 10),
+    ("AskLight", 11),
+    ("AskLight", 12),
+    ("AskBrightness", 8),
+    ("AskBrightness", 9),
+    ("AskBrightness", 10),
+    ("AskTimes", 10),
+    ("AskTimes", 11),
+    ("AskTimes", 12),
+    ("AskSpeaker", 8),
+];
+
+fn asked(sister: bool) -> &'static [(&'static str, usize)] {
+    if sister {
+        ASKED_OF_HERS
+    } else {
+        ASKED
+    }
+}
+
+/// The sister's key messages, by sign and event: switches have neither a long
+/// nor a repeated one.
+fn messages() -> Vec<String> {
+    let events = |sign: u8| if b"HP".contains(&sign) { "se" } else { "slre" };
+    let of = |sign: u8| events(sign).chars().map(move |event| format!("{}{event}", char::from(sign)));
+    SIGNS.into_iter().flat_map(of).chain(["Fx".to_string()]).collect()
+}
 
 const PARTS: [Kind; 6] = [Kind::None, Kind::Text, Kind::Skipped, Kind::Closed, Kind::Abandoned, Kind::Tail];
 
 /// The names that a pattern stands for.
-fn expand(pattern: &str) -> Vec<String> {
+fn expand(pattern: &str, sister: bool) -> Vec<String> {
     let Some((before, rest)) = pattern.split_once('<') else {
         return vec![pattern.to_string()];
     };
@@ -328,49 +502,88 @@ fn expand(pattern: &str) -> Vec<String> {
             (number(from)..=number(to)).map(|n| n.to_string()).collect()
         }
         None if inside.contains('|') => inside.split('|').map(str::to_string).collect(),
-        None => list(inside),
+        None => list(inside, sister),
     };
-    let rest = expand(behind);
+    let rest = expand(behind, sister);
     let with = |word: &String| rest.iter().map(|rest| format!("{before}{word}{rest}")).collect::<Vec<_>>();
     words.iter().flat_map(with).collect()
 }
 
 /// Everything that scripts of all kinds should reach.
 pub fn wanted() -> Vec<String> {
-    let mut names: Vec<String> = WANTED.lines().filter(|line| !line.is_empty()).flat_map(expand).collect();
+    let names = |wanted: &str, sister: bool| -> Vec<String> {
+        wanted.lines().filter(|line| !line.is_empty()).flat_map(|line| expand(line, sister)).collect()
+    };
+    let first = [names(WANTED, false), of_tables(false), of_the_rest()].concat();
+    let hers = [names(WANTED_OF_HERS, true), of_tables(true)].concat();
+    let hers = hers.into_iter().map(|name| format!("{HERS}{name}"));
+    first.into_iter().chain(hers).collect()
+}
+
+/// What follows from the tables of commands and fields, on records of an edition.
+fn of_tables(sister: bool) -> Vec<String> {
+    let mut names = vec![];
     let how = |good: bool| if good { "obeyed" } else { "passed over" };
-    for command in COMMANDS.iter() {
+    for command in table(sister) {
         for (place, range) in command.ranges().into_iter().enumerate() {
             for n in tried(range).into_iter().filter(|&n| command.has_number() || n < 10) {
-                let (form, good) = (command.form(place, n), range.has(n, MOST_ROWS));
-                names.push(format!("{form} {}", how(good)));
-                if !command.has_rest() {
-                    names.push(format!("{form} {}written", if good { "" } else { "not " }));
+                names.push(format!("{} {}", command.form(place, n), how(range.has(n, MOST_ROWS))));
+            }
+            for (mode, n) in MODES.into_iter().flat_map(|m| (0..7).map(move |n| (m, n))) {
+                let good = range.has(n, rows_to_name(mode).into());
+                if range.by_mode() {
+                    names.push(format!("{} {} in mode {mode}", command.form(place, n), how(good)));
                 }
+            }
+        }
+        if command.takes_zeros() {
+            let zeros = vec![0; command.ranges().len()];
+            names.push(format!("{} obeyed", String::from_utf8_lossy(&command.spell(&zeros, &[]))));
+        }
+    }
+    // A field by itself, right beside the ends of its range.
+    for (number, row) in FIELDS.iter().enumerate().filter(|(_, row)| row.places == 1 && by_itself(row)) {
+        let wrong = ends_of(sister, number as u16).into_iter().filter(|(_, good)| !good);
+        names.extend(wrong.map(|(value, _)| format!("{} {value} refused", row.name)));
+    }
+    for (name, length) in asked(sister) {
+        names.extend((0..*length).map(|left| format!("{name} of {length} stopped with {left} left")));
+        names.extend([0, 1].map(|m| format!("{name} of {length} answered with {} left", length + m)));
+    }
+    names
+}
+
+/// Whether the range of a field rests on no other, but that of Time2 in the
+/// sister's record on Time1.
+fn by_itself(row: &Field) -> bool {
+    row.rests_on.is_empty() || row.name == "Time2"
+}
+
+/// What follows from tables and has to do with no edition, or with the first.
+fn of_the_rest() -> Vec<String> {
+    let mut names = vec![];
+    for command in table(false) {
+        for (place, range) in command.ranges().into_iter().enumerate() {
+            for n in tried(range).into_iter().filter(|_| !command.has_rest()) {
+                let how = if range.has(n, MOST_ROWS) { "written" } else { "not written" };
+                names.push(format!("{} {how}", command.form(place, n)));
             }
             for (mode, n) in [0, 1, 5, 6, LARGE, 255].into_iter().flat_map(|m| (0..7).map(move |n| (m, n))) {
                 let good = range.has(n, script::rows_of_verdict(mode).into());
-                let (form, how, mode_name) = (command.form(place, n), how(good), mode_name(mode));
+                let how = if good { "obeyed" } else { "passed over" };
                 if range.by_mode() {
-                    names.push(format!("verdict of {form} {how} in {mode_name}"));
-                }
-                if range.by_mode() && mode != 255 {
-                    names.push(format!("{form} {how} in mode {mode}"));
+                    names.push(format!("verdict of {} {how} in {}", command.form(place, n), mode_name(mode)));
                 }
             }
         }
     }
     // A field that stands by itself, at the ends of its range and beside them.
-    for (number, row) in FIELDS.iter().enumerate().filter(|(_, row)| row.rests_on.is_empty()) {
+    for (number, row) in FIELDS.iter().enumerate().filter(|(_, row)| row.places == 1 && by_itself(row)) {
         let number = number as u16;
-        let ends = ends_of(number);
-        for (value, good) in ends.iter().filter(|_| row.places == 1) {
+        for (value, _) in [ends_of(false, number), ends_of(true, number)].concat() {
             names.push(format!("field {} set to {value}", row.name));
-            if !good {
-                names.push(format!("{} {value} refused", row.name));
-            }
         }
-        if values(number).len() == 256 && row.places == 1 {
+        if values(number).len() == 256 {
             names.push(format!("field {} set to 256 or more", row.name));
         }
     }
@@ -384,10 +597,6 @@ pub fn wanted() -> Vec<String> {
     }
     names.push(format!("line S with field {}", FIELDS.len()));
     names.push(format!("line W with command {}", command_count()));
-    for (name, length) in ASKED {
-        names.extend((0..length).map(|left| format!("{name} of {length} stopped with {left} left")));
-        names.extend([0, 1].map(|m| format!("{name} of {length} answered with {} left", length + m)));
-    }
     // Every place where a text row is seen, with its mark.
     for (mode, overlay) in MODES.into_iter().flat_map(|mode| OVERLAYS.map(|overlay| (mode, overlay))) {
         let layout = seen::layout(&Record { mode, overlay, ..power_on() });
@@ -401,9 +610,9 @@ pub fn wanted() -> Vec<String> {
 }
 
 /// The values at the ends of a field's range and right beside them, and the
-/// greatest, in the power-on record; whether each is in range.
-fn ends_of(field: u16) -> Vec<(u16, bool)> {
-    let mut record = power_on();
+/// greatest, in an edition's power-on record; whether each is in range.
+fn ends_of(sister: bool, field: u16) -> Vec<(u16, bool)> {
+    let mut record = if sister { sister_power_on() } else { power_on() };
     let mut judge = |value: u16| {
         set(&mut record, field, 0, value);
         (value, fits(&record, field))
@@ -500,7 +709,7 @@ fn hook_name(on: bool) -> &'static str {
 
 /// The question that a frame's bytes spell, and its answer now.
 fn question(record: &Record, body: &[u8]) -> Option<(&'static str, Vec<u8>)> {
-    let good = stream::good(body).filter(|good| good.command.is_question())?;
+    let good = stream::good(record.edition.sister, body).filter(|good| good.command.is_question())?;
     Some((good.command.name, commands::answer(record, &good)))
 }
 
@@ -522,8 +731,8 @@ fn counted_by(record: &Record) -> &'static str {
 }
 
 impl Cover {
-    fn add(&mut self, name: impl Into<String>) {
-        *self.counts.entry(name.into()).or_default() += 1;
+    fn add(&mut self, name: impl std::fmt::Display) {
+        *self.counts.entry(format!("{}{name}", self.whose)).or_default() += 1;
     }
 
     pub fn count(&self, name: &str) -> u64 {
@@ -533,6 +742,8 @@ impl Cover {
     /// Counts one call: the record before it and its answer.
     pub fn see(&mut self, call: &Call, before: &Record, answer: &Answer) {
         let letter = letter(call);
+        let sister = before.edition.sister;
+        self.whose = if sister && "RFNKCHBQUMV".contains(letter) { HERS } else { "" };
         let number = match answer {
             Answer::InRange(yes) => Some(u8::from(*yes)),
             Answer::Counts { number, .. } | Answer::Written { number, .. } => Some(*number),
@@ -547,13 +758,15 @@ impl Cover {
         if *answer == Answer::InRange(false) || (letter != 'R' && number == Some(1)) {
             self.see_refused(letter, before);
         }
-        let powers = [("power-on", power_on()), ("former power-on", former_power_on())];
-        let power = powers.iter().position(|_| *call == Call::PowerOn);
-        let power = power.or((*call == Call::FormerPowerOn).then_some(1));
-        if let Some((name, record)) = power.map(|at| &powers[at]) {
+        let powers = [
+            ("power-on", Call::PowerOn, power_on()),
+            ("former power-on", Call::FormerPowerOn, former_power_on()),
+            ("sister power-on", Call::SisterPowerOn, sister_power_on()),
+        ];
+        if let Some((name, _, record)) = powers.iter().find(|(_, power, _)| power == call) {
             let from = match faults(before)[..] {
                 _ if before == record => "from itself",
-                _ if powers.iter().any(|(_, other)| before == other) => "from the other",
+                _ if powers.iter().any(|(_, _, other)| before == other) => "from another",
                 [] => "in range",
                 _ => "out of range",
             };
@@ -591,6 +804,13 @@ impl Cover {
             }
             (Call::Set { field, place, value }, Answer::Done) => {
                 self.see_set(*field, usize::from(*place), *value);
+                if FIELDS[usize::from(*field)].name == "sister" && (*value != 0) != sister {
+                    let mut after = before.clone();
+                    script::perform(&mut after, call);
+                    if faults(before).is_empty() && faults(&after).is_empty() {
+                        see!(self, "field sister set in range to {}", if sister { "the first" } else { "the sister" });
+                    }
+                }
             }
             (Call::Sms { phase }, Answer::Sms(0, panel)) => {
                 see!(self, "sms {panel}");
@@ -606,6 +826,13 @@ impl Cover {
                     1 => "second at left 1",
                     _ => "second lowers left",
                 });
+                if before.backlight.left > 0 {
+                    see!(self, "second lowers left {} PWM", if before.edition.pwm { "with" } else { "without" });
+                }
+                if let ('B', [field]) = (letter, &faults(before)[..]) {
+                    let name = FIELDS[usize::from(*field)].name;
+                    see!(self, "B taken though the record is refused for {name} alone");
+                }
             }
             (Call::Hook { on }, Answer::Number(0)) => self.see_hook(before, *on),
             (Call::Command { command: n, numbers, .. }, Answer::Written { number, .. }) => {
@@ -642,14 +869,29 @@ impl Cover {
         let (row, mode) = (&FIELDS[usize::from(field)], before.mode);
         let name = row.name;
         see!(self, "refused {letter} for {name} alone");
-        if before.edition == sister_power_on().edition {
-            see!(self, "refused {letter} for the sister as delivered");
-        }
         let value = get(before, field);
         match row.rests_on {
             ["text mode"] => see!(self, "{name} {value} refused in mode {mode}"),
             [.., "frame state"] => see!(self, "{name} wrong in state {}", before.frame.state),
             _ => see!(self, "{name} {value} refused"),
+        }
+        let (keys, light) = (before.edition.keys, before.backlight.mode);
+        let down = u32::from_le_bytes(keys.down);
+        match name {
+            "PWM" if light == 0 => see!(self, "PWM {value} refused with the light off"),
+            "Time2" if before.time1 == 0 => see!(self, "Time2 {value} refused with Time1 0"),
+            "left" => see!(self, "left {value} refused in light mode {light}"),
+            "sister's key" | "sister's tick" => see!(self, "{name} {value} refused in stage {}", keys.stage),
+            "sister's keys down" => {
+                see!(self, "{name} refused in stage {}", keys.stage);
+                if down == 0 {
+                    see!(self, "{name} empty refused in stage {}", keys.stage);
+                }
+                for key in keys::keys_in(keys.down).filter(|&key| key > 20) {
+                    see!(self, "{name} with key {key} refused in stage {}", keys.stage);
+                }
+            }
+            _ => (),
         }
         if name == "inverse mark" {
             match rows_marked(before)[..] {
@@ -695,15 +937,23 @@ impl Cover {
     fn see_good(&mut self, record: &Record, good: &Spelt) {
         let (mode, overlay) = (record.mode, record.overlay);
         let obeyed = commands::obeyed(record, good);
-        let (name, how) = (good.command.name, if obeyed { "obeyed" } else { "passed over" });
+        let how = match obeyed {
+            true => "obeyed",
+            false if commands::refused(record, good) => "refused",
+            false => "passed over",
+        };
+        let name = good.command.name;
         see!(self, "frame {name} {how}");
+        self.see_hers(record, good, obeyed);
         if good.numbers.contains(&0) {
             see!(self, "frame {name} with the number 0");
         }
         let mut hows = vec![how.to_string(), format!("{how} in mode {mode}")];
         for (with, yes) in [
             ("the display off", !record.display),
-            ("a key held", record.held.down),
+            ("a key held", keys::held(record).down),
+            ("keys in the state false", record.edition.keys.stage == 3),
+            ("an overlay", overlay > 0),
             ("a mark", marked(record).is_some()),
             ("a line that isn't blank", record.line != [0x20; LINE]),
         ] {
@@ -718,6 +968,7 @@ impl Cover {
         let rows = rows_to_name(mode).into();
         self.see_numbers("", good.command, &good.numbers, rows, &hows);
         match (name, &good.numbers[..]) {
+            ("Times", [0, 0]) => see!(self, "IT0;0 {how}"),
             ("Position", [row, column]) if mode == LARGE => {
                 if (*row, *column) == (0, 0) {
                     self.add("cursor frame 0;0 in mode 10");
@@ -764,6 +1015,67 @@ impl Cover {
         }
     }
 
+    /// A good frame of the sister: where it stands in the range of what it
+    /// steps over, and the light's mode.
+    fn see_hers(&mut self, record: &Record, good: &Spelt, obeyed: bool) {
+        if !record.edition.sister {
+            return;
+        }
+        let name = good.command.name;
+        for (what, value, most) in [
+            ("contrast", record.contrast, 20),
+            ("brightness", record.edition.brightness, 100),
+            ("speaker volume", record.edition.speaker, 7),
+        ] {
+            let first = what.split(' ').next().unwrap_or("");
+            let Some(way) = name.to_lowercase().strip_prefix(first).map(str::to_string) else { continue };
+            let (from, to) = match &way[..] {
+                "up" => (value == 0, value + 1 == most),
+                "down" => (value == most, value == 1),
+                _ => continue,
+            };
+            let where_to = match (from, to) {
+                (true, _) => "from its end",
+                (_, true) => "to its end",
+                _ => "in between",
+            };
+            if obeyed {
+                see!(self, "{what} stepped {way} {where_to}");
+            }
+        }
+        if good.command.spell::<u16>(&[], &[]).starts_with(b"IE") {
+            let (pwm, flag) = (record.edition.pwm, record.backlight.keypad);
+            let light = match record.backlight.mode {
+                0 => 4,
+                1 => 1 + 2 * u8::from(pwm),
+                _ => 2 * u8::from(pwm),
+            };
+            see!(self, "{name} in light mode {light}");
+            if flag {
+                see!(self, "{name} in light mode {light} with the keypad flag");
+            }
+            if record.backlight.left < record.backlight.duration {
+                see!(self, "{name} in light mode {light} with seconds to start");
+            }
+        }
+        if name == "Restart" {
+            let new = sister_power_on();
+            for (what, yes) in [
+                ("HOOK lifted", !record.hook),
+                ("PTT pressed", record.edition.ptt),
+                ("another contrast", record.contrast != new.contrast),
+                ("another brightness", record.edition.brightness != new.edition.brightness),
+                ("another speaker volume", record.edition.speaker != new.edition.speaker),
+                ("another time", (record.time1, record.time2) != (12, 12)),
+                ("another duration", record.backlight.duration != new.backlight.duration),
+            ] {
+                if yes {
+                    see!(self, "Restart with {what}");
+                }
+            }
+        }
+    }
+
     fn see_verdict(&mut self, before: &Record, mode: u8, body: &[u8], verdict: Verdict) {
         self.see_bystander("verdict", before);
         if mode != before.mode {
@@ -776,9 +1088,10 @@ impl Cover {
             Verdict::Bad => "bad",
             Verdict::PassedOver(_) => "passed over",
             Verdict::Obeyed => "obeyed",
+            Verdict::Refused => "refused",
         };
         see!(self, "verdict {how} in {mode}");
-        let Some(good) = stream::good(body) else {
+        let Some(good) = stream::good(false, body) else {
             return self.see_bad_verdict(body);
         };
         let (command, numbers) = (good.command, &good.numbers[..]);
@@ -898,7 +1211,7 @@ impl Cover {
                 }
                 _ => {
                     see!(self, "part {word} of {} bytes", body.len());
-                    if stream::good(body).is_some() {
+                    if stream::good(false, body).is_some() {
                         see!(self, "part {word} with a good frame in it");
                     }
                 }
@@ -960,14 +1273,14 @@ impl Cover {
         if let Some(form) = DAMAGED.split('|').find(|form| form.as_bytes() == body) {
             see!(self, "verdict bad of {form:?}");
         }
-        if let Some(less) = body.split_last().and_then(|(_, less)| spelt(less)) {
+        if let Some(less) = body.split_last().and_then(|(_, less)| spelt(false, less)) {
             see!(self, "verdict bad of {:?} and a byte more", less.command);
         }
-        if let Some(capital) = spelt(&body.to_ascii_uppercase()) {
+        if let Some(capital) = spelt(false, &body.to_ascii_uppercase()) {
             see!(self, "verdict bad of {:?} in small letters", capital.command);
         }
         let (plain, zeros, longest) = without_zeros(body);
-        if let Some(plain) = spelt(&plain) {
+        if let Some(plain) = spelt(false, &plain) {
             if longest.len() <= 3 && zeros.len() == plain.numbers.len() {
                 see!(self, "verdict bad of {:?}, padded", plain.command);
             }
@@ -1097,15 +1410,19 @@ impl Cover {
     }
 
     fn see_stream(&mut self, before: &Record, room: usize, bytes: &[u8], used: usize) {
+        let sister = before.edition.sister;
         let (_, bound) = stream::bound(before, bytes);
         let frame = frame_name(before);
         let all = used == bytes.len();
         match (bound.checked_sub(room), all) {
             (Some(0), true) => see!(self, "room of the bound, all used, with {frame}"),
             (Some(0), false) => self.add("room of the bound, stopped by a question"),
-            (Some(1), _) => {
+            (Some(less @ 1..=2), _) => {
                 let how = if all { "all used" } else { "stopped" };
-                see!(self, "room of one less than the bound, {how}, with {frame}");
+                see!(self, "room of {less} less than the bound, {how}");
+                if less == 1 {
+                    see!(self, "room of one less than the bound, {how}, with {frame}");
+                }
             }
             _ => (),
         }
@@ -1128,7 +1445,7 @@ impl Cover {
         }
         // The record as the parts are taken.
         let mut record = before.clone();
-        for (part, _) in &parts {
+        for (place, (part, _)) in parts.iter().enumerate() {
             match part {
                 Part::Text(code) => {
                     self.see_text(&record);
@@ -1145,15 +1462,24 @@ impl Cover {
                     if body.is_empty() {
                         self.add("frame closed empty");
                     }
-                    let Some(good) = spelt(body) else {
+                    let Some(good) = spelt(sister, body) else {
                         self.add("frame outside the grammar");
-                        if let Some(form) = DAMAGED.split('|').find(|form| form.as_bytes() == body) {
+                        if let Some(form) = damaged(sister).split('|').find(|form| form.as_bytes() == body) {
                             see!(self, "bad frame {form:?}");
                         }
                         self.see_bad(&record, body);
                         continue;
                     };
                     self.see_good(&record, &good);
+                    if good.is("Restart") {
+                        let behind = match parts.get(place + 1).map(|(part, _)| part) {
+                            Some(Part::Text(_)) => "text",
+                            Some(Part::Closed(_)) => "a frame",
+                            Some(Part::Abandoned(_) | Part::Tail(_)) => "an ESC",
+                            _ => "nothing",
+                        };
+                        see!(self, "Restart with {behind} behind it");
+                    }
                     commands::take(&mut record, &good);
                 }
             }
@@ -1176,11 +1502,7 @@ impl Cover {
                 if left < room {
                     see!(self, "{command} of {length} answered behind an answer");
                 }
-                match command {
-                    "AskContrast" => see!(self, "contrast {} told", record.contrast),
-                    "AskHook" => see!(self, "{} told", hook_name(record.hook)),
-                    _ => (),
-                }
+                self.see_told(&record, command, &answer);
                 long += 1;
                 if long == 3 {
                     self.add("three answers of several bytes in one call");
@@ -1191,9 +1513,16 @@ impl Cover {
                     see!(self, "{command} abandoned");
                 }
             }
+            let steps = refusing(&record, part);
             let answer = stream::take(&mut record, part);
-            if long > 0 && answer == [QUESTION] {
-                self.add("a question mark behind a long answer");
+            if answer == mark(record.edition.sister) {
+                see!(self, "mark written with {left} left");
+                if let Some(name) = steps {
+                    see!(self, "{name} written with {left} left");
+                }
+                if long > 0 {
+                    self.add("a question mark behind a long answer");
+                }
             }
             left -= answer.len();
         }
@@ -1210,6 +1539,12 @@ impl Cover {
             return;
         };
         let Some((command, answer)) = question(&record, body) else {
+            if !unused.is_empty() {
+                see!(self, "mark stopped with {left} left");
+            }
+            if let (Some(&CR), Some(name)) = (unused.first(), refusing(&record, &Part::Closed(body.clone()))) {
+                see!(self, "{name} stopped with {left} left");
+            }
             return;
         };
         let length = answer.len();
@@ -1222,6 +1557,35 @@ impl Cover {
                 });
             }
             _ => see!(self, "{command} left open"),
+        }
+    }
+
+    /// What a question is told.
+    fn see_told(&mut self, record: &Record, command: &str, answer: &[u8]) {
+        match command {
+            "AskContrast" => see!(self, "contrast {} told", record.contrast),
+            "AskHook" => see!(self, "{} told", hook_name(record.hook)),
+            "AskPtt" => see!(self, "{} told", if record.edition.ptt { "PTT" } else { "no PTT" }),
+            "AskBrightness" => see!(self, "brightness {} told", record.edition.brightness),
+            "AskSpeaker" => see!(self, "speaker volume {} told", record.edition.speaker),
+            "AskTimes" => see!(self, "times {};{} told", record.time1, record.time2),
+            "AskPosition" => {
+                see!(self, "place {};{} told", record.row, record.column);
+                see!(self, "place {};{} told in mode {}", record.row, record.column, record.mode);
+            }
+            // The number stands behind the blank.
+            "AskMode" | "AskLight" => {
+                let told = String::from_utf8_lossy(answer);
+                let numbers: Vec<&str> = told.split([' ', ';', '\r']).collect();
+                match command {
+                    "AskMode" => see!(self, "screen {} told", numbers[1]),
+                    _ => {
+                        see!(self, "light {} told", numbers[1]);
+                        see!(self, "duration {} told", numbers[2]);
+                    }
+                }
+            }
+            _ => (),
         }
     }
 
@@ -1253,7 +1617,7 @@ impl Cover {
             2 => self.add("hook call with a frame overlong"),
             _ => (),
         }
-        if before.held.down {
+        if keys::held(before).down {
             self.add("hook call with a key held");
         }
         if let Some((command, _)) = open_body(before).and_then(|body| question(before, body)) {
@@ -1292,7 +1656,7 @@ impl Cover {
             self.add("picture row of two digits");
         }
         let (plain, zeros, longest) = without_zeros(body);
-        let Some(plain) = spelt(&plain) else {
+        let Some(plain) = spelt(record.edition.sister, &plain) else {
             return;
         };
         if plain.numbers.len() != zeros.len() {
@@ -1323,7 +1687,11 @@ impl Cover {
     }
 
     fn see_log(&mut self, before: &Record, ticks: &[u16], edges: &[u8], (number, used, room): (u8, usize, u16)) {
-        let bad = edges.iter().position(|&byte| keys::edge(byte).is_none());
+        let sister = before.edition.sister;
+        let bad = edges.iter().position(|&byte| keys::edge(sister, byte).is_none());
+        if let (4, Some(bad)) = (number, bad) {
+            see!(self, "edge {} not listed", edges[bad]);
+        }
         if number == 5 && bad.is_some() {
             self.add("unequal lengths and a bad edge");
         }
@@ -1347,17 +1715,25 @@ impl Cover {
         if *before == former_power_on() {
             self.add("key log right after former power-on");
         }
+        if *before == sister_power_on() {
+            self.add("key log right after power-on");
+        }
         match edges.get(used) {
             Some(255) => self.add("log stops at a poll"),
-            Some(_) => self.add("log stops at a release"),
+            Some(128..) => self.add("log stops at a release"),
+            Some(_) => self.add("log stops at a press"),
             None => (),
         }
+        let mut left = usize::from(room);
         let mut record = before.clone();
         for (&now, &byte) in ticks.iter().zip(edges).take(used) {
-            let Some(edge) = keys::edge(byte) else {
+            let Some(edge) = keys::edge(sister, byte) else {
                 return;
             };
-            let held = record.held;
+            if sister {
+                self.see_her_entry(&record, now, edge, &mut left);
+            }
+            let held = keys::held(&record);
             let light = record.backlight;
             if held.down && now < held.tick {
                 self.add("elapsed runs over");
@@ -1369,7 +1745,7 @@ impl Cover {
                 _ => None,
             };
             let what = match (edge, held.long) {
-                (Edge::Poll, false) => Some("short poll"),
+                (Edge::Poll, false) if record.time1 > 0 => Some("short poll"),
                 (Edge::Poll, true) if record.time2 > 0 => Some("long poll"),
                 (Edge::Release(key), false) if key == held.key => Some("short release"),
                 _ => None,
@@ -1378,6 +1754,7 @@ impl Cover {
                 see!(self, "{what} {near} the threshold");
             }
             match edge {
+                _ if sister => (),
                 Edge::Poll if !held.down => self.add("poll with none held"),
                 Edge::Poll if held.long && record.time2 == 0 => {
                     self.add("poll of a long key with Time2 0");
@@ -1391,11 +1768,11 @@ impl Cover {
                 }
                 _ => (),
             }
-            let (rule, code) = keys::take(&mut record, now, edge);
+            let (rule, sent) = keys::take(&mut record, now, edge);
             if edge == Edge::Poll && held.long {
                 let after = now.wrapping_sub(held.tick);
                 let times = format!("{};{}", record.time1, record.time2);
-                let what = if code.is_some() { "a code" } else { "nothing" };
+                let what = if sent.is_empty() { "nothing" } else { "a code" };
                 let name = format!("poll at {after} of a long key with times {times}: {what}");
                 self.add(name);
             }
@@ -1405,7 +1782,7 @@ impl Cover {
             if record.backlight != light {
                 self.add("press restarts the light");
             }
-            if let Some(code) = code {
+            if let [code] = sent[..] {
                 let (name, short, long, _) = KEYS[usize::from(held.key)];
                 let how = match (edge, code) {
                     (Edge::Poll, code) if code == long => "long at poll",
@@ -1415,6 +1792,71 @@ impl Cover {
                 };
                 see!(self, "key {name} {how}");
             }
+        }
+        if used < edges.len() {
+            see!(self, "log stops with {left} left");
+        }
+    }
+
+    /// An entry of the sister's key log, and the room that its message finds.
+    fn see_her_entry(&mut self, before: &Record, now: u16, edge: Edge, left: &mut usize) {
+        let mut record = before.clone();
+        let (_, sent) = keys::take(&mut record, now, edge);
+        if let [_, _, sign, event, _, _] = sent[..] {
+            see!(self, "message {}{}", char::from(sign), char::from(event));
+            see!(self, "message sent with {left} left");
+            *left -= sent.len();
+        }
+        let (held, stage) = (keys::held(before), before.edition.keys.stage);
+        let down: Vec<u8> = keys::keys_in(before.edition.keys.down).collect();
+        if record.edition.keys.stage == 3 {
+            see!(self, "state false with {} keys", keys::keys_in(record.edition.keys.down).count());
+        }
+        // Whether seconds would start: in auto, and fewer of them are left.
+        let light = before.backlight;
+        let to_start = light.mode == 2 && light.left < light.duration;
+        let (way, key) = match edge {
+            Edge::Press(key) => ("press", key),
+            Edge::Release(key) => ("release", key),
+            Edge::Poll => {
+                match stage {
+                    0 => self.add("poll with none held"),
+                    1 if before.time1 == 0 => self.add("poll of a short key with Time1 0"),
+                    2 if before.time2 == 0 => self.add("poll of a long key with Time2 0"),
+                    3 => self.add("poll in the state false"),
+                    _ => (),
+                }
+                return;
+            }
+        };
+        if key >= keys::HOOK {
+            let name = if key == keys::HOOK { "HOOK" } else { "PTT" };
+            let how = if sent.is_empty() { "nothing" } else { "it" };
+            see!(self, "{way} of {name} that changes {how} in stage {stage}");
+            if to_start {
+                see!(self, "{way} of {name} with seconds to start");
+            }
+            return;
+        }
+        match (way, stage) {
+            ("press", 0) => {
+                if to_start {
+                    see!(self, "press starts the seconds {} PWM", if before.edition.pwm { "with" } else { "without" });
+                }
+                if !before.hook {
+                    self.add("press with HOOK lifted");
+                }
+                if before.edition.ptt {
+                    self.add("press with PTT pressed");
+                }
+            }
+            ("press", 3) if down.contains(&key) => self.add("press of a key that is down in the state false"),
+            ("press", 1 | 2) if key == held.key => self.add("press of the held key again"),
+            ("press", 1 | 2) if to_start => self.add("press of a second key with seconds to start"),
+            ("release", 3) if !down.contains(&key) => self.add("release of a key not down in the state false"),
+            ("release", 3) if down.len() == 1 => self.add("release of the last key in the state false"),
+            ("release", 0..=2) if !held.down || key != held.key => self.add("release of a key not held"),
+            _ => (),
         }
     }
 
@@ -1578,6 +2020,13 @@ fn without_zeros(body: &[u8]) -> (Vec<u8>, Vec<usize>, &[u8]) {
     (plain, zeros, longest)
 }
 
+/// The frame that a closed part spells, if the record refuses it.
+fn refusing(record: &Record, part: &Part) -> Option<&'static str> {
+    let Part::Closed(body) = part else { return None };
+    let good = stream::good(record.edition.sister, body)?;
+    commands::refused(record, &good).then_some(good.command.name)
+}
+
 /// The same writer call with another room.
 fn with_room(call: &Call, room: u16) -> Option<Call> {
     let mut call = call.clone();
@@ -1603,9 +2052,10 @@ pub fn over(seeds: std::ops::Range<u64>, calls: usize) -> Cover {
 
 /// Whether the key rule for this entry sits right at its threshold.
 fn distance(record: &Record, now: u16, edge: Edge) -> Option<i64> {
-    if !record.held.down || matches!(edge, Edge::Press(_)) {
+    let held = keys::held(record);
+    if !held.down || matches!(edge, Edge::Press(_)) {
         return None;
     }
-    let time = if record.held.long { record.time2 } else { record.time1 };
+    let time = if held.long { record.time2 } else { record.time1 };
     Some(i64::from(keys::elapsed(record, now)) - i64::from(keys::ticks(time)))
 }

@@ -5,9 +5,10 @@
 //! A field whose range rests on another field is judged only while that other
 //! field is in range; the record is refused either way.
 //!
-//! The sister's frames are not read yet, and until they are a record of hers is
-//! refused: so the edition is a field with a range. In the first edition all
-//! that only she has is unused.
+//! The edition is no field that others are said to rest on, though the ranges
+//! of some go by it: it is chosen at power-on, and nothing but S changes it. In
+//! the first edition all that only the sister has is unused, in hers the first
+//! edition's held key.
 
 use crate::record::*;
 use Spot::{Byte, Flag, Word};
@@ -69,17 +70,18 @@ fields! { r, p:
     });
     "mute", Flag(r.volume.mute), 1, [], (any);
     "hidden", Flag(r.volume.hidden), 1, ["volume which"], (!r.volume.hidden || !matches!(r.volume.which, 1 | 2));
-    "Time1", Byte(r.time1), 1, [], (matches!(r.time1, 4..=50));
-    "Time2", Byte(r.time2), 1, [], (matches!(r.time2, 0 | 4..=50));
+    "Time1", Byte(r.time1), 1, [], (matches!(r.time1, 4..=50) || (sister(r) && r.time1 == 0));
+    "Time2", Byte(r.time2), 1, ["Time1"], (r.time2 == 0 || (matches!(r.time2, 4..=50) && !(sister(r) && r.time1 == 0)));
     "buzzer", Byte(r.buzzer), 1, [], (any);
     "backlight mode", Byte(r.backlight.mode), 1, [], (r.backlight.mode <= 2);
-    "duration", Byte(r.backlight.duration), 1, [], (r.backlight.duration >= 1);
-    "left", Byte(r.backlight.left), 1, ["backlight mode"], (r.backlight.left == 0 || r.backlight.mode >= 2);
+    "duration", Byte(r.backlight.duration), 1, [], (r.backlight.duration >= 1 && r.backlight.duration <= longest(r));
+    "left", Byte(r.backlight.left), 1, ["backlight mode"],
+        (r.backlight.left == 0 || (r.backlight.mode >= 2 && r.backlight.left <= longest(r)));
     "keypad flag", Flag(r.backlight.keypad), 1, [], (any);
-    "held", Flag(r.held.down), 1, [], (any);
-    "held key", Byte(r.held.key), 1, ["held"], (r.held.key <= if r.held.down { 18 } else { 0 });
-    "held tick", Word(r.held.tick), 1, ["held"], (r.held.down || r.held.tick == 0);
-    "stage", Flag(r.held.long), 1, ["held"], (r.held.down || !r.held.long);
+    "held", Flag(r.held.down), 1, [], (!sister(r) || !r.held.down);
+    "held key", Byte(r.held.key), 1, ["held"], (r.held.key <= if r.held.down && !sister(r) { 18 } else { 0 });
+    "held tick", Word(r.held.tick), 1, ["held"], ((r.held.down && !sister(r)) || r.held.tick == 0);
+    "stage", Flag(r.held.long), 1, ["held"], ((r.held.down && !sister(r)) || !r.held.long);
     "frame state", Byte(r.frame.state), 1, [], (r.frame.state <= 2);
     "frame length", Byte(r.frame.length), 1, ["frame state"], (match r.frame.state {
         1 => usize::from(r.frame.length) <= FRAME,
@@ -88,19 +90,48 @@ fields! { r, p:
     });
     "frame bytes", Byte(r.frame.bytes[p]), FRAME, ["frame length", "frame state"], (frame_bytes(&r.frame));
     "large line", Byte(r.line[p]), LINE, [], (r.line.iter().all(|&code| code >= 0x20));
-    "contrast", Byte(r.contrast), 1, [], (matches!(r.contrast, 1..=20));
+    "contrast", Byte(r.contrast), 1, [], (matches!(r.contrast, 1..=20) || (sister(r) && r.contrast == 0));
     "hook", Flag(r.hook), 1, [], (any);
     "inverse mark", Flag(r.marks[p]), TEXT_ROWS, [], (r.marks.iter().filter(|&&mark| mark).count() <= 1);
-    "sister", Flag(r.edition.sister), 1, [], (!r.edition.sister);
-    "brightness", Byte(r.edition.brightness), 1, ["sister"], (r.edition.sister || r.edition.brightness == 0);
-    "speaker volume", Byte(r.edition.speaker), 1, ["sister"], (r.edition.sister || r.edition.speaker == 0);
-    "PWM", Flag(r.edition.pwm), 1, ["sister"], (r.edition.sister || !r.edition.pwm);
-    "PTT", Flag(r.edition.ptt), 1, ["sister"], (r.edition.sister || !r.edition.ptt);
-    "sister's stage", Byte(r.edition.keys.stage), 1, ["sister"], (r.edition.sister || r.edition.keys.stage == 0);
-    "sister's key", Byte(r.edition.keys.key), 1, ["sister"], (r.edition.sister || r.edition.keys.key == 0);
-    "sister's tick", Word(r.edition.keys.tick), 1, ["sister"], (r.edition.sister || r.edition.keys.tick == 0);
-    "sister's keys down", Byte(r.edition.keys.down[p]), 4, ["sister"],
-        (r.edition.sister || r.edition.keys.down == [0; 4]);
+    "sister", Flag(r.edition.sister), 1, [], (any);
+    "brightness", Byte(r.edition.brightness), 1, [], (r.edition.brightness <= hers(r, 100));
+    "speaker volume", Byte(r.edition.speaker), 1, [], (r.edition.speaker <= hers(r, 7));
+    "PWM", Flag(r.edition.pwm), 1, ["backlight mode"], (!r.edition.pwm || (sister(r) && r.backlight.mode != 0));
+    "PTT", Flag(r.edition.ptt), 1, [], (!r.edition.ptt || sister(r));
+    "sister's stage", Byte(r.edition.keys.stage), 1, [], (r.edition.keys.stage <= hers(r, 3));
+    "sister's key", Byte(r.edition.keys.key), 1, ["sister's stage"], (r.edition.keys.key == 0 || match stage(r) {
+        1 | 2 => r.edition.keys.key <= 20,
+        other => other > 3,
+    });
+    "sister's tick", Word(r.edition.keys.tick), 1, ["sister's stage"],
+        (r.edition.keys.tick == 0 || !matches!(stage(r), 0 | 3));
+    "sister's keys down", Byte(r.edition.keys.down[p]), 4, ["sister's stage"], (match stage(r) {
+        3 => matches!(u32::from_le_bytes(r.edition.keys.down), 1..=0x1F_FFFF),
+        other => other > 3 || r.edition.keys.down == [0; 4],
+    });
+}
+
+fn sister(record: &Record) -> bool {
+    record.edition.sister
+}
+
+/// The greatest value of what only the sister has; in the first edition 0.
+fn hers(record: &Record, most: u8) -> u8 {
+    most * u8::from(sister(record))
+}
+
+/// The most seconds of the light.
+fn longest(record: &Record) -> u8 {
+    if sister(record) {
+        250
+    } else {
+        255
+    }
+}
+
+/// The stage of the sister's keys; in the first edition it is none.
+fn stage(record: &Record) -> u8 {
+    hers(record, 1) * record.edition.keys.stage
 }
 
 fn label_codes(label: &Label) -> bool {
@@ -131,9 +162,12 @@ pub fn places(field: u16) -> usize {
     FIELDS[usize::from(field)].places
 }
 
-/// The fields that can be out of range.
-pub fn refusable() -> Vec<u16> {
-    (0..FIELDS.len() as u16).filter(|&field| FIELDS[usize::from(field)].fits.is_some()).collect()
+/// The fields that can be out of range in an edition: whether a key is held is
+/// never wrong in the first, whether PTT is pressed never in the sister's.
+pub fn refusable(sister: bool) -> Vec<u16> {
+    let free = if sister { "PTT" } else { "held" };
+    let can = |row: &Field| row.fits.is_some() && row.name != free;
+    (0..FIELDS.len() as u16).filter(|&field| can(&FIELDS[usize::from(field)])).collect()
 }
 
 /// Whether a field is in its range.
@@ -150,7 +184,8 @@ pub fn faults(record: &Record) -> Vec<u16> {
     (0..FIELDS.len() as u16).filter(|&field| !fits(record, field)).collect()
 }
 
-/// The backlight's own ranges.
+/// The backlight's own ranges: those of the first edition, since a backlight
+/// alone knows none.
 pub fn backlight_in_range(light: &Backlight) -> bool {
     in_range(&Record { backlight: *light, ..power_on() })
 }

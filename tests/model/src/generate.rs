@@ -5,9 +5,11 @@
 //! new row is tried with values inside and outside its range, spelt right and
 //! wrong, without a word here.
 
-use crate::commands::COMMANDS;
+use std::ops::{Deref, DerefMut};
+
+use crate::commands::{table, COMMANDS, SCREENS};
 use crate::fields::*;
-use crate::grammar::{named, Command, In, MOST_ROWS};
+use crate::grammar::{named, spelt, Command, In, MOST_ROWS};
 use crate::record::*;
 use crate::rng::Rng;
 use crate::script::{command_count, parse, perform, with_pairs, Answer, Call, BYTES, LETTERS, ROOM};
@@ -15,7 +17,7 @@ use crate::seen::{layout, Phase, PHASES};
 use crate::{keys, stream, writers};
 
 /// The letters of all calls; X stands for lines that can't be taken.
-pub const KINDS: &str = "POSRFNDJEKCHBQUMVWTGX";
+pub const KINDS: &str = "POZSRFNDJEKCHBQUMVWTGX";
 
 /// Values around the ends of ranges, whosever they are.
 const EDGES: [u16; 24] =
@@ -28,8 +30,69 @@ pub const OVERLAYS: [u8; 9] = [0, 11, 12, 13, 14, 15, 16, 17, 18];
 /// Columns of the display at which something ends or begins.
 pub const BORDERS: [u8; 6] = [0, 41, 42, 53, 54, 95];
 
-pub struct Generator {
+/// Random numbers, and whose frames are made of them.
+pub struct Dice {
     rng: Rng,
+    pub sister: bool,
+}
+
+impl Dice {
+    pub fn new(seed: u64, sister: bool) -> Dice {
+        Dice { rng: Rng::new(seed), sister }
+    }
+
+    fn commands(&self) -> &'static [Command] {
+        table(self.sister)
+    }
+
+    fn named(&self, name: &str) -> &'static Command {
+        named(self.sister, name)
+    }
+
+    /// A frame that the first edition spells so.
+    fn frame(&self, body: &str) -> Vec<u8> {
+        framed(&respelt(self.sister, body))
+    }
+
+    /// What is made of these numbers in the other edition.
+    fn other<T>(&mut self, make: impl Fn(&mut Dice) -> T) -> T {
+        self.sister = !self.sister;
+        let made = make(self);
+        self.sister = !self.sister;
+        made
+    }
+}
+
+impl Deref for Dice {
+    type Target = Rng;
+    fn deref(&self) -> &Rng {
+        &self.rng
+    }
+}
+
+impl DerefMut for Dice {
+    fn deref_mut(&mut self) -> &mut Rng {
+        &mut self.rng
+    }
+}
+
+/// The bytes of a frame of the first edition as an edition spells that command.
+pub fn respelt(sister: bool, body: &str) -> Vec<u8> {
+    let Some(good) = spelt(false, body.as_bytes()).filter(|_| sister) else {
+        return body.into();
+    };
+    let screen = |n: &u16| SCREENS.iter().position(|&screen| u16::from(screen) == *n).map_or(999, |at| at as u16);
+    let (name, numbers) = match good.command.name {
+        "Mode" => ("Mode", good.numbers.iter().map(screen).collect()),
+        "CursorShown" => ("Cursor", vec![1]),
+        "CursorNotShown" => ("Cursor", vec![0]),
+        name => (name, good.numbers),
+    };
+    named(true, name).spell(&numbers, &good.codes)
+}
+
+pub struct Generator {
+    rng: Dice,
     kinds: String,
     record: Record,
     /// Bytes not yet used, to be offered again first.
@@ -41,10 +104,19 @@ pub struct Generator {
 
 /// The calls of a script, each with the record before it and its answer.
 pub fn calls(seed: u64, count: usize, kinds: &str) -> Vec<(Call, Record, Answer)> {
-    let mut rng = Rng::new(seed);
+    calls_from(power_on(), seed, count, kinds)
+}
+
+/// The same from another record than that at power-on.
+fn calls_from(record: Record, seed: u64, count: usize, kinds: &str) -> Vec<(Call, Record, Answer)> {
+    let mut rng = Dice::new(seed, record.edition.sister);
     let now = rng.next() as u16;
-    let (kinds, record) = (kinds.to_string(), power_on());
+    let kinds = kinds.to_string();
     let mut generator = Generator { rng, kinds, record, pending: vec![], now, calls: vec![] };
+    // Of each three scripts one begins with the sister.
+    if seed % 3 == 1 {
+        generator.emit(Call::SisterPowerOn);
+    }
     let mut idle = 0;
     while generator.calls.len() < count && idle < 100_000 {
         let before = generator.calls.len();
@@ -75,21 +147,22 @@ pub fn script(seed: u64, count: usize, kinds: &str) -> Vec<u8> {
 }
 
 /// A random stream of some pieces.
-pub fn stream_of(rng: &mut Rng, pieces: usize) -> Vec<u8> {
+pub fn stream_of(rng: &mut Dice, pieces: usize) -> Vec<u8> {
     (0..pieces).flat_map(|_| piece(rng)).collect()
 }
 
-/// A record in range, brought there by random calls.
-pub fn random_record(seed: u64) -> Record {
-    let mut record = power_on();
-    for (call, before, _) in calls(seed, 60, "SFKCH") {
+/// A record of an edition, in range, brought there by random calls.
+pub fn random_record(seed: u64, sister: bool) -> Record {
+    let start = if sister { sister_power_on() } else { power_on() };
+    let mut record = start.clone();
+    for (call, before, _) in calls_from(start.clone(), seed, 60, "SFKCH") {
         record = before;
         perform(&mut record, &call);
     }
-    if in_range(&record) {
+    if in_range(&record) && record.edition.sister == sister {
         record
     } else {
-        power_on()
+        start
     }
 }
 
@@ -106,11 +179,22 @@ impl Generator {
         }
         let before = self.record.clone();
         let answer = perform(&mut self.record, &call);
+        self.rng.sister = self.record.edition.sister;
         self.calls.push((call, before, answer.clone()));
         Some(answer)
     }
 
     fn episode(&mut self) {
+        // Frames, keys and ranges that the sister alone has.
+        if self.rng.sister && self.rng.one_in(4) {
+            return match self.rng.below(12) {
+                0..=2 => self.steps(),
+                3 => self.all_rooms(),
+                4 | 5 => self.asking(),
+                6 | 7 => self.key_logs(),
+                _ => self.out_of_range(),
+            };
+        }
         match self.rng.below(206) {
             0 => self.power(),
             1..=32 | 174..=179 | 199..=204 => self.streams(),
@@ -135,21 +219,113 @@ impl Generator {
         }
     }
 
-    /// One of the two power-on records, and perhaps a key held long from it.
+    /// One of the power-on records, and perhaps a key held long from it.
     fn power(&mut self) {
-        for _ in 0..self.rng.pick(&[1, 1, 1, 2, 3]) {
-            let former = self.has('O') && (self.rng.one_in(2) || !self.has('P'));
-            self.emit(if former { Call::FormerPowerOn } else { Call::PowerOn });
+        let letters: Vec<char> = "POZ".chars().filter(|&letter| self.has(letter)).collect();
+        for _ in 0..self.rng.pick(&[1, 1, 1, 2, 3]).min(3 * letters.len()) {
+            let letter = self.rng.pick(&letters).to_string();
+            self.emit(parse(letter.as_bytes()));
         }
         if self.rng.one_in(2) {
-            let key = self.rng.below(19) as u8;
+            let sister = self.rng.sister;
+            let key = self.rng.below(keys::keys_of(sister).into()) as u8;
             self.now = self.rng.next() as u16;
             let polls = [0, 119, 120, 121, 239, 240, 241, 361, 362];
             let ticks = polls.map(|after| self.now.wrapping_add(after)).to_vec();
             let edges = [&[key][..], &[255; 8]].concat();
-            let room = self.rng.below(4) as u16;
+            let room = self.rng.below(4) as u16 * if sister { 6 } else { 1 };
             self.emit(Call::Keys { room, ticks, edges });
         }
+    }
+
+    /// The sister: a question, for which more and more room is lent until it is
+    /// answered, and once more.
+    fn all_rooms(&mut self) {
+        let (ask, name) = self.rng.pick(&[
+            ("&H?", "text mode"),
+            ("&H?", "column"),
+            ("&V?", "hook"),
+            ("KH?", "hook"),
+            ("KP?", "PTT"),
+            ("IA?", "contrast"),
+            ("IDM?", "text mode"),
+            ("IDM?", "overlay"),
+            ("IE?", "duration"),
+            ("IN?", "brightness"),
+            ("IT?", "Time1"),
+            ("IT?", "Time2"),
+            ("IV?", "speaker volume"),
+        ]);
+        if !in_range(&self.record) {
+            return;
+        }
+        self.renew(name);
+        // A number of one digit, if it is in range.
+        let mut small = self.record.clone();
+        let digit = self.rng.between(4, 9) as u16;
+        if set(&mut small, field(name), 0, digit) && in_range(&small) && self.rng.one_in(2) {
+            self.put(field(name), 0, digit);
+        }
+        self.feed(9, [&[ESC], ask.as_bytes()].concat());
+        let from = self.rng.below(8) as u16;
+        self.more_room(from);
+        let needed = frame(ask);
+        let room = self.room_near(&needed);
+        self.feed(room, needed);
+    }
+
+    /// CR for an open frame, with more and more room until it is used.
+    fn more_room(&mut self, from: u16) {
+        for room in from..ROOM {
+            match self.emit(Call::Stream { room, bytes: vec![CR] }) {
+                Some(Answer::Counts { number: 0, used: 0, .. }) => (),
+                _ => return,
+            }
+        }
+    }
+
+    /// The sister: a number near an end of its range, and steps over it; or the
+    /// light in one of its modes, and the frames that go by the mode. Now and
+    /// then frames that lie close to hers.
+    fn steps(&mut self) {
+        if self.rng.one_in(6) {
+            let bodies: Vec<Vec<u8>> = (0..8).map(|_| damaged_form(&mut self.rng)).collect();
+            return self.feed(30, bodies.iter().flat_map(|body| framed(body)).collect());
+        }
+        let (name, most, [up, down, ask]) = self.rng.pick(&[
+            ("contrast", 20, ["IA+", "IA-", "IA?"]),
+            ("brightness", 100, ["IN+", "IN-", "IN?"]),
+            ("speaker volume", 7, ["IV+", "IV-", "IV?"]),
+        ]);
+        let mut frames = vec![up, down, up, down, ask];
+        if self.rng.one_in(2) {
+            let mode = self.rng.pick(&["IE0", "IEE", "IEA", "IES", "IEP", "IEQ"]);
+            let flag = self.rng.below(2) as u16;
+            self.put(field("keypad flag"), 0, flag);
+            self.feed(9, frame(mode));
+            if in_range(&self.record) && self.record.backlight.mode == 2 {
+                let left = self.rng.below(self.record.backlight.duration.into());
+                self.put(field("left"), 0, left as u16);
+            }
+            frames = vec!["IEe", "IEc", "IEs", "IER", "IE?", "IEQ", "IES", "IEA", "IE7"];
+        } else {
+            let any = self.rng.between(0, most);
+            let value = self.rng.pick(&[0, 0, 1, most - 1, most, most, any]);
+            self.put(field(name), 0, value as u16);
+        }
+        if self.rng.one_in(3) {
+            let body = self.rng.pick(&frames);
+            self.feed(9, [&[ESC], body.as_bytes()].concat());
+            return self.more_room(0);
+        }
+        let mut bytes = vec![];
+        for _ in 0..self.rng.between(1, 6) {
+            let one = frame(self.rng.pick(&frames));
+            bytes.extend(one);
+        }
+        let near = self.room_near(&bytes);
+        let room = self.rng.pick(&[0, 1, 2, 2, 3, 4, 40, near]);
+        self.feed(room, bytes);
     }
 
     // Streams.
@@ -161,7 +337,7 @@ impl Generator {
             5 => 2,
             6 => self.rng.between(3, 8) as u16,
             7 | 8 => ROOM,
-            9 => self.rng.between(27, 31) as u16,
+            9 => self.rng.between(27, 33) as u16,
             _ => self.rng.between(0, 40) as u16,
         }
     }
@@ -257,7 +433,8 @@ impl Generator {
             let bound = self.bound_call(&bytes);
             if let Some(bound) = bound.filter(|_| self.rng.one_in(3)) {
                 let any = self.room();
-                let room = self.rng.pick(&[bound, bound, bound.saturating_sub(1), bound + 1, any]);
+                let less = bound.saturating_sub(self.rng.between(1, 3) as u16);
+                let room = self.rng.pick(&[bound, bound, less, bound + 1, any]);
                 self.feed(room.min(ROOM), bytes);
             }
         }
@@ -279,18 +456,18 @@ impl Generator {
         let one = self.rng.pick(&MODES);
         let one = self.rng.pick(&[none, one, one]);
         if self.rng.one_in(7) {
-            let command = numbered(&mut self.rng);
+            let command = self.first(numbered);
             let by_mode = command.ranges().iter().any(|range| range.by_mode());
             let modes = if by_mode { [&MODES[..], &[none]].concat() } else { vec![one] };
             for mode in modes {
-                for body in sweep(&mut self.rng, command) {
+                for body in self.first(|rng| sweep(rng, command)) {
                     self.emit(Call::Verdict { mode, body });
                 }
             }
             return;
         }
         for _ in 0..self.rng.between(1, 5) {
-            let body = judged(&mut self.rng);
+            let body = self.first(judged);
             let modes = match self.rng.below(8) {
                 0 => [&MODES[..], &[none]].concat(),
                 _ => vec![one],
@@ -303,8 +480,17 @@ impl Generator {
 
     fn choice_checks(&mut self) {
         for _ in 0..self.rng.between(1, 6) {
-            let bytes = choices(&mut self.rng);
+            let bytes = self.first(choices);
             self.emit(Call::Choice { bytes });
+        }
+    }
+
+    /// What is made of the first edition's frames, for calls that take no
+    /// record.
+    fn first<T>(&mut self, make: impl Fn(&mut Dice) -> T) -> T {
+        match self.rng.sister {
+            true => self.rng.other(make),
+            false => make(&mut self.rng),
         }
     }
 
@@ -326,7 +512,13 @@ impl Generator {
             }
             match self.rng.below(8) {
                 0 => self.hook_call(),
-                1 => self.renew("contrast"),
+                1 if self.rng.sister => {
+                    let names =
+                        ["brightness", "speaker volume", "Time1", "duration", "backlight mode", "PTT", "column"];
+                    let name = self.rng.pick(&names);
+                    self.renew(name);
+                }
+                1 | 2 => self.renew("contrast"),
                 _ => (),
             }
         }
@@ -336,8 +528,9 @@ impl Generator {
         for _ in 0..self.rng.between(1, 3) {
             self.hook_call();
             if self.rng.one_in(2) {
-                let room = self.rng.pick(&[4, 5, 5, 6]);
-                self.feed(room, frame("IH"));
+                let length = if self.rng.sister { 8 } else { 5 };
+                let room = self.rng.pick(&[length - 1, length, length, length + 1]);
+                self.feed(room, self.rng.frame("IH"));
             }
         }
     }
@@ -367,21 +560,29 @@ impl Generator {
             _ => self.rng.between(1, 14),
         };
         let mut scratch = self.record.clone();
-        let judge = in_range(&scratch);
+        let (judge, sister) = (in_range(&scratch), self.rng.sister);
         let (mut ticks, mut edges) = (vec![], vec![]);
-        let favourite = self.rng.below(19) as u8;
+        let all = keys::keys_of(sister);
+        let (favourite, sober) = (self.rng.below(all.into()) as u8, self.rng.one_in(2));
         for _ in 0..entries {
-            let held = scratch.held;
+            let held = keys::held(&scratch);
+            // The keys that are down: one, or in the state false some.
+            let down: Vec<u8> = match held.down {
+                true => vec![held.key % all],
+                false => keys::keys_in(scratch.edition.keys.down).filter(|&key| key < all).collect(),
+            };
             let key = match self.rng.below(4) {
-                0 => self.rng.below(19) as u8,
-                1 if held.down && held.key < 19 => held.key,
+                0 => self.rng.below(all.into()) as u8,
+                1 if !down.is_empty() => self.rng.pick(&down),
                 _ => favourite,
             };
             let edge = match self.rng.below(20) {
-                0..=4 if held.down => 128 + held.key % 19,
+                3 | 4 if down.len() > 1 => key,
+                0..=4 if !down.is_empty() => 128 + self.rng.pick(&down),
                 5 => 128 + key,
-                6 => key,
-                7..=12 if !held.down => key,
+                6 if !(sister && sober && held.down) => key,
+                7..=12 if down.is_empty() => key,
+                13 | 14 if sister => self.rng.pick(&[keys::HOOK, keys::PTT, 128 + keys::HOOK, 128 + keys::PTT]),
                 _ => 255,
             };
             let time = if held.long { scratch.time2 } else { scratch.time1 };
@@ -399,18 +600,20 @@ impl Generator {
                 10..=13 if held.down => threshold,
                 _ => self.now.wrapping_add(self.rng.below(200) as u16),
             };
-            if let Some(edge) = keys::edge(edge).filter(|_| judge) {
+            if let Some(edge) = keys::edge(sister, edge).filter(|_| judge) {
                 keys::take(&mut scratch, self.now, edge);
             }
             ticks.push(self.now);
             edges.push(edge);
         }
         if self.rng.one_in(12) && !edges.is_empty() {
+            // One behind the last that is listed, or any that is not.
             let place = self.rng.below(edges.len());
+            let past = if sister { keys::PTT + 1 } else { all };
             edges[place] = match self.rng.below(3) {
-                0 => self.rng.pick(&[19, 20, 127, 147, 148, 254]),
-                1 => self.rng.between(19, 127) as u8,
-                _ => self.rng.between(147, 254) as u8,
+                0 => self.rng.pick(&[past, past + 1, 127, 128 + past, 129 + past, 254]),
+                1 => self.rng.between(past.into(), 127) as u8,
+                _ => self.rng.between(128 + usize::from(past), 254) as u8,
             };
         }
         if self.rng.one_in(12) {
@@ -421,8 +624,10 @@ impl Generator {
                 _ => drop(ticks.pop()),
             }
         }
-        let any = self.rng.between(0, 30) as u16;
-        let room = self.rng.pick(&[0, 1, 2, any, any, any]);
+        let any = self.rng.between(0, if sister { 60 } else { 30 }) as u16;
+        let few = if sister { [0, 5, 6, 7, 11, 12] } else { [0, 0, 1, 1, 2, 2] };
+        let few = self.rng.pick(&few);
+        let room = self.rng.pick(&[few, any]);
         Call::Keys { room, ticks, edges }
     }
 
@@ -502,23 +707,25 @@ impl Generator {
         // Every row can be marked in mode 5; the mode that comes then keeps
         // the mark.
         let mut bytes = match rng.below(3) {
-            0 => [frame("ID5"), frame(&format!("IZ{number}"))].concat(),
-            1 => frame("&#"),
+            0 => [rng.frame("ID5"), rng.frame(&format!("IZ{number}"))].concat(),
+            1 => rng.frame("&#"),
             _ => vec![],
         };
-        bytes.extend(frame(rng.pick(&["IDE", "IDE", "IDE", "IDD"])));
-        bytes.extend(frame(&format!("ID{mode}")));
+        let display = rng.pick(&["IDE", "IDE", "IDE", "IDD"]);
+        bytes.extend(rng.frame(display));
+        bytes.extend(rng.frame(&format!("ID{mode}")));
         if rng.one_in(3) {
             for side in ["LeftLabel", "RightLabel"] {
                 let length = rng.pick(&[0, 1, 3, 5, 6, 7, 7, 7]);
                 let codes: Vec<u8> = (0..length).map(|_| text_code(rng)).collect();
-                bytes.extend([&[ESC], &named(side).spell::<u16>(&[], &codes)[..], &[CR]].concat());
+                bytes.extend(framed(&rng.named(side).spell::<u16>(&[], &codes)));
             }
             for icon in ["IconS", "IconU", "IconW"] {
-                bytes.extend(framed(&spelt_well(rng, named(icon))));
+                let icon = rng.named(icon);
+                bytes.extend(framed(&spelt_well(rng, icon)));
             }
         }
-        bytes.extend(frame(&format!("[{row};0H")));
+        bytes.extend(rng.frame(&format!("[{row};0H")));
         let any = rng.below(capacity(mode) + 2);
         let length = rng.pick(&[any, any, capacity(mode)]);
         bytes.extend((0..length).map(|_| text_code(rng)));
@@ -526,9 +733,9 @@ impl Generator {
             bytes.extend(vec![b' '; rng.below(9)]);
         }
         let any = rng.pick(&OVERLAYS);
-        let overlay = rng.pick(&[0, 0, 16, 17, 18, any, any, any, any]);
+        let overlay = rng.pick(&[0, 16, 17, 18, any, any, any, any, any]);
         if overlay > 0 {
-            bytes.extend(frame(&format!("ID{overlay}")));
+            bytes.extend(rng.frame(&format!("ID{overlay}")));
         }
         self.feed(9, bytes);
         if self.has('S') && in_range(&self.record) {
@@ -549,8 +756,13 @@ impl Generator {
         let any = any_command(&mut self.rng).name;
         let going = ["ClearLine", "ClearLine", "Clear", "Mode", "Position", "Inverse", any];
         if !self.rng.one_in(5) {
-            let command = named(self.rng.pick(&going));
+            let name = self.rng.pick(&going);
+            let command = self.rng.named(name);
             let mut bytes = framed(&spelt_well(&mut self.rng, command));
+            if command.ranges().iter().any(|range| range.by_mode()) && self.rng.one_in(2) {
+                let all = sweep(&mut self.rng, command);
+                bytes = all.iter().flat_map(|body| framed(body)).collect();
+            }
             if self.rng.one_in(3) {
                 bytes.extend(text_run(&mut self.rng));
             }
@@ -585,16 +797,17 @@ impl Generator {
     /// A row of codes, cleared from each column on, the last one first.
     fn sweep_columns(&mut self, row: usize) {
         let codes: Vec<u8> = (0..CODES).map(|_| text_code(&mut self.rng)).collect();
-        let mut bytes = [frame(&format!("[{row};0H")), codes].concat();
+        let to = |rng: &Dice, column: usize| rng.frame(&format!("[{row};{column}H"));
+        let mut bytes = [to(&self.rng, 0), codes].concat();
         if self.record.mode != LARGE {
-            (0..CODES).rev().for_each(|c| bytes.extend(frame(&format!("[{row};{c}H")).into_iter().chain(frame("[K"))));
+            (0..CODES).rev().for_each(|c| bytes.extend([to(&self.rng, c), self.rng.frame("[K")].concat()));
             return self.feed(9, bytes);
         }
         let from = self.rng.below(LINE - 6);
-        self.feed(9, [frame("ID10"), vec![b'0'; LINE]].concat());
+        self.feed(9, [self.rng.frame("ID10"), vec![b'0'; LINE]].concat());
         for column in (from..from + 7).rev() {
             self.emit(Call::Set { field: field("column"), place: 0, value: column as u16 });
-            self.feed(9, frame("[K"));
+            self.feed(9, self.rng.frame("[K"));
         }
     }
 
@@ -710,7 +923,7 @@ impl Generator {
         let most = values(field)[values(field).len() - 1];
         let value = match most {
             255 if self.rng.one_in(10) => value + 256 * self.rng.between(1, 255) as u16,
-            1 if value == 1 && self.rng.one_in(8) => self.rng.pick(&[2, 256, 65_535]),
+            1 if value == 1 && self.rng.one_in(4) => self.rng.pick(&[2, 256, 65_535]),
             _ => value,
         };
         self.emit(Call::Set { field, place: place as u16, value });
@@ -751,14 +964,15 @@ impl Generator {
         let number = field(name);
         let now = contents(&mut self.record, number);
         let [_, all] = self.values_for(number, 0, true);
-        if all == now {
-            // It holds the one value of its range, as the edition does.
+        if now.iter().all(|value| all == [*value]) {
+            // It holds the one value of its range, as what is the sister's does
+            // in the first edition.
             return;
         }
         match FIELDS[usize::from(number)].rests_on.first() {
             // Its first places are in use, as many as the other field says;
             // all others hold zero.
-            Some(length) if now.len() > 1 => {
+            Some(length) if length.ends_with("length") => {
                 let used = usize::from(get(&self.record, field(length))).min(now.len());
                 for place in (used..now.len()).filter(|&place| now[place] != 0) {
                     self.put(number, place, 0);
@@ -772,9 +986,19 @@ impl Generator {
                 }
             }
             _ => {
-                let place = self.rng.below(now.len());
-                if let Some(value) = self.value_for(number, place, true) {
-                    self.put(number, place, value);
+                // What is wrong at several places becomes zero first, as a set
+                // of keys does that is no longer used.
+                for place in (0..now.len()).filter(|&place| now[place] != 0) {
+                    if now.len() > 1 && !fits(&self.record, number) {
+                        self.put(number, place, 0);
+                    }
+                }
+                let any = self.rng.below(now.len());
+                for place in (any..now.len()).chain(0..any) {
+                    if let Some(value) = self.value_for(number, place, true) {
+                        self.put(number, place, value);
+                        break;
+                    }
                 }
             }
         }
@@ -792,6 +1016,9 @@ impl Generator {
         }
         for _ in 0..self.rng.between(1, 3) {
             let field = &FIELDS[self.rng.below(FIELDS.len())];
+            if field.name == "sister" && !self.has_a_twin() {
+                continue;
+            }
             let base = field.rests_on.last().copied().filter(|_| self.rng.one_in(2));
             self.renew(base.unwrap_or(field.name));
         }
@@ -801,6 +1028,13 @@ impl Generator {
             self.pending.splice(0..0, more);
             self.offer(false);
         }
+    }
+
+    /// Whether the record would be in range in the other edition too.
+    fn has_a_twin(&self) -> bool {
+        let mut twin = self.record.clone();
+        twin.edition.sister ^= true;
+        in_range(&twin)
     }
 
     /// Fields out of range, some calls on them, and back again.
@@ -819,17 +1053,25 @@ impl Generator {
             _ => 1,
         };
         if fields == 0 {
-            self.become_sister();
+            self.spoil_together();
         }
         for _ in 0..fields {
             // Where there are more places, more can be wrong.
-            let (all, least) = (refusable(), self.rng.pick(&[1, 1, 1, 2]));
+            let (all, least) = (refusable(self.rng.sister), self.rng.pick(&[1, 1, 1, 2]));
             let all: Vec<u16> = all.into_iter().filter(|&f| places(f) >= least).collect();
-            let field = self.rng.pick(&all);
+            let mut field = self.rng.pick(&all);
+            if self.rng.sister && self.rng.one_in(4) {
+                // What rests on her light or on the stage of her keys.
+                let names = ["left", "PWM", "sister's key", "sister's key", "sister's tick", "sister's keys down"];
+                field = self::field(self.rng.pick(&names));
+            }
             self.spoil(field);
             if places(field) > 1 && self.rng.one_in(4) {
                 self.spoil(field);
             }
+        }
+        if self.rng.one_in(3) {
+            self.every_call();
         }
         for _ in 0..self.rng.between(2, 6) {
             match self.rng.below(22) {
@@ -859,29 +1101,57 @@ impl Generator {
                 _ => self.question(),
             }
         }
-        if self.rng.one_in(25) && (self.has('P') || self.has('O')) {
+        if self.rng.one_in(25) && "POZ".chars().any(|letter| self.has(letter)) {
             return self.power();
         }
         self.restore(&mut kept);
     }
 
-    /// The values with which the sister is powered on, where hers are others;
-    /// perhaps with another value in something that only she has.
-    fn become_sister(&mut self) {
-        let sister = sister_power_on();
-        for name in ["sister", "brightness", "speaker volume", "PWM", "backlight mode", "Time1", "Time2"] {
-            self.put(field(name), 0, get(&sister, field(name)));
+    /// Values that are in range, but not together: those of the other edition,
+    /// two marks, times and seconds of the sister.
+    fn spoil_together(&mut self) {
+        let sister = self.rng.sister;
+        match self.rng.below(4) {
+            0 => self.put(field("sister"), 0, u16::from(!sister)),
+            1 if sister => {
+                let time = self.rng.pick(&[4, 12, 50]);
+                self.put(field("Time1"), 0, 0);
+                self.put(field("Time2"), 0, time);
+            }
+            2 if sister => {
+                let (mode, left) = (self.rng.below(2) as u16, self.rng.pick(&[1, 250, 255]));
+                self.put(field("PWM"), 0, 0);
+                self.put(field("backlight mode"), 0, mode);
+                self.put(field("left"), 0, left);
+            }
+            _ => {
+                let (one, other) = (self.rng.below(TEXT_ROWS), self.rng.below(TEXT_ROWS));
+                self.put(field("inverse mark"), one, 1);
+                self.put(field("inverse mark"), other, 1);
+            }
         }
-        if self.rng.one_in(3) {
-            let number = self.rng.between(field("brightness").into(), FIELDS.len() - 1) as u16;
-            let (place, value) = (self.rng.below(places(number)), self.rng.pick(&values(number)));
-            self.put(number, place, value);
-        }
+    }
+
+    /// Every call that takes a record, and the one that takes its backlight.
+    fn every_call(&mut self) {
+        let any = self.rng.byte();
+        let some = self.rng.pick(&[&[][..], &[ESC], &[b'A', ESC, b'Q', CR]]).to_vec();
+        self.emit(Call::InRange);
+        self.emit(Call::Stream { room: 9, bytes: some.clone() });
+        self.emit(Call::Bound { bytes: some });
+        self.emit(Call::Keys { room: 9, ticks: vec![0, 500], edges: vec![any % 19, 255] });
+        self.emit(Call::Second);
+        self.emit(Call::Hook { on: any });
+        self.emit(Call::Thin);
+        self.emit(Call::Volume);
+        self.emit(Call::Sms { phase: Phase::Lit });
+        self.look_at(any % 8, any);
     }
 
     /// All values at the edges of a field's range, in it and out of it.
     fn sweep_field(&mut self) {
-        let field = self.rng.pick(&refusable());
+        let all = refusable(self.rng.sister);
+        let field = self.rng.pick(&all);
         let place = self.rng.below(places(field));
         let [wrong, _] = self.values_for(field, place, false);
         let [right, _] = self.values_for(field, place, true);
@@ -951,14 +1221,14 @@ impl Generator {
 }
 
 /// A field set one place behind its last, or one field behind all.
-fn no_place(rng: &mut Rng) -> Vec<u8> {
+fn no_place(rng: &mut Dice) -> Vec<u8> {
     let field = rng.below(FIELDS.len() + 1);
     let place = FIELDS.get(field).map_or(0, |field| field.places);
     let bytes = [&[field as u8][..], &(place as u16).to_be_bytes(), &[0, rng.byte()]].concat();
     with_pairs("S", &bytes).into_bytes()
 }
 
-fn misfit(rng: &mut Rng) -> Vec<u8> {
+fn misfit(rng: &mut Dice) -> Vec<u8> {
     let (letters, least) = (&LETTERS, rng.pick(&[0, 0, 1, 3, 5]));
     let letters: Vec<_> = letters.iter().filter(|(_, bytes, _)| *bytes >= least).collect();
     let &(letter, least, more) = rng.pick(&letters);
@@ -966,7 +1236,7 @@ fn misfit(rng: &mut Rng) -> Vec<u8> {
     let fill = rng.pick(&[0, ESC, b'A', any]);
     let mut bytes = vec![0; least];
     bytes.resize(least + rng.below(4).min(more), fill);
-    let kind = rng.below(25);
+    let kind = rng.below(27);
     match kind {
         0 | 1 | 18..=20 => bytes.truncate(rng.below(least.max(1))),
         2 | 3 | 21..=23 => bytes.resize(least + more + rng.pick(&[1, 1, 2]), fill),
@@ -975,7 +1245,7 @@ fn misfit(rng: &mut Rng) -> Vec<u8> {
         5 if least > 1 => bytes[..2].copy_from_slice(&rng.pick(&[[1, 0x2D], [255, 255]])),
         4 | 5 | 24 if more > 0 => bytes.resize(rng.pick(&[32_767, 32_767, 8191, 40_000]), fill),
         6 if least > 3 => bytes[2..4].copy_from_slice(&rng.pick(&[[4, 1], [255, 255], [0, 9]])),
-        6 | 7 if least > 0 => {
+        6 | 7 | 25 | 26 if least > 0 => {
             let at = rng.pick(&[least - 1, 2.min(least - 1)]);
             bytes[at] = rng.pick(&[2, 2, any, command_count() as u8, command_count() as u8]);
         }
@@ -993,7 +1263,7 @@ fn misfit(rng: &mut Rng) -> Vec<u8> {
         14 => drop(line.pop()),
         15 => line.insert(at, rng.pick(b" -/:@G`gxz\t\0\xFF0")),
         16 => line[at] = rng.pick(b" -/:@G`gxz\t\0\xFF"),
-        17 => line = rng.pick(&["", " ", "Z", "what", "z 00", "Z 0000", "  "]).into(),
+        17 => line = rng.pick(&["", " ", "Y", "what", "z 00", "Y 0000", "  "]).into(),
         _ => (),
     }
     line
@@ -1002,7 +1272,7 @@ fn misfit(rng: &mut Rng) -> Vec<u8> {
 // Numbers and frames of commands.
 
 /// A number in range.
-fn inside(rng: &mut Rng, range: &In) -> u16 {
+fn inside(rng: &mut Dice, range: &In) -> u16 {
     let numbers = range.inside(MOST_ROWS);
     let any = loop {
         let n = rng.below(256) as u16;
@@ -1016,7 +1286,7 @@ fn inside(rng: &mut Rng, range: &In) -> u16 {
 }
 
 /// A number out of range: right beside it, or far off.
-fn outside(rng: &mut Rng, range: &In) -> u16 {
+fn outside(rng: &mut Dice, range: &In) -> u16 {
     let near = rng.pick(&range.outside(MOST_ROWS));
     let far = rng.between(256, 999) as u16;
     rng.pick(&[near, near, near, near, far])
@@ -1027,12 +1297,15 @@ pub fn tried(range: &In) -> Vec<u16> {
     [range.inside(MOST_ROWS), range.outside(MOST_ROWS)].concat()
 }
 
-fn good_numbers(rng: &mut Rng, command: &Command) -> Vec<u16> {
+fn good_numbers(rng: &mut Dice, command: &Command) -> Vec<u16> {
+    if command.takes_zeros() && rng.one_in(4) {
+        return vec![0; command.ranges().len()];
+    }
     command.ranges().iter().map(|range| inside(rng, range)).collect()
 }
 
 /// A label's codes or a picture's data for a command.
-fn any_rest(rng: &mut Rng, command: &Command) -> Vec<u8> {
+fn any_rest(rng: &mut Dice, command: &Command) -> Vec<u8> {
     match command.name {
         "Picture" => {
             let columns = columns(rng);
@@ -1043,14 +1316,14 @@ fn any_rest(rng: &mut Rng, command: &Command) -> Vec<u8> {
 }
 
 /// The bytes of a frame, in range (a cursor row perhaps not in the mode).
-fn spelt_well(rng: &mut Rng, command: &Command) -> Vec<u8> {
+fn spelt_well(rng: &mut Dice, command: &Command) -> Vec<u8> {
     let numbers = good_numbers(rng, command);
     let rest = any_rest(rng, command);
     command.spell(&numbers, &rest)
 }
 
 /// The bytes of a frame with numbers out of range: one of them, or all.
-fn out_of_range_body(rng: &mut Rng) -> Vec<u8> {
+fn out_of_range_body(rng: &mut Dice) -> Vec<u8> {
     let command = numbered(rng);
     let mut numbers = good_numbers(rng, command);
     let (all, one) = (rng.one_in(3), rng.below(numbers.len()));
@@ -1068,11 +1341,11 @@ fn out_of_range_body(rng: &mut Rng) -> Vec<u8> {
 }
 
 /// The bytes of frames with all numbers of a command that should be tried.
-fn sweep(rng: &mut Rng, command: &Command) -> Vec<Vec<u8>> {
+fn sweep(rng: &mut Dice, command: &Command) -> Vec<Vec<u8>> {
     let ranges = command.ranges();
     let place = rng.below(ranges.len());
     let mut one = |n: u16| {
-        let mut numbers = good_numbers(rng, command);
+        let mut numbers: Vec<u16> = ranges.iter().map(|range| inside(rng, range)).collect();
         numbers[place] = n;
         let rest = any_rest(rng, command);
         command.spell(&numbers, &rest)
@@ -1082,7 +1355,7 @@ fn sweep(rng: &mut Rng, command: &Command) -> Vec<Vec<u8>> {
 
 /// The bytes of a frame whose numbers are spelt with zeros before some of
 /// them, in range or not. Three digits at most, and rarely four.
-fn padded_body(rng: &mut Rng, command: &Command) -> Vec<u8> {
+fn padded_body(rng: &mut Dice, command: &Command) -> Vec<u8> {
     let mut numbers = good_numbers(rng, command);
     let place = rng.below(numbers.len());
     match rng.below(6) {
@@ -1103,34 +1376,35 @@ fn padded_body(rng: &mut Rng, command: &Command) -> Vec<u8> {
 }
 
 /// The commands that carry a number (not the one digit of a picture row).
-pub fn number_commands() -> Vec<&'static Command> {
-    COMMANDS.iter().filter(|command| command.has_number()).collect()
+pub fn number_commands(sister: bool) -> Vec<&'static Command> {
+    table(sister).iter().filter(|command| command.has_number()).collect()
 }
 
 /// The numbers that set a text mode or an overlay.
-pub fn numbers_of_mode() -> Vec<u16> {
-    named("Mode").ranges()[0].inside(MOST_ROWS)
+pub fn numbers_of_mode(sister: bool) -> Vec<u16> {
+    named(sister, "Mode").ranges()[0].inside(MOST_ROWS)
 }
 
-fn numbered(rng: &mut Rng) -> &'static Command {
-    let all: Vec<&Command> = COMMANDS.iter().filter(|c| !c.ranges().is_empty()).collect();
+fn numbered(rng: &mut Dice) -> &'static Command {
+    let all: Vec<&Command> = rng.commands().iter().filter(|c| !c.ranges().is_empty()).collect();
     rng.pick(&all)
 }
 
 /// Any command; those with codes or columns are many frames each.
-fn any_command(rng: &mut Rng) -> &'static Command {
-    let long: Vec<&Command> = COMMANDS.iter().filter(|command| command.has_rest()).collect();
+fn any_command(rng: &mut Dice) -> &'static Command {
+    let all = rng.commands();
+    let long: Vec<&Command> = all.iter().filter(|command| command.has_rest()).collect();
     match rng.below(3) {
         0 => rng.pick(&long),
-        _ => &COMMANDS[rng.below(COMMANDS.len())],
+        _ => &all[rng.below(all.len())],
     }
 }
 
 /// Bodies of frames that lie close together: few commands, few values, with
 /// and without zeros before the numbers, and whatever a stream brings.
-pub fn close_bodies(rng: &mut Rng, count: usize) -> Vec<Vec<u8>> {
-    let few = number_commands();
-    let few = [rng.pick(&few), rng.pick(&few), named("LightNumber")];
+pub fn close_bodies(rng: &mut Dice, count: usize) -> Vec<Vec<u8>> {
+    let few = number_commands(rng.sister);
+    let few = [rng.pick(&few), rng.pick(&few), rng.named("LightNumber")];
     let mut body = || {
         let any = any_command(rng);
         let command = rng.pick(&[any, few[0], few[1], few[2]]);
@@ -1161,7 +1435,7 @@ pub fn frame(body: &str) -> Vec<u8> {
 }
 
 /// A frame ended in some way.
-fn closed(rng: &mut Rng, body: &[u8]) -> Vec<u8> {
+fn closed(rng: &mut Dice, body: &[u8]) -> Vec<u8> {
     let end: &[u8] = match rng.below(8) {
         0..=2 => &[CR],
         3 => &[LF, CR],
@@ -1171,7 +1445,7 @@ fn closed(rng: &mut Rng, body: &[u8]) -> Vec<u8> {
     [&[ESC], body, end].concat()
 }
 
-fn text_code(rng: &mut Rng) -> u8 {
+fn text_code(rng: &mut Dice) -> u8 {
     match rng.below(6) {
         0 => rng.between(0x80, 0xFF) as u8,
         1 => rng.pick(&[0x20, 0x7E, 0x7F, 0x80, 0xFE, 0xFF, b'?', b'[', b'0']),
@@ -1179,7 +1453,7 @@ fn text_code(rng: &mut Rng) -> u8 {
     }
 }
 
-fn text_run(rng: &mut Rng) -> Vec<u8> {
+fn text_run(rng: &mut Dice) -> Vec<u8> {
     let length = rng.pick(&[1, 2, 5, 8, 9, 15, 16, 17, 18, 23, 24, 25, 33, 40]);
     let mut code = || match rng.below(20) {
         0 => rng.below(0x1B) as u8,
@@ -1190,7 +1464,7 @@ fn text_run(rng: &mut Rng) -> Vec<u8> {
 }
 
 /// Columns with runs of all lengths.
-fn columns(rng: &mut Rng) -> Vec<u8> {
+fn columns(rng: &mut Dice) -> Vec<u8> {
     let length = match rng.below(4) {
         0 => rng.pick(&[1, 2, 26, 27, 28, 52, 53, 54, 78, 79, 95, 96]),
         1 => 96,
@@ -1217,7 +1491,7 @@ fn columns(rng: &mut Rng) -> Vec<u8> {
 }
 
 /// Data that spells these columns, not always in the longest runs.
-fn data(rng: &mut Rng, columns: &[u8]) -> Vec<u8> {
+fn data(rng: &mut Dice, columns: &[u8]) -> Vec<u8> {
     let shortest = rng.one_in(4);
     let mut out = vec![];
     for run in columns.chunk_by(|a, b| a == b) {
@@ -1240,7 +1514,7 @@ fn data(rng: &mut Rng, columns: &[u8]) -> Vec<u8> {
 }
 
 /// A frame of the grammar, in range.
-fn good_frame(rng: &mut Rng) -> Vec<u8> {
+fn good_frame(rng: &mut Dice) -> Vec<u8> {
     let command = any_command(rng);
     let body = spelt_well(rng, command);
     closed(rng, &body)
@@ -1248,8 +1522,11 @@ fn good_frame(rng: &mut Rng) -> Vec<u8> {
 
 /// A frame whose numbers may be anything, of four and five digits too, or
 /// whose label is too long.
-fn odd_numbers(rng: &mut Rng) -> Vec<u8> {
-    let command = any_command(rng);
+fn odd_numbers(rng: &mut Dice) -> Vec<u8> {
+    let command = match rng.one_in(2) {
+        true => numbered(rng),
+        false => any_command(rng),
+    };
     let mut numbers = good_numbers(rng, command);
     for (place, range) in command.ranges().iter().enumerate() {
         numbers[place] = match rng.below(8) {
@@ -1269,10 +1546,10 @@ fn odd_numbers(rng: &mut Rng) -> Vec<u8> {
 }
 
 /// Signs that frames are made of.
-const SIGNS: &[u8] = b"IIIDKGrz,;H[&#0123456789EAabyFfVZhSUPWLJMTBCeR\x1B\x0D\x0A\x00";
+const SIGNS: &[u8] = b"IIIDKGrz,;H[&#0123456789EAabyFfVZhSUPWLJMTBCeRNQcs??+-\x1B\x0D\x0A\x00";
 
 /// One byte changed, dropped or doubled somewhere in a good frame.
-fn near_miss(rng: &mut Rng) -> Vec<u8> {
+fn near_miss(rng: &mut Dice) -> Vec<u8> {
     let mut frame = good_frame(rng);
     for _ in 0..rng.pick(&[1, 1, 1, 2]) {
         let front = if rng.one_in(2) { 6 } else { 300 };
@@ -1291,7 +1568,7 @@ fn near_miss(rng: &mut Rng) -> Vec<u8> {
     frame
 }
 
-fn label_frame(rng: &mut Rng) -> Vec<u8> {
+fn label_frame(rng: &mut Dice) -> Vec<u8> {
     let mut codes: Vec<u8> = (0..rng.between(0, 9)).map(|_| text_code(rng)).collect();
     if rng.one_in(3) && !codes.is_empty() {
         let place = rng.below(codes.len());
@@ -1302,7 +1579,7 @@ fn label_frame(rng: &mut Rng) -> Vec<u8> {
 }
 
 /// Picture frames good and bad.
-fn picture_frame(rng: &mut Rng) -> Vec<u8> {
+fn picture_frame(rng: &mut Dice) -> Vec<u8> {
     let columns = columns(rng);
     let mut data = data(rng, &columns);
     match rng.below(14) {
@@ -1344,8 +1621,8 @@ fn picture_frame(rng: &mut Rng) -> Vec<u8> {
 }
 
 /// A frame of 245 to 260 bytes, ended or not.
-fn long_frame(rng: &mut Rng) -> Vec<u8> {
-    let opening: &[u8] = rng.pick(&[&b"IK1"[..], b"Gr0,", b"ID0", b"", b"IP1"]);
+fn long_frame(rng: &mut Dice) -> Vec<u8> {
+    let opening: &[u8] = rng.pick(&[&b"IK1"[..], b"Gr0,", b"ID0", b"", b"IP1", b"IDM0", b"&00"]);
     let length = match rng.below(6) {
         0 => rng.between(300, 600),
         _ => rng.between(245, 260),
@@ -1366,7 +1643,7 @@ fn long_frame(rng: &mut Rng) -> Vec<u8> {
 }
 
 /// ESC within frames, and frames that never end.
-fn torn(rng: &mut Rng) -> Vec<u8> {
+fn torn(rng: &mut Dice) -> Vec<u8> {
     let mut out = vec![];
     for _ in 0..rng.between(1, 4) {
         let frame = good_frame(rng);
@@ -1392,7 +1669,7 @@ const FOREIGN: [&str; 4] = [
      ^IT0;0$\n|^IK00$|^IK01$|^IK3x$|^IT20$|^[1H$|^[1;2;3H$|^INIT$$\n|^Q$",
 ];
 
-fn foreign(rng: &mut Rng) -> Vec<u8> {
+fn foreign(rng: &mut Dice) -> Vec<u8> {
     let family: Vec<&str> = rng.pick(&FOREIGN).split('|').collect();
     let mut out = String::new();
     for _ in 0..rng.between(1, 5) {
@@ -1404,7 +1681,7 @@ fn foreign(rng: &mut Rng) -> Vec<u8> {
     out.replace('^', "\x1B").replace('$', "\r").into_bytes()
 }
 
-fn noise(rng: &mut Rng) -> Vec<u8> {
+fn noise(rng: &mut Dice) -> Vec<u8> {
     let (plain, length) = (rng.one_in(2), rng.between(1, 60));
     let mut sign = || match (plain, rng.below(4)) {
         (true, _) => rng.byte(),
@@ -1415,8 +1692,9 @@ fn noise(rng: &mut Rng) -> Vec<u8> {
 }
 
 /// Very short frames of the signs of the grammar.
-fn short_frame(rng: &mut Rng) -> Vec<u8> {
-    let mut body = vec![rng.pick(b"IIIII&[G")];
+fn short_frame(rng: &mut Dice) -> Vec<u8> {
+    let first = if rng.sister { b"IIII&&KG" } else { b"IIIII&[G" };
+    let mut body = vec![rng.pick(first)];
     body.extend((0..rng.below(4)).map(|_| rng.pick(SIGNS)));
     if rng.one_in(10) {
         body.clear();
@@ -1425,11 +1703,12 @@ fn short_frame(rng: &mut Rng) -> Vec<u8> {
 }
 
 /// Several commands that have to do with the same fields.
-fn story(rng: &mut Rng) -> Vec<u8> {
-    let first = rng.below(COMMANDS.len() - 5);
+fn story(rng: &mut Dice) -> Vec<u8> {
+    let all = rng.commands();
+    let first = rng.below(all.len() - 5);
     let mut out = vec![];
     for _ in 0..rng.between(2, 5) {
-        let command = &COMMANDS[first + rng.below(6)];
+        let command = &all[first + rng.below(6)];
         out.extend(framed(&spelt_well(rng, command)));
         if rng.one_in(4) {
             out.extend(text_run(rng));
@@ -1444,20 +1723,42 @@ pub const DAMAGED: &str = "IA00|IA01|IA05|IA010|IA020|IA021|IA000|IA1000|IA+|IA-
     &V\n|&v|V|IV|&VHA209|[K0|[K1|[KK|[KH|[K\n|[k|[0K|[1K|[2K|[;K|[0;0K|K|[|IZ|IZ00|IZ01|IZ05|IZ06|\
     IZ1000|IZZ|IZ1 |IZ1;2|Iz1|Z1";
 
-fn damaged_form(rng: &mut Rng) -> Vec<u8> {
-    rng.pick(&DAMAGED.split('|').collect::<Vec<_>>()).into()
+/// The same of the sister's frames. Among them are frames of the first edition
+/// that she does not know, and those of her note that are left out.
+pub const HER_DAMAGED: &str = "&C|&C00|&C01|&C1 |&C?|&c1|&C+|&CC|&#|&D0|&D?|&DD|&d|&H|&H1|&H1;|&H;1|&H01;2|\
+    &H1;02|&H1;2H|&H1;2;3|[1;2H|&H??|&h?|&H?0|&K0|&K?|&k|[K|&0|&000|&O|&OO|&0O|&O0|&01|&0 0|&00\n|&V|&V?0|\
+    &v?|&VV|&S?|&S|&|KH|KH??|kH?|Kh?|KHH|KH: H|KP|Kp?|KPP|KP?0|K?|K|KF?|KFx|KLs|IH|IH?|IA|IA00|IA01|IA010|IA+1|\
+    IA++|IA-1|IA--|IA1+|IA??|IA ?|IA1000|ia?|IA\n|IB|IB00|IB?|IB+|ID0|ID10|ID18|IDD|IDE|IDM|IDM00|IDM01|IDM012|\
+    IDMD0|IDMe|IDMd|IDM?0|IDm0|IDM+|IDM1000|IE|IE00|IE01|IEr|IEa|IEq|IEp|IEC|IE?0|IE+|IE-|IE1;2|IEER|II0|II5|\
+    IK|IK00|IK3|IN|IN00|IN01|IN0100|IN+1|IN-1|IN+-|IN ?|IN1000|In5|INIT|IT|IT0|IT0;|IT;0|IT00;0|IT0;00|\
+    IT04;4|IT?;0|IT+|IU|IU02|IU00|IU?|IV|IV00|IV07|IV+1|IV-1|IV?7|IV8+|Iv5|IW?|IX|IX9600|IX?|IZ|IZ00|IZ01|IZ?|\
+    ?|+|I|I?";
+
+/// The list for an edition.
+pub fn damaged(sister: bool) -> &'static str {
+    if sister {
+        HER_DAMAGED
+    } else {
+        DAMAGED
+    }
+}
+
+fn damaged_form(rng: &mut Dice) -> Vec<u8> {
+    let all: Vec<&str> = damaged(rng.sister).split('|').collect();
+    rng.pick(&all).into()
 }
 
 /// A question, a frame near it in the table, in range or not, or one that lies
 /// close to them.
-fn asking_frame(rng: &mut Rng) -> Vec<u8> {
-    let questions: Vec<usize> = (0..COMMANDS.len()).filter(|&at| COMMANDS[at].is_question()).collect();
+fn asking_frame(rng: &mut Dice) -> Vec<u8> {
+    let all = rng.commands();
+    let questions: Vec<usize> = (0..all.len()).filter(|&at| all[at].is_question()).collect();
     let at = rng.pick(&questions);
     let body = match rng.below(16) {
-        0..=7 => spelt_well(rng, &COMMANDS[at]),
+        0..=7 => spelt_well(rng, &all[at]),
         8..=10 => {
-            let near = (at + rng.below(5)).saturating_sub(2).min(COMMANDS.len() - 1);
-            spelt_well(rng, &COMMANDS[near])
+            let near = (at + rng.below(5)).saturating_sub(2).min(all.len() - 1);
+            spelt_well(rng, &all[near])
         }
         11 | 12 => out_of_range_body(rng),
         _ => damaged_form(rng),
@@ -1466,7 +1767,7 @@ fn asking_frame(rng: &mut Rng) -> Vec<u8> {
 }
 
 /// Some of these frames, with other things between them now and then.
-pub fn asked(rng: &mut Rng, pieces: usize) -> Vec<u8> {
+pub fn asked(rng: &mut Dice, pieces: usize) -> Vec<u8> {
     let mut out = vec![];
     for _ in 0..pieces {
         out.extend(asking_frame(rng));
@@ -1481,7 +1782,11 @@ pub fn asked(rng: &mut Rng, pieces: usize) -> Vec<u8> {
     out
 }
 
-fn piece(rng: &mut Rng) -> Vec<u8> {
+fn piece(rng: &mut Dice) -> Vec<u8> {
+    if rng.one_in(25) {
+        // What the other edition would be sent.
+        return rng.other(asking_or_good);
+    }
     match rng.below(54) {
         0..=13 => good_frame(rng),
         14..=17 => odd_numbers(rng),
@@ -1496,11 +1801,12 @@ fn piece(rng: &mut Rng) -> Vec<u8> {
         37..=39 => short_frame(rng),
         40..=42 => story(rng),
         43..=45 => {
-            let command = rng.pick(&number_commands());
+            let all = number_commands(rng.sister);
+            let command = rng.pick(&all);
             let body = padded_body(rng, command);
             closed(rng, &body)
         }
-        46 if rng.one_in(2) => {
+        46 if rng.sister || rng.one_in(2) => {
             let command = numbered(rng);
             sweep(rng, command).iter().flat_map(|body| framed(body)).collect()
         }
@@ -1508,12 +1814,20 @@ fn piece(rng: &mut Rng) -> Vec<u8> {
     }
 }
 
+fn asking_or_good(rng: &mut Dice) -> Vec<u8> {
+    match rng.one_in(3) {
+        true => asking_frame(rng),
+        false => good_frame(rng),
+    }
+}
+
 /// A sender that behaves: modes, positions, text and frames in range.
-fn sender(rng: &mut Rng, pieces: usize) -> Vec<u8> {
+fn sender(rng: &mut Dice, pieces: usize) -> Vec<u8> {
     let mut out = vec![];
     for _ in 0..pieces {
         if rng.one_in(3) {
-            out.extend(frame(&format!("[{};{}H", rng.below(6), rng.below(18))));
+            let (row, column) = (rng.below(6), rng.below(18));
+            out.extend(rng.frame(&format!("[{row};{column}H")));
             out.extend(text_run(rng));
         } else {
             out.extend(good_frame(rng));
@@ -1526,7 +1840,7 @@ fn sender(rng: &mut Rng, pieces: usize) -> Vec<u8> {
 // Whole streams, for calls that take no record.
 
 /// Bytes for which the bound is asked: many ESC, few or none.
-fn offered(rng: &mut Rng) -> Vec<u8> {
+fn offered(rng: &mut Dice) -> Vec<u8> {
     let count = rng.pick(&[1, 1, 2, 3, 10, 60, 253, 254, 255, 256, 257, 300]);
     let pieces = rng.between(1, 5);
     match rng.below(14) {
@@ -1555,7 +1869,7 @@ fn offered(rng: &mut Rng) -> Vec<u8> {
 
 /// A frame of a length at which something ends, closed, abandoned or left
 /// open.
-fn measured_frame(rng: &mut Rng) -> Vec<u8> {
+fn measured_frame(rng: &mut Dice) -> Vec<u8> {
     let length = rng.pick(&[0, 0, 1, 2, 249, 250, 251, 252]);
     let sign = rng.pick(b"0A\x80\n");
     let end: &[u8] = rng.pick(&[&[CR][..], &[CR, LF], &[CR, CR], &[ESC], &[]]);
@@ -1564,7 +1878,7 @@ fn measured_frame(rng: &mut Rng) -> Vec<u8> {
 
 /// A stream of as many bytes as a line takes, or one less. Most are of few
 /// parts.
-fn full_stream(rng: &mut Rng) -> Vec<u8> {
+fn full_stream(rng: &mut Dice) -> Vec<u8> {
     let length = BYTES - rng.below(2);
     let [first, sign, last] =
         rng.pick(&[[ESC, ESC, CR], *b"AAA", [ESC, b'A', b'A'], [ESC, b'A', ESC], [ESC, b'A', CR]]);
@@ -1574,7 +1888,7 @@ fn full_stream(rng: &mut Rng) -> Vec<u8> {
 }
 
 /// A stream to be parted.
-pub fn parted(rng: &mut Rng) -> Vec<u8> {
+pub fn parted(rng: &mut Dice) -> Vec<u8> {
     const FEW: &[u8] = b"\x1B\x1B\x1B\x1B\r\r\r\nAI\x00\x1A\x1C\x1F\x20\x7F\x80\xFF";
     let pieces = rng.between(0, 6);
     let mut bytes: Vec<u8> = match rng.below(24) {
@@ -1594,7 +1908,7 @@ pub fn parted(rng: &mut Rng) -> Vec<u8> {
 
 /// A place to part a stream from: its start, anywhere in it, about a byte that
 /// opens or ends a frame, its end, and past it.
-fn place_of(rng: &mut Rng, bytes: &[u8]) -> u16 {
+fn place_of(rng: &mut Dice, bytes: &[u8]) -> u16 {
     let length = bytes.len();
     let ends: Vec<usize> = (0..length).filter(|&at| [ESC, CR, LF].contains(&bytes[at])).collect();
     let place = match rng.below(12) {
@@ -1609,7 +1923,7 @@ fn place_of(rng: &mut Rng, bytes: &[u8]) -> u16 {
 }
 
 /// A mode that is none.
-fn no_mode(rng: &mut Rng) -> u8 {
+fn no_mode(rng: &mut Dice) -> u8 {
     let any = rng.byte();
     let mode = rng.pick(&[2, 3, 4, 7, 9, 11, 13, 18, 128, 255, any]);
     if MODES.contains(&mode) {
@@ -1620,14 +1934,16 @@ fn no_mode(rng: &mut Rng) -> u8 {
 }
 
 /// The bytes of a frame to be judged.
-pub fn judged(rng: &mut Rng) -> Vec<u8> {
-    let command = &COMMANDS[rng.below(COMMANDS.len())];
+pub fn judged(rng: &mut Dice) -> Vec<u8> {
+    let all = rng.commands();
+    let command = &all[rng.below(all.len())];
     match rng.below(30) {
         0..=6 => spelt_well(rng, command),
         7..=12 => out_of_range_body(rng),
         13..=19 => damaged_body(rng, command),
         20 => {
-            let command = rng.pick(&number_commands());
+            let all = number_commands(rng.sister);
+            let command = rng.pick(&all);
             padded_body(rng, command)
         }
         21..=23 => damaged_form(rng),
@@ -1650,7 +1966,7 @@ fn inside_of(stream: &[u8]) -> Vec<u8> {
 
 /// The bytes of a good frame, or of one out of range, with a byte too many or
 /// too few, a small letter, or another byte in it.
-fn damaged_body(rng: &mut Rng, command: &Command) -> Vec<u8> {
+fn damaged_body(rng: &mut Dice, command: &Command) -> Vec<u8> {
     let mut bytes = match rng.one_in(4) {
         true => out_of_range_body(rng),
         false => spelt_well(rng, command),
@@ -1673,7 +1989,7 @@ fn damaged_body(rng: &mut Rng, command: &Command) -> Vec<u8> {
 }
 
 /// The bytes of a frame too long, or just not; none at all now and then.
-fn long_body(rng: &mut Rng) -> Vec<u8> {
+fn long_body(rng: &mut Dice) -> Vec<u8> {
     let length = rng.pick(&[0, 249, 250, 250, 251, 251, 252, 300, 4095, 4096]);
     let mut bytes = rng.pick(&["IK1", "Gr0,", "ID0", "IP", "[0;0H"]).as_bytes().to_vec();
     bytes.resize(length, rng.pick(b"00 A"));
@@ -1683,7 +1999,7 @@ fn long_body(rng: &mut Rng) -> Vec<u8> {
 // The choice screen.
 
 /// One of these words as a frame, ended by CR and perhaps LF.
-fn one_frame(rng: &mut Rng, words: &str) -> Vec<u8> {
+fn one_frame(rng: &mut Dice, words: &str) -> Vec<u8> {
     let word = rng.pick(&words.split(' ').collect::<Vec<_>>());
     let end = rng.pick(&["\r", "\r\n"]);
     format!("\x1B{word}{end}").into_bytes()
@@ -1691,7 +2007,7 @@ fn one_frame(rng: &mut Rng, words: &str) -> Vec<u8> {
 
 /// What may stand between an IDn and its labels without harm: frames that are
 /// obeyed or passed over, questions, and skipped bytes.
-fn harmless(rng: &mut Rng) -> Vec<u8> {
+fn harmless(rng: &mut Dice) -> Vec<u8> {
     match rng.below(6) {
         0 => rng.pick(&[&[LF][..], &[CR, LF], &[0], &[0x1F]]).to_vec(),
         _ => one_frame(rng, "IDD IDE &C &# [0;0H [9;9H IP3 IP20 IA IA0 IH &V [K IZ1 Gr0,00z IT3;3"),
@@ -1700,7 +2016,7 @@ fn harmless(rng: &mut Rng) -> Vec<u8> {
 
 /// Something that may break a rule, or be just right. The word that is none is
 /// an empty frame.
-fn doubtful(rng: &mut Rng) -> Vec<u8> {
+fn doubtful(rng: &mut Dice) -> Vec<u8> {
     const FRAMES: &str = "IK0 IK0 IK1 IK1 IK2 IK2 IK1Mine IK2Older ID0 ID1 ID5 ID6 ID10 ID11 ID13 \
         ID18 ID2 ID19 ID999 IDD IDE Q  ID00 ID05 IDM0 IK112345678 IK3x IP05 IK1\n";
     match rng.below(16) {
@@ -1715,7 +2031,7 @@ fn doubtful(rng: &mut Rng) -> Vec<u8> {
 }
 
 /// One screen of a choice: its mode, its labels, and what ends it.
-fn one_choice(rng: &mut Rng) -> Vec<Vec<u8>> {
+fn one_choice(rng: &mut Dice) -> Vec<Vec<u8>> {
     let mut pieces = vec![one_frame(rng, "ID0 ID1 ID5 ID6 ID10")];
     if rng.one_in(8) {
         pieces.push(one_frame(rng, "IK0"));
@@ -1742,13 +2058,13 @@ fn one_choice(rng: &mut Rng) -> Vec<Vec<u8>> {
     pieces
 }
 
-fn choice_text(rng: &mut Rng) -> Vec<u8> {
+fn choice_text(rng: &mut Dice) -> Vec<u8> {
     rng.pick(&["Which round?", "K", "Keep which of the two rounds?"]).into()
 }
 
 /// A stream that keeps the rules of a choice screen, or all but one or two of
 /// them.
-pub fn choices(rng: &mut Rng) -> Vec<u8> {
+pub fn choices(rng: &mut Dice) -> Vec<u8> {
     match rng.below(96) {
         0 => return vec![],
         1 => return full_choice(rng),
@@ -1777,7 +2093,7 @@ pub fn choices(rng: &mut Rng) -> Vec<u8> {
 }
 
 /// Drops, moves, cuts or changes a piece, or puts in something else.
-fn spoil_choice(rng: &mut Rng, pieces: &mut Vec<Vec<u8>>) {
+fn spoil_choice(rng: &mut Dice, pieces: &mut Vec<Vec<u8>>) {
     let count = pieces.len();
     let any = rng.below(count + 1);
     let place = rng.pick(&[0, count, any, any, any, any]);
@@ -1797,7 +2113,7 @@ fn spoil_choice(rng: &mut Rng, pieces: &mut Vec<Vec<u8>>) {
 
 /// A choice of as many bytes as a line takes; a rule is broken at its end, or
 /// none.
-fn full_choice(rng: &mut Rng) -> Vec<u8> {
+fn full_choice(rng: &mut Dice) -> Vec<u8> {
     let labels = "\x1BIK1Mine\r\x1BIK2Older\r";
     let last = rng.pick(&[labels, "", "A", "\x1B", "\x1B\r", "\x1BID11\r"]).as_bytes();
     let mut bytes = b"\x1BID0\r\x1BID5\r".to_vec();

@@ -4,8 +4,10 @@
 //! all ways to go on from there (a value and the rest); the frame has the
 //! shape if some way through all pieces leaves no rest. That no frame can be
 //! read in two ways is no part of the reader: `tests property` checks it.
+//!
+//! The two editions have a table of commands each, and one reader.
 
-use crate::commands::COMMANDS;
+use crate::commands::table;
 use crate::record::*;
 use Piece::{Data, Digit, Is, Number, Text};
 
@@ -13,6 +15,8 @@ use Piece::{Data, Digit, Is, Number, Text};
 pub enum In {
     /// From the first to the second of each pair, both included.
     Spans(&'static [(u16, u16)]),
+    /// The same; and 0 where every number of the frame is 0.
+    SpansOrZeros(&'static [(u16, u16)]),
     /// A row of the text mode.
     Row,
     /// The rows of the text mode, numbered from 1; 0 names none.
@@ -35,6 +39,9 @@ pub enum Piece {
 pub enum Effect {
     /// What the command does with its numbers, and its codes or columns.
     Do(fn(&mut Record, &[u8], &[u8])),
+    /// What the command does where the record lets it be obeyed. Elsewhere it
+    /// is answered as a bad frame is, though it is of the grammar.
+    If(fn(&Record) -> bool, fn(&mut Record)),
     /// A question changes nothing: it is answered ESC and this.
     Tell(fn(&Record) -> String),
 }
@@ -47,7 +54,7 @@ pub struct Command {
 
 impl PartialEq for Command {
     fn eq(&self, other: &Command) -> bool {
-        self.name == other.name
+        std::ptr::eq(self, other)
     }
 }
 
@@ -63,7 +70,7 @@ pub const MOST_ROWS: u16 = TEXT_ROWS as u16;
 impl In {
     fn spans(&self, rows: u16) -> Vec<(u16, u16)> {
         match self {
-            In::Spans(spans) => spans.to_vec(),
+            In::Spans(spans) | In::SpansOrZeros(spans) => spans.to_vec(),
             In::Row if rows == 0 => vec![],
             In::Row => vec![(0, rows - 1)],
             In::RowFromOne => vec![(0, rows)],
@@ -76,7 +83,7 @@ impl In {
     }
 
     pub fn by_mode(&self) -> bool {
-        !matches!(self, In::Spans(_))
+        matches!(self, In::Row | In::RowFromOne)
     }
 
     /// Numbers in range that should be tried: all of a short span, the ends of
@@ -95,6 +102,10 @@ impl In {
         let spans = self.spans(rows);
         let near = spans.iter().flat_map(|&(low, high)| [low.saturating_sub(1), high + 1, high + 2]);
         let mut all: Vec<u16> = near.chain([10, 99, 100, 255, 256, 999]).collect();
+        if matches!(self, In::SpansOrZeros(_)) {
+            // Out of range beside another number.
+            all.push(0);
+        }
         all.retain(|&n| !self.has(n, rows));
         all.sort_unstable();
         all.dedup();
@@ -126,9 +137,22 @@ impl Command {
         matches!(self.effect, Effect::Tell(_))
     }
 
+    /// Whether it rests on the record that it is obeyed.
+    pub fn may_be_refused(&self) -> bool {
+        matches!(self.effect, Effect::If(_, _))
+    }
+
+    /// Whether its numbers may all be 0, though 0 is out of range for one.
+    pub fn takes_zeros(&self) -> bool {
+        self.ranges().iter().any(|range| matches!(range, In::SpansOrZeros(_)))
+    }
+
     /// The first number, in the order of the frame, that is out of range where
     /// a frame can name so many rows. None: all are in range.
     pub fn first_out_of_range(&self, numbers: &[u16], rows: u16) -> Option<u16> {
+        if self.takes_zeros() && numbers.iter().all(|&n| n == 0) {
+            return None;
+        }
         let ranges = self.ranges();
         let wrong = numbers.iter().zip(ranges).find(|(&n, range)| !range.has(n, rows));
         wrong.map(|(&n, _)| n)
@@ -154,9 +178,9 @@ impl Command {
     }
 }
 
-/// The command with this name.
-pub fn named(name: &str) -> &'static Command {
-    let command = COMMANDS.iter().find(|command| command.name == name);
+/// The command with this name, of the sister or of the first edition.
+pub fn named(sister: bool, name: &str) -> &'static Command {
+    let command = table(sister).iter().find(|command| command.name == name);
     command.unwrap_or_else(|| panic!("no command is called {name}"))
 }
 
@@ -178,8 +202,9 @@ impl Spelt {
 /// One way to read on: what was read so far, and the rest.
 type Way<'a> = (Vec<u16>, Vec<u8>, &'a [u8]);
 
-/// All readings of a frame's bytes. None: outside the grammar.
-pub fn readings(body: &[u8]) -> Vec<Spelt> {
+/// All readings of a frame's bytes by the sister's table or that of the first
+/// edition. None: outside the grammar.
+pub fn readings(sister: bool, body: &[u8]) -> Vec<Spelt> {
     let ways = |command: &'static Command| {
         let start: Vec<Way> = vec![(vec![], vec![], body)];
         let ways = command
@@ -191,12 +216,12 @@ pub fn readings(body: &[u8]) -> Vec<Spelt> {
             .map(move |(numbers, codes, _)| Spelt { command, numbers, codes })
             .collect::<Vec<_>>()
     };
-    COMMANDS.iter().flat_map(ways).collect()
+    table(sister).iter().flat_map(ways).collect()
 }
 
 /// What a frame spells. None: outside the grammar.
-pub fn spelt(body: &[u8]) -> Option<Spelt> {
-    readings(body).into_iter().next()
+pub fn spelt(sister: bool, body: &[u8]) -> Option<Spelt> {
+    readings(sister, body).into_iter().next()
 }
 
 fn go_on<'a>((numbers, codes, rest): Way<'a>, piece: &Piece) -> Vec<Way<'a>> {

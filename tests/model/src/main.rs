@@ -1,13 +1,15 @@
 //! A second, independent program of the handset's rules, made from the papers
 //! alone, and a tester that holds another program against it. Of the change
-//! requests it has T-01 to T-05, T-09 and T-11, and of T-06 the record.
+//! requests it has T-01 to T-06, T-09 and T-11; of T-06, the sister handset,
+//! all that goes by the record: frames, answers, keys. Writers, verdicts and the
+//! rules of a choice screen are those of the first edition.
 //!
 //! The model is written plainly, to be read beside the paper: `record`,
 //! `fields` (a table: where a field stands and its range), `grammar`,
-//! `commands` (a table: how a command is spelt, its ranges, its effect),
+//! `commands` (a table an edition: how a command is spelt, its ranges, its effect),
 //! `stream` (parts the whole stream first, then takes the parts), `places`
 //! (the part at a place, the verdict of a frame), `choice` (the rules of a
-//! choice screen), `keys` (a list of rules), `seen`, `writers`. `script` reads
+//! choice screen), `keys` (a list of rules an edition), `seen`, `writers`. `script` reads
 //! and answers scripts: one call a line. `generate` makes random scripts by a
 //! seed; it and `cover`, which says what they should reach, go by the tables.
 //!
@@ -19,20 +21,21 @@
 //!   [--seconds S]`: runs the program on the script of each seed from A to
 //!   B - 1 and compares its answers with the model's. The last line is
 //!   `N passed, M failed`; the exit status is 1 if one failed.
-//! - `tests list < stream`: the listing of the program "list screen".
+//! - `tests list [--sister] < stream`: the listing of the program "list screen".
 //! - `tests parts < stream`: a line `PLACE KIND END` for each part, where KIND
 //!   is `text`, `skipped`, `closed`, `abandoned` or `tail`.
-//! - `tests verdicts < stream`: a line for each closed frame, `PLACE bad`,
-//!   `PLACE passed over NUMBER` (its first number out of range) or
-//!   `PLACE obeyed`, from the power-on record on.
+//! - `tests verdicts [--sister] < stream`: a line for each closed frame,
+//!   `PLACE bad`, `PLACE passed over NUMBER` (its first number out of range),
+//!   `PLACE refused` or `PLACE obeyed`, from the power-on record on.
 //! - `tests screens PROGRAM-WORDS... --seeds A..B [--seconds S]`: compares
-//!   that program's listings of random streams.
+//!   that program's listings of random streams. `--sister` among its words makes
+//!   them the sister's.
 //! - `tests property A..B`: checks the model against itself.
 //! - `tests cover A..B [CALLS]`: counts what the scripts of these seeds
 //!   reach; exit status 1 if something isn't reached.
 //!
 //! KINDS is a list of call letters, for instance `PSRF`; without it all
-//! (`POSRFNDJEKCHBQUMVWTGX`, where X stands for lines that can't be taken).
+//! (`POZSRFNDJEKCHBQUMVWTGX`, where X stands for lines that can't be taken).
 
 mod choice;
 mod commands;
@@ -62,9 +65,9 @@ const USAGE: &str = "usage:
   tests make SEED CALLS [KINDS]
   tests answer < script
   tests compare PROGRAM-WORDS... --seeds A..B --calls N [--kinds KINDS] [--seconds S]
-  tests list < stream
+  tests list [--sister] < stream
   tests parts < stream
-  tests verdicts < stream
+  tests verdicts [--sister] < stream
   tests screens PROGRAM-WORDS... --seeds A..B [--seconds S]
   tests property A..B
   tests cover A..B [CALLS]";
@@ -136,9 +139,13 @@ fn command(words: &[String]) -> Result<bool, String> {
         ["make", seed, calls] => make(number(seed)?, number(calls)?, generate::KINDS),
         ["make", seed, calls, list] => make(number(seed)?, number(calls)?, &kinds(list)?),
         ["answer"] => answer().map_err(text),
-        ["list"] => listing(seen::listing).map_err(text),
+        ["list"] => listing(|stream| seen::listing(&record::power_on(), stream)).map_err(text),
+        ["list", "--sister"] => listing(|stream| seen::listing(&record::sister_power_on(), stream)).map_err(text),
         ["parts"] => listing(places::list_parts).map_err(text),
-        ["verdicts"] => listing(places::list_verdicts).map_err(text),
+        ["verdicts"] => listing(|stream| places::list_verdicts(&record::power_on(), stream)).map_err(text),
+        ["verdicts", "--sister"] => {
+            listing(|stream| places::list_verdicts(&record::sister_power_on(), stream)).map_err(text)
+        }
         ["compare", ref rest @ ..] => {
             let options = options(&owned(rest))?;
             let folder = compare::Folder::new().map_err(text)?;
@@ -205,6 +212,12 @@ fn properties(seeds: Range<u64>) -> bool {
     for (name, check) in property::CHECKS {
         for seed in seeds.clone() {
             tell_one(name, check(seed).map_err(|why| format!("seed {seed}: {why}")));
+        }
+    }
+    for (name, check) in property::BOTH {
+        for (seed, sister) in seeds.clone().flat_map(|seed| [(seed, false), (seed, true)]) {
+            let whose = if sister { "the sister's " } else { "" };
+            tell_one(name, check(seed, sister).map_err(|why| format!("{whose}seed {seed}: {why}")));
         }
     }
     tell((passed, failed))

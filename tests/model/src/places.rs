@@ -1,6 +1,7 @@
 //! The part that stands at a place of a stream, the verdict of a frame, and
 //! a listing of each.
 
+use crate::commands::{out_of_range, refused};
 use crate::record::*;
 use crate::stream::{good, parting, take, Part};
 
@@ -86,16 +87,31 @@ pub enum Verdict {
     /// It is good; this is its first number out of range.
     PassedOver(u16),
     Obeyed,
+    /// It is good and in range, and the record does not let it be obeyed: it
+    /// is answered as a bad one is. The sister alone has such frames.
+    Refused,
 }
 
-/// The verdict of a frame by the bytes between ESC and CR, where a frame can
-/// name so many rows.
+/// The verdict of a frame of the first edition by the bytes between ESC and CR,
+/// where a frame can name so many rows.
 pub fn verdict(body: &[u8], rows: u8) -> Verdict {
-    let Some(good) = good(body) else {
+    let Some(good) = good(false, body) else {
         return Verdict::Bad;
     };
     match good.command.first_out_of_range(&good.numbers, rows.into()) {
         Some(number) => Verdict::PassedOver(number),
+        None => Verdict::Obeyed,
+    }
+}
+
+/// What becomes of a frame on this record.
+pub fn judge(record: &Record, body: &[u8]) -> Verdict {
+    let Some(good) = good(record.edition.sister, body) else {
+        return Verdict::Bad;
+    };
+    match out_of_range(record, &good) {
+        Some(number) => Verdict::PassedOver(number),
+        None if refused(record, &good) => Verdict::Refused,
         None => Verdict::Obeyed,
     }
 }
@@ -113,16 +129,17 @@ pub fn list_parts(stream: &[u8]) -> String {
     out
 }
 
-/// A line for each closed frame of a stream: its place and its verdict, in
-/// the text mode that the record then has. From the power-on record.
-pub fn list_verdicts(stream: &[u8]) -> String {
+/// A line for each closed frame of a stream: its place and its verdict, by the
+/// record that there then is. From a record with no frame open.
+pub fn list_verdicts(start: &Record, stream: &[u8]) -> String {
     let mut out = String::new();
-    let mut record = power_on();
+    let mut record = start.clone();
     let mut place = 0;
     for (part, behind) in parting(stream) {
         if let Part::Closed(body) = &part {
-            out += &match verdict(body, rows_to_name(record.mode)) {
+            out += &match judge(&record, body) {
                 Verdict::Bad => format!("{place} bad\n"),
+                Verdict::Refused => format!("{place} refused\n"),
                 Verdict::PassedOver(number) => format!("{place} passed over {number}\n"),
                 Verdict::Obeyed => format!("{place} obeyed\n"),
             };

@@ -3,12 +3,14 @@
 use std::collections::BTreeMap;
 
 use crate::choice::{self, Broken};
-use crate::commands::{self, LONGEST};
+use crate::commands::{self, mark, table, LONGEST};
+use crate::fields::{contents, field, in_range, FIELDS};
 use crate::generate::{
-    asked, choices, close_bodies, judged, number_commands, parted, random_record, stream_of, MODES, OVERLAYS,
+    self, asked, choices, close_bodies, judged, number_commands, parted, random_record, respelt, stream_of, Dice,
+    MODES, OVERLAYS,
 };
 use crate::grammar::{readings, spelt, Spelt};
-use crate::places::{list_parts, list_verdicts, parts_from, verdict, Found, Kind, Verdict};
+use crate::places::{judge, list_parts, list_verdicts, parts_from, verdict, Found, Kind, Verdict};
 use crate::record::*;
 use crate::rng::Rng;
 use crate::script::{self, command, command_count};
@@ -30,9 +32,9 @@ macro_rules! hold {
 /// Cutting a stream elsewhere changes nothing, if unused bytes are offered
 /// again first and the room in the end takes all answers: every place of a cut,
 /// with any room for the first call.
-pub fn cut_anywhere(seed: u64) -> Held {
-    let mut rng = Rng::new(seed ^ 0xC08);
-    let start = random_record(seed);
+pub fn cut_anywhere(seed: u64, sister: bool) -> Held {
+    let mut rng = Dice::new(seed ^ 0xC08, sister);
+    let start = random_record(seed, sister);
     let pieces = rng.between(1, 5);
     let mut bytes = match rng.one_in(2) {
         true => asked(&mut rng, pieces),
@@ -43,7 +45,7 @@ pub fn cut_anywhere(seed: u64) -> Held {
     for cut in 0..=bytes.len() {
         for _ in 0..3 {
             let mut record = start.clone();
-            let mut room = vec![7; rng.between(0, 32)];
+            let mut room = vec![7; rng.between(0, 34)];
             let (number, used, written) = stream::call(&mut record, &bytes[..cut], &mut room);
             let (end, rest) = with_room_for_all(&record, &bytes[used..]);
             let untouched = room[written..].iter().all(|&byte| byte == 7);
@@ -66,9 +68,9 @@ fn with_room_for_all(record: &Record, bytes: &[u8]) -> (Record, Vec<u8>) {
 /// A call stops exactly before the byte whose whole answer does not fit. The
 /// bytes are given one by one, to learn what each of them is answered; for
 /// every room it is then known where a call stops.
-pub fn stops(seed: u64) -> Held {
-    let mut rng = Rng::new(seed ^ 0x570);
-    let start = random_record(seed);
+pub fn stops(seed: u64, sister: bool) -> Held {
+    let mut rng = Dice::new(seed ^ 0x570, sister);
+    let start = random_record(seed, sister);
     let mut bytes = asked(&mut rng, 4);
     bytes.extend(stream_of(&mut rng, 2));
     bytes.truncate(400);
@@ -102,7 +104,7 @@ fn without_questions(start: &Record, bytes: &[u8]) -> Vec<u8> {
     let mut from = 0;
     for (part, behind) in stream::parts_of_call(start, bytes) {
         let Part::Closed(body) = part else { continue };
-        if stream::good(&body).is_some_and(|good| good.command.is_question()) {
+        if stream::good(start.edition.sister, &body).is_some_and(|good| good.command.is_question()) {
             let end = behind - 1 - before;
             out.extend(&bytes[from..end]);
             out.push(b'!');
@@ -114,12 +116,13 @@ fn without_questions(start: &Record, bytes: &[u8]) -> Vec<u8> {
 }
 
 /// With any room a call writes no more than the bound, and all of it are
-/// question marks; with the bound as its room it uses all. What was written
-/// and the bound of what is left are no more than the bound. Questions too
-/// get no more answers than it says, though longer ones.
-pub fn bound_holds(seed: u64) -> Held {
-    let mut rng = Rng::new(seed ^ 0xB09);
-    let mut start = random_record(seed);
+/// question marks, each with CR LF of the sister; with the bound as its room it
+/// uses all. What was written and the bound of what is left are no more than the
+/// bound. Questions too get no more answers than it says, though longer ones.
+pub fn bound_holds(seed: u64, sister: bool) -> Held {
+    let mut rng = Dice::new(seed ^ 0xB09, sister);
+    let mut start = random_record(seed, sister);
+    let long = if sister { 3 } else { 1 };
     match rng.below(6) {
         0 => start.frame = NO_FRAME,
         1 => {
@@ -138,18 +141,18 @@ pub fn bound_holds(seed: u64) -> Held {
         false => stream_of(&mut rng, pieces),
     };
     let answers = stream::answers(&start, &with).len();
-    hold!(stream::bound(&start, &with).1 >= answers, "{answers} answers");
+    hold!(stream::bound(&start, &with).1 >= long * answers, "{answers} answers");
     let bytes = without_questions(&start, &with);
     let (number, bound) = stream::bound(&start, &bytes);
     let escapes = bytes.split(|&byte| byte == ESC).count() - 1;
     let open = usize::from(start.frame != NO_FRAME);
-    hold!((number, bound) == (0, escapes + open), "bound {bound}");
+    hold!((number, bound) == (0, long * (escapes + open)), "bound {bound}");
     let more = bound + 1 + rng.below(300);
     for room in (0..=bound.min(40)).chain([bound.saturating_sub(1), bound, more]) {
         let mut record = start.clone();
         let mut buffer = vec![7; room];
         let (number, used, written) = stream::call(&mut record, &bytes, &mut buffer);
-        let marks = buffer[..written].iter().all(|&byte| byte == QUESTION);
+        let marks = buffer[..written].chunks(long).all(|said| said == &b"?\r\n"[..long]);
         hold!(number == 0 && written <= bound && marks, "{written} bytes with room {room}");
         hold!(room < bound || used >= bytes.len(), "room {room} is too small");
         hold!(written + stream::bound(&record, &bytes[used..]).1 <= bound, "the bound rises with room {room}");
@@ -160,9 +163,10 @@ pub fn bound_holds(seed: u64) -> Held {
 /// The bound is reached, whatever stands in the record: by ESC n times and CR,
 /// and without an ESC by the CR of a frame that is bad. One place less is too
 /// small a room then.
-pub fn bound_reached(seed: u64) -> Held {
+pub fn bound_reached(seed: u64, sister: bool) -> Held {
     let mut rng = Rng::new(seed ^ 0xB0A);
-    let any = random_record(seed);
+    let any = random_record(seed, sister);
+    let mark = mark(sister);
     let mut states = vec![any];
     for state in 0..3 {
         let mut record = states[0].clone();
@@ -179,20 +183,21 @@ pub fn bound_reached(seed: u64) -> Held {
                 bytes.splice(0..0, [b'!'; FRAME + 1]);
             }
             let (number, bound) = stream::bound(start, &bytes);
-            hold!((number, bound) == (0, n + open), "bound {bound} for {n} and {open}");
+            hold!((number, bound) == (0, mark.len() * (n + open)), "bound {bound} for {n} and {open}");
             for room in [bound, bound + 5] {
                 let mut record = start.clone();
                 let mut buffer = vec![7; room];
                 let counts = stream::call(&mut record, &bytes, &mut buffer);
                 hold!(
-                    counts == (0, bytes.len(), bound) && buffer[..bound] == vec![QUESTION; bound],
+                    counts == (0, bytes.len(), bound) && buffer[..bound] == mark.repeat(n + open),
                     "{counts:?} for {n} and {open}"
                 );
             }
-            if let Some(room) = bound.checked_sub(1) {
+            for room in (0..bound).rev().take(mark.len()) {
                 let mut record = start.clone();
                 let (_, used, written) = stream::call(&mut record, &bytes, &mut vec![7; room]);
-                hold!((used, written) == (bytes.len() - 1, room), "{used} used with room {room}");
+                let wanted = (bytes.len() - 1, bound - mark.len());
+                hold!((used, written) == wanted, "{used} used with room {room}");
             }
         }
     }
@@ -216,7 +221,7 @@ pub fn picture_data_short(seed: u64) -> Held {
             columns += 1;
         }
         let body = [&b"Gr0,"[..], &data, b"z"].concat();
-        let read = spelt(&body).map(|good| good.codes.len());
+        let read = spelt(rng.one_in(2), &body).map(|good| good.codes.len());
         hold!(read == (columns <= COLUMNS).then_some(columns), "{columns} columns, read {read:?}");
         if data.len() > 2 * columns || (runs == 0 && data.len() != 2 * columns) {
             let bytes = data.len();
@@ -229,8 +234,8 @@ pub fn picture_data_short(seed: u64) -> Held {
 /// Contrast and marks are changed by their own frames alone, obeyed; the hook
 /// switch and the edition by none, nor by keys and seconds.
 pub fn own_frames(seed: u64) -> Held {
-    let mut rng = Rng::new(seed ^ 0x0F7);
-    let start = random_record(seed);
+    let mut rng = Dice::new(seed ^ 0x0F7, false);
+    let start = random_record(seed, false);
     let mut bytes = stream_of(&mut rng, 10);
     bytes.extend(asked(&mut rng, 6));
     let mut record = start.clone();
@@ -238,7 +243,7 @@ pub fn own_frames(seed: u64) -> Held {
     let (mut contrast, mut marks) = (start.contrast, start.marks);
     for (part, _) in stream::parts_of_call(&start, &bytes) {
         let good = match &part {
-            Part::Closed(body) => stream::good(body),
+            Part::Closed(body) => stream::good(false, body),
             _ => None,
         };
         match good {
@@ -262,10 +267,170 @@ pub fn own_frames(seed: u64) -> Held {
     Ok(())
 }
 
+/// The fields that an obeyed frame of the sister may change, by the letters of
+/// her note; `but` stands before those that it may not.
+fn changed_by(body: &[u8]) -> &'static str {
+    let digit = body.last().is_some_and(u8::is_ascii_digit);
+    match body {
+        [.., b'?'] if body[0] != b'G' && !body.starts_with(b"IK") => "",
+        b"&00" => "but sister,Time1,Time2,contrast,brightness,speaker volume,duration",
+        b"&D" => "text,large line,row,column",
+        b"&K" => "text,large line",
+        b"IDMD" | b"IDME" => "display",
+        b"IEe" | b"IEs" => "keypad flag",
+        b"IEc" => "keypad flag,left",
+        b"IER" => "left",
+        [b'I', b'E', ..] if digit && body != b"IE0" => "duration",
+        [b'I', b'D', ..] => "text mode,overlay,row,column",
+        [b'&', b'C', ..] => "cursor shown",
+        [b'&', b'H', ..] => "row,column",
+        b"IK0" => "left label length,left label codes,right label length,right label codes",
+        [b'I', b'K', b'1', ..] => "left label length,left label codes",
+        [b'I', b'K', b'2', ..] => "right label length,right label codes",
+        [b'G', ..] => "picture",
+        [b'I', letter, ..] => match letter {
+            b'A' => "contrast",
+            b'B' => "buzzer",
+            b'E' => "backlight mode,left,PWM",
+            b'F' => "icon F",
+            b'J' | b'L' => "volume which,volume level,hidden",
+            b'M' => "mute,hidden",
+            b'N' => "brightness",
+            b'P' => "icon P",
+            b'R' => "icon R",
+            b'S' => "icon S",
+            b'T' => "Time1,Time2",
+            b'U' => "icon U",
+            b'V' => "speaker volume",
+            b'W' => "icon W",
+            b'Z' => "inverse mark",
+            _ => "",
+        },
+        _ => "",
+    }
+}
+
+/// Each part of a stream changes what it is there for and nothing beside it; a
+/// frame that is not obeyed changes nothing. The edition stays.
+pub fn her_own_frames(seed: u64) -> Held {
+    let mut rng = Dice::new(seed ^ 0x0F8, true);
+    let mut record = random_record(seed, true);
+    record.frame = NO_FRAME;
+    let mut bytes = stream_of(&mut rng, 10);
+    bytes.extend(asked(&mut rng, 10));
+    for (part, _) in parting(&bytes) {
+        let mut before = record.clone();
+        let said = stream::take(&mut record, &part);
+        let may = match &part {
+            Part::Text(_) => "text,large line,column",
+            Part::Closed(body) if judge(&before, body) == Verdict::Obeyed => changed_by(body),
+            Part::Tail(_) => "frame state,frame length,frame bytes",
+            _ => "",
+        };
+        let (but, may) = may.strip_prefix("but ").map_or((false, may), |others| (true, others));
+        for (number, row) in FIELDS.iter().enumerate() {
+            let same = contents(&mut before, number as u16) == contents(&mut record, number as u16);
+            hold!(same || may.split(',').any(|name| name == row.name) != but, "{part:?} changed {}", row.name);
+        }
+        let ended = said.is_empty() || said.ends_with(b"\r\n");
+        hold!(ended && in_range(&record), "{part:?} leaves the range, or says {said:?}");
+    }
+    Ok(())
+}
+
+/// A restart stands for the record of power-on with six numbers of before; what
+/// comes behind it is read on from there.
+pub fn restarts(seed: u64) -> Held {
+    let mut rng = Dice::new(seed ^ 0x0F9, true);
+    let start = random_record(seed, true);
+    let (before, behind) = (stream_of(&mut rng, 4), stream_of(&mut rng, 4));
+    // An open frame is abandoned by the ESC of the restart.
+    let (first, said) = with_room_for_all(&start, &[&before[..], &[ESC]].concat());
+    let mut wanted = sister_power_on();
+    for name in ["Time1", "Time2", "contrast", "brightness", "speaker volume", "duration"] {
+        let number = field(name);
+        crate::fields::set(&mut wanted, number, 0, crate::fields::get(&first, number));
+    }
+    let (again, nothing) = with_room_for_all(&first, b"&00\r");
+    hold!(again == wanted && nothing.is_empty() && in_range(&again), "the record after a restart");
+    let (end, more) = with_room_for_all(&wanted, &behind);
+    let whole = [&before[..], b"\x1B&00\r", &behind].concat();
+    hold!(with_room_for_all(&start, &whole) == (end, [said, more].concat()), "the bytes behind a restart");
+    Ok(())
+}
+
+/// No call but S and power-on changes the edition or takes a record out of its
+/// range; and one that refuses a record leaves it.
+pub fn stays_in_range(seed: u64, sister: bool) -> Held {
+    for (call, before, _) in generate::calls(3 * seed + u64::from(sister), 150, "ZPSFKCHR") {
+        let mut after = before.clone();
+        script::perform(&mut after, &call);
+        if "ZPS".contains(script::letter(&call)) {
+            continue;
+        }
+        hold!(in_range(&before) || before == after, "{call:?} changes what it refuses");
+        hold!(in_range(&before) == in_range(&after), "{call:?} leaves the range");
+        hold!(before.edition.sister == after.edition.sister, "{call:?} changes the edition");
+    }
+    Ok(())
+}
+
+/// The sister's key log once more, by the set of keys that are down.
+pub fn her_log_by_sets(seed: u64) -> Held {
+    let mut rng = Rng::new(seed ^ 0x107);
+    let mut record = random_record(seed, true);
+    (record.edition.keys, record.edition.ptt, record.hook) = (NO_KEYS, false, true);
+    (record.time1, record.time2) = rng.pick(&[(0, 0), (4, 0), (4, 4), (12, 12)]);
+    let mut down = std::collections::BTreeSet::new();
+    let (mut wrong, mut long, mut since, mut now) = (false, false, 0_u16, rng.next() as u16);
+    let few: Vec<u8> = (0..3).map(|_| rng.below(21) as u8).chain([21, 22]).collect();
+    for _ in 0..200 {
+        now = now.wrapping_add(rng.pick(&[0, 1, 39, 40, 41, 119, 120, 121]));
+        let key = rng.pick(&few);
+        let after = u32::from(now.wrapping_sub(since));
+        let due = |time: u8| time > 0 && after >= 10 * u32::from(time);
+        let byte = rng.pick(&[key, 128 + key, 255, 255]);
+        let text = match byte {
+            255 if down.len() == 1 && !wrong && due(if long { record.time2 } else { record.time1 }) => {
+                let event = if long { 'r' } else { 'l' };
+                (long, since) = (true, now);
+                down.iter().map(|key| (char::from(keys::SIGNS[usize::from(*key)]), event)).next()
+            }
+            255 => None,
+            0..=20 => {
+                let (first, new) = (down.is_empty(), down.insert(byte));
+                let second = new && !first && !wrong;
+                if first {
+                    (long, since) = (false, now);
+                }
+                wrong |= second;
+                let sign = char::from(keys::SIGNS[usize::from(byte)]);
+                first.then_some((sign, 's')).or(second.then_some(('F', 'x')))
+            }
+            128..=148 => {
+                let was = down.remove(&(byte - 128));
+                let told = was && !wrong;
+                wrong &= !down.is_empty();
+                told.then_some((char::from(keys::SIGNS[usize::from(byte - 128)]), 'e'))
+            }
+            _ => {
+                let (sign, now) = (if byte % 128 == 21 { 'H' } else { 'P' }, byte < 128);
+                let was = if sign == 'H' { !record.hook } else { record.edition.ptt };
+                (was != now).then_some((sign, if now { 's' } else { 'e' }))
+            }
+        };
+        let wanted = text.map_or(String::new(), |(sign, event)| format!("\x1BK{sign}{event}\r\n"));
+        let mut room = [7; 6];
+        let (number, used, written) = keys::call(&mut record, &[now], &[byte], &mut room);
+        hold!((number, used) == (0, 1) && room[..written] == *wanted.as_bytes(), "{byte} at {now}: {wanted:?}");
+    }
+    Ok(())
+}
+
 /// The clearing of a line, in every mode, row and column.
-pub fn lines_cleared(seed: u64) -> Held {
+pub fn lines_cleared(seed: u64, sister: bool) -> Held {
     let mut rng = Rng::new(seed ^ 0xC1E);
-    let mut start = random_record(seed);
+    let mut start = random_record(seed, sister);
     start.frame = NO_FRAME;
     start.overlay = rng.pick(&OVERLAYS);
     for code in start.text.iter_mut().chain(&mut start.line) {
@@ -277,7 +442,8 @@ pub fn lines_cleared(seed: u64) -> Held {
         for (row, column) in (0..rows).flat_map(|row| (0..=end).map(move |column| (row, column))) {
             start.mode = mode;
             (start.row, start.column) = (row, column);
-            let (record, said) = with_room_for_all(&start, b"\x1B[K\r");
+            let frame: &[u8] = if sister { b"\x1B&K\r" } else { b"\x1B[K\r" };
+            let (record, said) = with_room_for_all(&start, frame);
             let mut wanted = start.clone();
             for place in column..end {
                 match mode {
@@ -338,7 +504,7 @@ fn part_of(bytes: &[u8], place: usize, found: &Found) -> Option<Part> {
 /// From every place the parts follow one another to the end of the stream.
 /// They are those of the parting of the bytes from there on.
 pub fn parts_by_place(seed: u64) -> Held {
-    let mut rng = Rng::new(seed ^ 0xD11);
+    let mut rng = Dice::new(seed ^ 0xD11, seed % 3 == 0);
     let bytes = parted(&mut rng);
     let past = bytes.len() + 2;
     let places: Vec<usize> = match past {
@@ -365,9 +531,9 @@ pub fn parts_by_place(seed: u64) -> Held {
 
 /// Taking the parts by their places, each frame by its verdict, gives what the
 /// stream call gives.
-pub fn parts_make_the_call(seed: u64) -> Held {
-    let mut rng = Rng::new(seed ^ 0xD12);
-    let start = random_record(seed);
+pub fn parts_make_the_call(seed: u64, sister: bool) -> Held {
+    let mut rng = Dice::new(seed ^ 0xD12, sister);
+    let start = random_record(seed, sister);
     let offered = match rng.one_in(3) {
         true => parted(&mut rng),
         false => stream_of(&mut rng, 8),
@@ -382,15 +548,15 @@ pub fn parts_make_the_call(seed: u64) -> Held {
         match found.kind {
             Kind::None | Kind::Skipped => (),
             Kind::Text => commands::text(&mut record, bytes[place]),
-            Kind::Abandoned => said.push(QUESTION),
+            Kind::Abandoned => said.extend(mark(sister)),
             Kind::Tail => drop(stream::take(&mut record, &Part::Tail(body.to_vec()))),
-            Kind::Closed => match (verdict(body, rows_to_name(record.mode)), spelt(body)) {
+            Kind::Closed => match (judge(&record, body), spelt(sister, body)) {
                 (Verdict::PassedOver(_), Some(_)) => (),
                 (Verdict::Obeyed, Some(good)) => {
                     said.extend(commands::answer(&record, &good));
                     commands::take(&mut record, &good);
                 }
-                _ => said.push(QUESTION),
+                _ => said.extend(mark(sister)),
             },
         }
         place = found.end;
@@ -402,8 +568,9 @@ pub fn parts_make_the_call(seed: u64) -> Held {
 /// Two records of one text mode that are unlike in every field which a frame
 /// can change: an obeyed frame that is no question changes one of them at
 /// least.
-fn unlike(mode: u8) -> [Record; 2] {
-    let plain = Record { mode, ..power_on() };
+fn unlike(mode: u8, sister: bool) -> [Record; 2] {
+    let plain = Record { mode, ..if sister { sister_power_on() } else { power_on() } };
+    let hers = Edition { brightness: 1, speaker: 1, pwm: false, ptt: true, ..plain.edition };
     let other = Record {
         display: false,
         overlay: 11,
@@ -424,35 +591,50 @@ fn unlike(mode: u8) -> [Record; 2] {
         contrast: 1,
         hook: false,
         marks: [true, false, false, false, false],
+        edition: if sister { hers } else { FIRST },
         ..plain.clone()
     };
     [plain, other]
 }
 
-/// The verdict says what the stream call does to a whole frame.
-pub fn verdict_comes_true(seed: u64) -> Held {
-    let mut rng = Rng::new(seed ^ 0xD13);
+/// The verdict says what the stream call does to a whole frame. The verdicts of
+/// the first edition rest on the text mode alone.
+pub fn verdict_comes_true(seed: u64, sister: bool) -> Held {
+    let mut rng = Dice::new(seed ^ 0xD13, sister);
     for body in (0..40).map(|_| judged(&mut rng)) {
         if body.contains(&ESC) || body.contains(&CR) {
             // No whole frame has such bytes.
-            hold!(verdict(&body, 5) == Verdict::Bad, "{body:?} is good");
+            let bad = MODES.iter().all(|&mode| judge(&unlike(mode, sister)[0], &body) == Verdict::Bad);
+            hold!(bad && verdict(&body, 5) == Verdict::Bad, "{body:?} is good");
             continue;
         }
         let bytes = [&[ESC], &body[..], &[CR]].concat();
+        let questions: &[&str] = match sister {
+            false => &["IA", "IH", "&V"],
+            true => &["&H?", "&V?", "KH?", "KP?", "IA?", "IDM?", "IE?", "IN?", "IT?", "IV?"],
+        };
+        let question = questions.iter().any(|form| form.as_bytes() == body);
         for mode in MODES {
-            let records = unlike(mode);
-            let [one, other] = records.clone().map(|r| with_room_for_all(&r, &bytes));
-            let same = [one.0, other.0] == records;
-            let marks = [&one.1[..], &other.1].map(|said| said == [QUESTION]);
-            let silent = one.1.is_empty() && other.1.is_empty();
-            let question = [&b"IA"[..], b"IH", b"&V"].contains(&&body[..]);
-            let true_now = match verdict(&body, script::rows_of_verdict(mode)) {
-                Verdict::Bad => same && marks == [true; 2],
-                Verdict::PassedOver(_) => same && silent,
-                Verdict::Obeyed if question => same && one.1.len() > 1 && other.1.len() > 1,
-                Verdict::Obeyed => !same && silent,
-            };
-            hold!(true_now, "{body:?} in mode {mode}");
+            let records = unlike(mode, sister);
+            let told = records.clone().map(|record| judge(&record, &body));
+            let ends = records.clone().map(|record| with_room_for_all(&record, &bytes));
+            let same = [0, 1].map(|at| ends[at].0 == records[at]);
+            for at in [0, 1] {
+                let said = &ends[at].1;
+                let true_now = match told[at] {
+                    Verdict::Bad | Verdict::Refused => same[at] && said == mark(sister),
+                    Verdict::PassedOver(_) => same[at] && said.is_empty(),
+                    Verdict::Obeyed if question => same[at] && said.len() > 3,
+                    Verdict::Obeyed => said.is_empty(),
+                };
+                hold!(true_now, "{body:?} in mode {mode}: {:?}", told[at]);
+                let first = sister || told[at] == verdict(&body, script::rows_of_verdict(mode));
+                hold!(first && (sister || told[at] != Verdict::Refused), "{body:?}: two verdicts");
+            }
+            hold!(
+                question || told != [Verdict::Obeyed; 2] || same != [true; 2],
+                "{body:?} in mode {mode} does nothing"
+            );
         }
     }
     Ok(())
@@ -477,6 +659,83 @@ fn number_fits(letters: &str, n: u16, rows: u16) -> bool {
     }
 }
 
+/// The same of the sister's frames.
+fn her_number_fits(letters: &str, n: u16, rows: u16) -> bool {
+    match letters {
+        "&C" | "IS" | "IR" | "IM" => n < 2,
+        "IDM" => n < 13,
+        "IA" => n > 0 && n < 21,
+        "IB" => n < 256,
+        "IE" => n < 251,
+        "IF" => n < 7,
+        "IJ" | "IL" => n < 11,
+        "IN" => n < 101,
+        "IP" => n < 20,
+        "IU" => n < 3,
+        "IV" => n < 8,
+        "IW" => n < 4,
+        "IZ" => n < rows + 1,
+        _ => false,
+    }
+}
+
+/// The verdicts of the sister's frames with one number, and with two. With
+/// both times 0 the keys send no more than their first and last message.
+pub fn her_verdicts_of_numbers() -> Held {
+    let many: Vec<u16> = (0..60).chain([99, 250, 251, 255, 256, 999]).collect();
+    for (mode, rows) in [(0, 4), (1, 4), (5, 5), (6, 5), (10, 0)] {
+        let record = Record { mode, ..sister_power_on() };
+        let check = |body: String, wrong: Option<u16>| {
+            let wanted = wrong.map_or(Verdict::Obeyed, Verdict::PassedOver);
+            match judge(&record, body.as_bytes()) {
+                told if told == wanted => Ok(()),
+                told => Err(format!("{body} in mode {mode}: {told:?}")),
+            }
+        };
+        for command in number_commands(true).into_iter().filter(|command| command.ranges().len() == 1) {
+            let letters = String::from_utf8(command.spell::<u16>(&[], &[])).unwrap_or_default();
+            for n in 0..1000 {
+                check(format!("{letters}{n}"), (!her_number_fits(&letters, n, rows)).then_some(n))?;
+            }
+        }
+        for (a, b) in many.iter().flat_map(|&a| many.iter().map(move |&b| (a, b))) {
+            let column = (b > 15).then_some(b);
+            check(format!("&H{a};{b}"), if a < rows { column } else { Some(a) })?;
+            let time2 = (b != 0 && !(4..=50).contains(&b)).then_some(b);
+            let time1 = (4..=50).contains(&a) || (a == 0 && b == 0);
+            check(format!("IT{a};{b}"), if time1 { time2 } else { Some(a) })?;
+        }
+    }
+    Ok(())
+}
+
+/// The sister's commands with all numbers 0 to 300 have one reading each, their
+/// own; and no frame of hers that the first edition does not know is good there,
+/// nor the other way round, unless it is one of those that both have.
+pub fn her_commands_read_back() -> Held {
+    const BOTH: &str = "IS IU IF IR IP IW IL IJ IM IB IE IA IZ";
+    for (sister, command) in [false, true].into_iter().flat_map(|s| table(s).iter().map(move |c| (s, c))) {
+        let count = command.ranges().len();
+        let most = |place: usize| if count > place { 300 } else { 0 };
+        let rest: &[u8] = if command.name == "Picture" { b"00" } else { b"" };
+        for (a, b) in (0..=most(0)).flat_map(|a| (0..=most(1)).map(move |b| (a, b))) {
+            let (a, b) = (if command.has_number() { a } else { a % 10 }, b);
+            let body = command.spell(&[a, b][..count], rest);
+            let own = readings(sister, &body);
+            let one = own.len() == 1 && own[0].command == command && own[0].numbers == [a, b][..count];
+            hold!(one, "{body:?} reads back as {own:?}");
+            let text = String::from_utf8_lossy(&body).into_owned();
+            let letters = text.trim_end_matches(|sign: char| sign.is_ascii_digit());
+            let shared = (BOTH.split(' ').any(|both| both == letters) && text != letters)
+                || ["IK", "Gr"].contains(&&text[..2])
+                || (letters.starts_with("IT") && text.contains(';'))
+                || ["&D", "IEE", "IEA", "IES", "IER", "IEe"].contains(&&text[..]);
+            hold!(readings(!sister, &body).len() == usize::from(shared), "{text} in the other edition");
+        }
+    }
+    Ok(())
+}
+
 /// The verdicts of frames with one number, and with two: the number that is
 /// told is the first out of range.
 pub fn verdicts_of_numbers() -> Held {
@@ -487,7 +746,7 @@ pub fn verdicts_of_numbers() -> Held {
             told => Err(format!("{body} in mode {mode}: {told:?}")),
         }
     };
-    let one = number_commands().into_iter().filter(|command| command.ranges().len() == 1);
+    let one = number_commands(false).into_iter().filter(|command| command.ranges().len() == 1);
     let letters: Vec<Vec<u8>> = one.map(|command| command.spell::<u16>(&[], &[])).collect();
     let many: Vec<u16> = (0..60).chain([99, 255, 256, 999]).collect();
     for (mode, rows) in [(0, 4), (1, 4), (5, 5), (6, 5), (10, 0), (2, 5), (255, 5)] {
@@ -514,17 +773,18 @@ pub fn verdicts_of_numbers() -> Held {
 
 /// The listings of a stream tell of the same frames, and of as many question
 /// marks as the stream call gives.
-pub fn listings(seed: u64) -> Held {
-    let mut rng = Rng::new(seed ^ 0xD14);
+pub fn listings(seed: u64, sister: bool) -> Held {
+    let mut rng = Dice::new(seed ^ 0xD14, sister);
     let bytes = stream_of(&mut rng, 20);
-    let (parts, verdicts) = (list_parts(&bytes), list_verdicts(&bytes));
+    let start = if sister { sister_power_on() } else { power_on() };
+    let (parts, verdicts) = (list_parts(&bytes), list_verdicts(&start, &bytes));
     let place = |line: &str| line.split(' ').next().map(str::to_string);
     let closed = parts.lines().filter(|line| line.contains(" closed "));
     let same = closed.map(place).eq(verdicts.lines().map(place));
-    let bad = verdicts.lines().filter(|line| line.ends_with(" bad")).count();
+    let bad = verdicts.lines().filter(|line| line.ends_with(" bad") || line.ends_with(" refused")).count();
     let abandoned = parts.lines().filter(|line| line.contains(" abandoned "));
-    let answers = stream::answers(&power_on(), &bytes);
-    let marks = answers.iter().filter(|(_, said)| said[..] == [QUESTION]);
+    let answers = stream::answers(&start, &bytes);
+    let marks = answers.iter().filter(|(_, said)| said[..] == *mark(sister));
     hold!(same && bad + abandoned.count() == marks.count(), "the listings differ");
     Ok(())
 }
@@ -578,7 +838,7 @@ fn choice_in_one_pass(bytes: &[u8]) -> Option<Broken> {
 /// The rules set out over the parts say what one pass says; and a stream that
 /// keeps them gets no question mark and leaves no frame open.
 pub fn choices_in_one_pass(seed: u64) -> Held {
-    let mut rng = Rng::new(seed ^ 0xE11);
+    let mut rng = Dice::new(seed ^ 0xE11, false);
     for bytes in (0..20).map(|_| choices(&mut rng)) {
         let told = choice::check(&bytes);
         let once = choice_in_one_pass(&bytes);
@@ -596,7 +856,7 @@ pub fn choices_in_one_pass(seed: u64) -> Held {
 /// A good frame that has no part in the rules, put between two parts, moves
 /// the broken place and changes nothing else.
 pub fn choices_with_others(seed: u64) -> Held {
-    let mut rng = Rng::new(seed ^ 0xE12);
+    let mut rng = Dice::new(seed ^ 0xE12, false);
     for _ in 0..10 {
         let bytes = choices(&mut rng);
         let told = choice::check(&bytes);
@@ -655,12 +915,12 @@ pub fn short_choices() -> Held {
 }
 
 /// No frame can be read in two ways.
-pub fn one_reading(seed: u64) -> Held {
-    let mut rng = Rng::new(seed ^ 0x0E1);
+pub fn one_reading(seed: u64, sister: bool) -> Held {
+    let mut rng = Dice::new(seed ^ 0x0E1, sister);
     let bytes = stream_of(&mut rng, 8);
     for (part, _) in parting(&bytes) {
         if let Part::Closed(body) = part {
-            hold!(readings(&body).len() <= 1, "two readings of {body:?}");
+            hold!(readings(sister, &body).len() <= 1, "two readings of {body:?}");
         }
     }
     Ok(())
@@ -672,7 +932,7 @@ fn reads_back(frame: &[u8], command: &str, numbers: &[u16], codes: &[u8]) -> Hel
     let [Part::Closed(body), Part::Skipped(LF)] = &parts[..] else {
         return Err(format!("{command:?}: written {frame:?}"));
     };
-    let all = readings(body);
+    let all = readings(false, body);
     let [good] = &all[..] else {
         return Err(format!("{command:?}: {} readings", all.len()));
     };
@@ -726,20 +986,21 @@ pub fn rows_read_back(seed: u64) -> Held {
 }
 
 /// Cutting a key log elsewhere changes nothing.
-pub fn log_cutting(seed: u64) -> Held {
+pub fn log_cutting(seed: u64, sister: bool) -> Held {
     let mut rng = Rng::new(seed ^ 0x106);
-    let start = random_record(seed);
+    let start = random_record(seed, sister);
+    let long = if sister { 6 } else { 1 };
     let entries = rng.between(1, 60);
     let mut now = rng.next() as u16;
     let (mut ticks, mut edges) = (vec![], vec![]);
     for _ in 0..entries {
         now = now.wrapping_add(rng.pick(&[0, 1, 39, 40, 119, 120, 121, 500, 40_000]));
         ticks.push(now);
-        let key = rng.below(3) as u8;
+        let key = if sister { rng.pick(&[0, 0, 1, 20, 21, 22]) } else { rng.below(3) as u8 };
         edges.push(rng.pick(&[key, 128 + key, 255, 255]));
     }
     let mut whole = start.clone();
-    let mut all = vec![0; entries];
+    let mut all = vec![0; long * entries];
     let (_, used, written) = keys::call(&mut whole, &ticks, &edges, &mut all);
     hold!(used == entries, "log used {used} of {entries}");
     let mut cut = start;
@@ -747,7 +1008,7 @@ pub fn log_cutting(seed: u64) -> Held {
     let mut from = 0;
     while from < entries {
         let to = (from + rng.below(9)).min(entries);
-        let mut room = vec![0; rng.below(3)];
+        let mut room = vec![0; rng.below(3 * long)];
         let (_, used, written) = keys::call(&mut cut, &ticks[from..to], &edges[from..to], &mut room);
         sent.extend(&room[..written]);
         from += used;
@@ -758,8 +1019,8 @@ pub fn log_cutting(seed: u64) -> Held {
 
 /// Two different good frames without picture data never mean the same
 /// command; and what a writer writes for it is that very frame.
-pub fn one_spelling(seed: u64) -> Held {
-    let mut rng = Rng::new(seed ^ 0x0E5);
+pub fn one_spelling(seed: u64, sister: bool) -> Held {
+    let mut rng = Dice::new(seed ^ 0x0E5, sister);
     let mut bodies = close_bodies(&mut rng, 300);
     bodies.extend(parting(&stream_of(&mut rng, 40)).into_iter().filter_map(|(part, _)| match part {
         Part::Closed(body) if body.len() <= FRAME => Some(body),
@@ -768,14 +1029,14 @@ pub fn one_spelling(seed: u64) -> Held {
     let mut spelling: BTreeMap<String, Vec<u8>> = BTreeMap::new();
     let (mut again, mut refused) = (0, 0);
     for body in bodies {
-        let Some(good) = spelt(&body) else {
+        let Some(good) = spelt(sister, &body) else {
             refused += 1;
             continue;
         };
         if good.is("Picture") {
             continue;
         }
-        let written = written(&good);
+        let written = if sister { vec![] } else { written(&good) };
         hold!(
             written.is_empty() || written == [&[ESC], &body[..], &[CR, LF]].concat(),
             "{body:?} is written {written:?}"
@@ -809,8 +1070,8 @@ fn written(good: &Spelt) -> Vec<u8> {
 /// Time2 at most, gives the same answers and records that differ in Time2 at
 /// most. An obeyed IT frame makes them equal.
 pub fn time2_alone(seed: u64) -> Held {
-    let mut rng = Rng::new(seed ^ 0x712);
-    let start = if rng.one_in(3) { power_on() } else { random_record(seed) };
+    let mut rng = Dice::new(seed ^ 0x712, false);
+    let start = if rng.one_in(3) { power_on() } else { random_record(seed, false) };
     let mut other = start.clone();
     other.time2 = rng.pick(&[0, 4, 12, 50]);
     if start == power_on() && rng.one_in(2) {
@@ -818,7 +1079,7 @@ pub fn time2_alone(seed: u64) -> Held {
     }
     let times = |part: &Part| match part {
         Part::Closed(body) if body.len() <= FRAME => {
-            spelt(body).is_some_and(|good| good.is("Times") && commands::obeyed(&start, &good))
+            spelt(false, body).is_some_and(|good| good.is("Times") && commands::obeyed(&start, &good))
         }
         _ => false,
     };
@@ -851,8 +1112,8 @@ pub fn time2_alone(seed: u64) -> Held {
 
 /// The phase is seen in the SMS panel of the flashing letter alone: there the
 /// pause shows what U 0 shows, and lit what U 1 shows.
-pub fn phases(seed: u64) -> Held {
-    let record = random_record(seed);
+pub fn phases(seed: u64, sister: bool) -> Held {
+    let record = random_record(seed, sister);
     let mut letter = record.clone();
     letter.icons[ICON_U] = 255;
     for u in [0, 1] {
@@ -874,7 +1135,7 @@ pub fn phases(seed: u64) -> Held {
 
 /// A record that shows the large line in half of all cases.
 fn record_to_see(rng: &mut Rng, seed: u64) -> Record {
-    let mut record = random_record(seed);
+    let mut record = random_record(seed, seed % 3 == 0);
     record.display = !rng.one_in(8);
     record.overlay = rng.pick(&OVERLAYS);
     if rng.one_in(2) {
@@ -962,14 +1223,18 @@ pub fn cursor_unseen(seed: u64) -> Held {
 
 /// The large line as the note has it: eight big characters, and with each
 /// one more the first of them is shifted to the small ones, until 24 stand.
-pub fn shifting(seed: u64) -> Held {
+pub fn shifting(seed: u64, sister: bool) -> Held {
     let mut rng = Rng::new(seed ^ 0x5F7);
-    let mut record = random_record(seed);
+    let mut record = random_record(seed, sister);
+    let frames = |words: &str| -> Vec<u8> {
+        let frame = |word: &str| [&[ESC], &respelt(sister, word)[..], &[CR]].concat();
+        words.split(' ').flat_map(frame).collect()
+    };
     record.frame = NO_FRAME;
     let feed = |record: &mut Record, bytes: &[u8]| {
         stream::call(record, bytes, &mut [0; 4]);
     };
-    feed(&mut record, b"\x1B&#\r\x1BIDE\r\x1BID10\r");
+    feed(&mut record, &frames("&# IDE ID10"));
     let seen_now = |record: &Record| {
         [1, 2, 3].map(|row| match seen::row(record, row, Phase::Lit) {
             (0, Owner::Small { codes }) => codes.to_vec(),
@@ -1000,7 +1265,7 @@ pub fn shifting(seed: u64) -> Held {
     // Other modes keep the line; what is seen of it again ends with its last
     // code that is no blank.
     let line = record.line;
-    feed(&mut record, b"\x1BID0\r\x1BID17\rtext\x1BID10\r");
+    feed(&mut record, &[frames("ID0 ID17"), b"text".to_vec(), frames("ID10")].concat());
     let end = all.iter().rposition(|&code| code != 0x20).map_or(0, |last| last + 1);
     let mut again = record.clone();
     again.line.fill(0x20);
@@ -1010,38 +1275,49 @@ pub fn shifting(seed: u64) -> Held {
 }
 
 type Check = fn(u64) -> Held;
+type OfBoth = fn(u64, bool) -> Held;
 type Once = fn() -> Held;
 
 /// All checks that take no seed.
-pub const ONCE: [(&str, Once); 3] = [
+pub const ONCE: [(&str, Once); 5] = [
     ("short choices are judged in one pass", short_choices),
     ("commands read back", commands_read_back),
     ("a verdict tells the first number out of range", verdicts_of_numbers),
+    ("the sister's commands read back", her_commands_read_back),
+    ("the sister's verdicts tell the first number out of range", her_verdicts_of_numbers),
 ];
 
 /// All checks that take a seed.
-pub const CHECKS: [(&str, Check); 23] = [
+pub const CHECKS: [(&str, Check); 13] = [
+    ("a column takes two bytes at most", picture_data_short),
+    ("contrast, hook and marks have their own frames", own_frames),
+    ("what the sister keeps has its own frames", her_own_frames),
+    ("a restart is read on from", restarts),
+    ("the sister's keys by sets", her_log_by_sets),
+    ("marks are seen in text rows alone", marks_seen),
+    ("from any place the parts go on to the end", parts_by_place),
+    ("a choice is judged in one pass", choices_in_one_pass),
+    ("other frames are no part of a choice", choices_with_others),
+    ("labels and pictures read back", rows_read_back),
+    ("Time2 changes no stream", time2_alone),
+    ("row and column questions agree", rows_and_columns),
+    ("the cursor is not seen", cursor_unseen),
+];
+
+/// All checks that take a seed and an edition.
+pub const BOTH: [(&str, OfBoth); 14] = [
     ("a cut at any place changes nothing", cut_anywhere),
     ("a call stops where an answer does not fit", stops),
     ("a call writes no more than the bound", bound_holds),
     ("the bound is reached", bound_reached),
-    ("a column takes two bytes at most", picture_data_short),
-    ("contrast, hook and marks have their own frames", own_frames),
+    ("no call leaves the range or the edition", stays_in_range),
     ("a line is cleared from the cursor on", lines_cleared),
-    ("marks are seen in text rows alone", marks_seen),
-    ("from any place the parts go on to the end", parts_by_place),
     ("the parts by their places make the call", parts_make_the_call),
     ("a verdict comes true", verdict_comes_true),
     ("the listings tell of the same frames", listings),
-    ("a choice is judged in one pass", choices_in_one_pass),
-    ("other frames are no part of a choice", choices_with_others),
     ("a frame has one reading", one_reading),
-    ("labels and pictures read back", rows_read_back),
     ("cutting a key log elsewhere changes nothing", log_cutting),
     ("a command has one spelling", one_spelling),
-    ("Time2 changes no stream", time2_alone),
     ("the phase changes the flashing letter alone", phases),
-    ("row and column questions agree", rows_and_columns),
-    ("the cursor is not seen", cursor_unseen),
     ("the large line shifts as the note says", shifting),
 ];

@@ -72,7 +72,7 @@ pub struct Keys {
 }
 
 /// Which handset it is, and what only the sister (AN1900) has: in the first
-/// edition all of it is unused.
+/// edition all of it is unused. pwm goes with the backlight's mode, on or auto.
 #[derive(Clone, Copy, PartialEq, Eq, Debug)]
 pub struct Edition {
     pub sister: bool,
@@ -174,6 +174,16 @@ pub fn sister_power_on() -> Record {
         edition: Edition { sister: true, brightness: 50, speaker: 3, pwm: true, ..FIRST },
         ..first
     }
+}
+
+/// The sister's record after a restart: that of power-on, with the six numbers
+/// that she keeps while the power is off (her EEPROM).
+pub fn restarted(before: &Record) -> Record {
+    let mut record = sister_power_on();
+    (record.time1, record.time2, record.contrast) = (before.time1, before.time2, before.contrast);
+    record.backlight.duration = before.backlight.duration;
+    (record.edition.brightness, record.edition.speaker) = (before.edition.brightness, before.edition.speaker);
+    record
 }
 
 /// The label that holds these codes (at most seven).

@@ -17,9 +17,10 @@ pub const LENT: usize = 300;
 
 /// The letters of the calls: how many bytes each has at least, and how many
 /// more at most. The key log has entries of three bytes.
-pub const LETTERS: [(char, usize, usize); 20] = [
+pub const LETTERS: [(char, usize, usize); 21] = [
     ('P', 0, 0),
     ('O', 0, 0),
+    ('Z', 0, 0),
     ('S', 5, 0),
     ('R', 0, 0),
     ('F', 2, BYTES),
@@ -44,6 +45,7 @@ pub const LETTERS: [(char, usize, usize); 20] = [
 pub enum Call {
     PowerOn,
     FormerPowerOn,
+    SisterPowerOn,
     Set {
         field: u16,
         place: u16,
@@ -182,6 +184,7 @@ fn known(letter: char, bytes: &[u8]) -> Option<Call> {
     Some(match letter {
         'P' => Call::PowerOn,
         'O' => Call::FormerPowerOn,
+        'Z' => Call::SisterPowerOn,
         'R' => Call::InRange,
         'C' => Call::Second,
         'B' => Call::Thin,
@@ -272,6 +275,7 @@ pub fn letter(call: &Call) -> char {
     match call {
         Call::PowerOn => 'P',
         Call::FormerPowerOn => 'O',
+        Call::SisterPowerOn => 'Z',
         Call::Set { .. } => 'S',
         Call::InRange => 'R',
         Call::Stream { .. } => 'F',
@@ -321,7 +325,7 @@ pub fn rows_of_verdict(mode: u8) -> u8 {
     }
 }
 
-/// The thin entry: judges the backlight's own ranges.
+/// The thin entry: judges the backlight's own ranges, whosever it is.
 pub fn thin(light: &mut Backlight) -> u8 {
     if !backlight_in_range(light) {
         return 1;
@@ -349,15 +353,19 @@ pub fn hook(record: &mut Record, on: bool) -> u8 {
     on_record(record, |record| record.hook = on)
 }
 
+fn powered(record: &mut Record, on: Record) -> Answer {
+    *record = on;
+    Answer::Done
+}
+
 /// Makes one call on the record.
 pub fn perform(record: &mut Record, call: &Call) -> Answer {
     let counts = |(number, used, written), buffer| Answer::Counts { number, used, written, buffer };
     let written = |(number, count), buffer| Answer::Written { number, count, buffer };
     match call {
-        Call::PowerOn | Call::FormerPowerOn => {
-            *record = if *call == Call::PowerOn { power_on() } else { former_power_on() };
-            Answer::Done
-        }
+        Call::PowerOn => powered(record, power_on()),
+        Call::FormerPowerOn => powered(record, former_power_on()),
+        Call::SisterPowerOn => powered(record, sister_power_on()),
         Call::Set { field, place, value } => match set(record, *field, usize::from(*place), *value) {
             true => Answer::Done,
             false => Answer::What,
@@ -524,6 +532,8 @@ pub fn print(out: &mut Vec<u8>, call: &Call, answer: &Answer, record: &Record) {
         Answer::Verdict(Verdict::Bad) => told(0, &[0]),
         Answer::Verdict(Verdict::PassedOver(number)) => told(1, &[usize::from(*number)]),
         Answer::Verdict(Verdict::Obeyed) => told(2, &[0]),
+        // No J call asks for the sister's frames.
+        Answer::Verdict(Verdict::Refused) => told(3, &[0]),
         // Rule 0 is yes.
         Answer::Choice(broken) => broken.map_or(told(0, &[0]), |b| told(b.rule, &[b.offset])),
         Answer::Number(number) | Answer::Thin(number, _) => vec![*number],

@@ -296,10 +296,11 @@ pub fn volume(record: &Record) -> (u8, u8, u8) {
     }
 }
 
-/// The listing of the program "list screen" for a stream. It counts answers,
-/// not their bytes.
-pub fn listing(stream: &[u8]) -> String {
-    let mut record = power_on();
+/// The listing of the program "list screen" for a stream, from a power-on
+/// record. It counts answers, not their bytes, and tells what is kept: modes and
+/// the flashing letter have the same numbers in both editions.
+pub fn listing(start: &Record, stream: &[u8]) -> String {
+    let mut record = start.clone();
     let replies = crate::stream::answers(&record, stream).len();
     let mut room = vec![0; LONGEST * stream.len()];
     crate::stream::call(&mut record, stream, &mut room);

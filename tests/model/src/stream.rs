@@ -1,7 +1,7 @@
 //! The stream call. The whole stream is parted first; then the parts are
 //! taken in order.
 
-use crate::commands;
+use crate::commands::{self, mark};
 use crate::fields::in_range;
 use crate::grammar::{spelt, Spelt};
 use crate::record::*;
@@ -61,9 +61,9 @@ pub fn standing(frame: &Frame) -> Vec<u8> {
 }
 
 /// What a closed frame spells. None: it is bad, overlong or outside the
-/// grammar.
-pub fn good(body: &[u8]) -> Option<Spelt> {
-    spelt(body).filter(|_| body.len() <= FRAME)
+/// grammar of its edition.
+pub fn good(sister: bool, body: &[u8]) -> Option<Spelt> {
+    spelt(sister, body).filter(|_| body.len() <= FRAME)
 }
 
 /// The unfinished tail as a frame of the record.
@@ -81,13 +81,14 @@ fn tail(body: &[u8]) -> Frame {
 
 /// Takes one part; gives its answer.
 pub fn take(record: &mut Record, part: &Part) -> Vec<u8> {
+    let sister = record.edition.sister;
     match part {
         Part::Text(code) => commands::text(record, *code),
         Part::Skipped(_) => (),
-        Part::Abandoned(_) => return vec![QUESTION],
+        Part::Abandoned(_) => return mark(sister).to_vec(),
         Part::Closed(body) => {
-            let Some(good) = good(body) else {
-                return vec![QUESTION];
+            let Some(good) = good(sister, body) else {
+                return mark(sister).to_vec();
             };
             let answer = commands::answer(record, &good);
             commands::take(record, &good);
@@ -135,6 +136,7 @@ pub fn used(record: &Record, bytes: &[u8], room: usize) -> usize {
 /// The room that a call on this record and these bytes can need, where it
 /// closes no question: the number and the bound. Each answer is that of a
 /// frame, and a frame is opened by an ESC that is offered, or was open before.
+/// None is longer than a mark.
 pub fn bound(record: &Record, bytes: &[u8]) -> (u8, usize) {
     if !in_range(record) {
         return (1, 0);
@@ -144,7 +146,7 @@ pub fn bound(record: &Record, bytes: &[u8]) -> (u8, usize) {
         0 => 0,
         _ => 1, // open or overlong
     };
-    (0, offered + before)
+    (0, (offered + before) * mark(record.edition.sister).len())
 }
 
 /// The parts of a call: the open frame and the used bytes.

@@ -1,7 +1,8 @@
 //! The writers: a command, a label, a picture row.
 //!
 //! Each gives the number and the count. A frame is the command's shape with
-//! its values put in, between ESC and CR LF.
+//! its values put in, between ESC and CR LF. They write frames of the first
+//! edition.
 
 use crate::grammar::{named, Command, MOST_ROWS};
 use crate::record::*;
@@ -33,7 +34,7 @@ pub fn label(side: u8, codes: &[u8], room: &mut [u8]) -> (u8, usize) {
     if codes.len() > LABEL || codes.iter().any(|&code| code < 0x20) {
         return (2, 0);
     }
-    let command = named(if side == 0 { "LeftLabel" } else { "RightLabel" });
+    let command = named(false, if side == 0 { "LeftLabel" } else { "RightLabel" });
     put(command, &[], codes, room)
 }
 
@@ -44,7 +45,7 @@ pub fn picture(row: u8, columns: &[u8], room: &mut [u8]) -> (u8, usize) {
     if wrong {
         return (2, 0);
     }
-    put(named("Picture"), &[row.into()], &data(columns), room)
+    put(named(false, "Picture"), &[row.into()], &data(columns), room)
 }
 
 /// The columns as data: each longest run of equal columns in 26s from the

@@ -9,10 +9,10 @@ use Rattle.explain.proofs.explain.Statement.{statement}
 use Rattle.explain.proofs.explain.Tie as tie
 
 abbrev Inv-loop : tie.InvT-loop
-Inv-loop input all text₀ picture₀ now₀ window₀ held₀ left₀ text picture now window held left = (held ≤ 252) × (length window ≡ 4096)
+Inv-loop input all sister text₀ picture₀ now₀ window₀ held₀ left₀ text picture now window held left = (held ≤ 252) × (length window ≡ 4096)
 
 abbrev μ-loop : tie.MeasureT-loop
-μ-loop input all text₀ picture₀ now₀ window₀ held₀ left₀ text picture now window held left = left
+μ-loop input all sister text₀ picture₀ now₀ window₀ held₀ left₀ text picture now window held left = left
 
 pub explain-spec : {M : Type 1} → statement M
 explain-spec = tie.close (tie.spec Inv-loop μ-loop

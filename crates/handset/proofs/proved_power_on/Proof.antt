@@ -1,11 +1,10 @@
 -- The power-on record in parts. Assumes nothing.
 use borrow.Author.Needs.{needs}
+use Rattle.handset.proofs.Apart.{apart-as}
 use Rattle.handset.proofs.proved_power_on.Statement.{statement}
 use Rattle.handset.proofs.proved_power_on.Tie as tie
 
 pub proved-power-on-spec : {M : Type 1} → statement M
 proved-power-on-spec = tie.close (tie.spec
     (λ c κs. search needs) (λ c κs. search needs)
-    (λ c. let e = c .before .before .before .before .power-on .ensures in
-    let put = c .put-apart .ensures in
-    (rw (put .0, e), (rw (put .1 .0, e), (rw (put .1 .1 .0, e), rw (put .1 .1 .1, e))))))
+    (λ c. apart-as (c .before .before .before .before .power-on .ensures) (c .put-apart .ensures)))

@@ -7,10 +7,10 @@ use Rattle.write_frame.proofs.find.Statement.{statement}
 use Rattle.write_frame.proofs.find.Tie as tie
 
 abbrev Inv-loop : tie.InvT-loop
-Inv-loop phrases line start found₀ behind₀ longest₀ phrase₀ at₀ i₀ i-end found behind longest phrase at i = (i ≤ length phrases) × (behind ≤ length phrases) × (longest ≤ length line)
+Inv-loop phrases line start sister found₀ behind₀ longest₀ phrase₀ at₀ i₀ i-end found behind longest phrase at i = (i ≤ length phrases) × (behind ≤ length phrases) × (longest ≤ length line)
 
 abbrev μ-loop : tie.MeasureT-loop
-μ-loop phrases line start found₀ behind₀ longest₀ phrase₀ at₀ i₀ i-end found behind longest phrase at i = length phrases - i
+μ-loop phrases line start sister found₀ behind₀ longest₀ phrase₀ at₀ i₀ i-end found behind longest phrase at i = length phrases - i
 
 pub find-spec : {M : Type 1} → statement M
 find-spec = tie.close (tie.spec Inv-loop μ-loop

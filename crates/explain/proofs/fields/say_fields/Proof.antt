@@ -5,10 +5,10 @@ use Rattle.explain.proofs.fields.say_fields.Statement.{statement}
 use Rattle.explain.proofs.fields.say_fields.Tie as tie
 
 abbrev Inv-loop : tie.InvT-loop
-Inv-loop was is only-changes said first last now₀ line₀ now line = line ≤ 25
+Inv-loop was is only-changes said first last now₀ line₀ now line = line ≤ 28
 
 abbrev μ-loop : tie.MeasureT-loop
-μ-loop was is only-changes said first last now₀ line₀ now line = 25 - line
+μ-loop was is only-changes said first last now₀ line₀ now line = 28 - line
 
 pub say-fields-spec : {M : Type 1} → statement M
 say-fields-spec = tie.close (tie.spec Inv-loop μ-loop

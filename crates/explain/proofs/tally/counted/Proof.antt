@@ -9,17 +9,19 @@ unfolding tallyAfter
 counted-spec = tie.close (tie.spec
     (λ c κs. search needs) (λ c κs. search needs) (λ c κs. search needs) (λ c κs. search needs) (λ c κs. search needs) (λ c κs. search needs)
     (λ c κs. search needs) (λ c κs. search needs) (λ c κs. search needs) (λ c κs. search needs) (λ c κs. search needs) (λ c κs. search needs)
-    (λ c. let sixth = c .before .before .before in
-    let first = sixth .before .before .before .before .before in
+    (λ c κs. search needs)
+    (λ c. let seventh = c .before .before .before in
+    let first = seventh .before .before .before .before .before .before in
     let places = first .before in
     rw (
       c .tail-place .ensures,
-      c .before .before .more-if7 .ensures,
-      sixth .more-if6 .ensures,
-      sixth .before .more-if5 .ensures,
-      sixth .before .before .more-if4 .ensures,
-      sixth .before .before .before .more-if3 .ensures,
-      sixth .before .before .before .before .more-if2 .ensures,
+      c .before .before .more-if8 .ensures,
+      seventh .more-if7 .ensures,
+      seventh .before .more-if6 .ensures,
+      seventh .before .before .more-if5 .ensures,
+      seventh .before .before .before .more-if4 .ensures,
+      seventh .before .before .before .before .more-if3 .ensures,
+      seventh .before .before .before .before .before .more-if2 .ensures,
       first .more-if .ensures,
       places .wrapping-add-u642 .ensures,
       places .before .wrapping-add-u64 .ensures,

@@ -1,0 +1,11 @@
+pub mod Order
+pub mod Ranges
+pub mod Grammar
+pub mod InRange
+pub mod Pick
+pub mod Table
+pub mod Sister
+pub mod Reading
+pub mod Agree
+pub mod Own
+pub mod Cases
