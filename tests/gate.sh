@@ -113,7 +113,7 @@ small() { # CONTRACT
     {
         grep '^use ' crates/demands/specs/Tie.antt | grep -v '^use Rattle·'
         printf 'use Rattle.asks.proofs.same as Same\nuse Rattle.asks.proofs.same.Reads as SameReads\n\n'
-        sed -n '/^-- a contract.s requires clause/,/^-- record::/{/^-- record::/!p;}' crates/demands/specs/Tie.antt
+        sed -n '/^-- a contract.s requires clause/,/^-- what a call on lent arrays/{/^-- what a call on lent/!p;}' crates/demands/specs/Tie.antt
         printf 'pub same-says : Says Same.ended SameReads.requires SameReads.ensures (λ κs a q e. q ≡ a .0)\n'
         printf 'same-says κs a q e w = (refl, refl)\n'
     } >"$work/small/crates/tie/specs/Tie.antt"
