@@ -2,6 +2,7 @@
 // a choice: YES, or NO with the earliest offset where a rule is broken and the rule's number, and a line that says the rule in words.
 // The stream is held in memory and judged at once. Of an input that fails, or is too long, nothing is printed: what came before is not
 // the stream.
+#![tactic(auto)]
 ghost use Rattle.std.specs.Prelude.{◌+◌, ◌≤◌, ◌≡◌, length};
 ghost use Rattle.io.specs.Counts.{IsPrefixLen};
 

@@ -1,5 +1,6 @@
 // Whether a collector's stream keeps the shop's four rules for screens that ask for a choice. The rules stand in specs/Rules.antt, over
 // the parting and without this code; specs/Choice.antt has what is computed, specs/Decides.antt that it is what the rules say.
+#![tactic(auto)]
 ghost use Rattle.std.specs.Prelude.{◌≡◌, drop};
 ghost use Rattle.record.specs.Range.{mode_in_range};
 ghost use Rattle.command.specs.Reading.{order_of};
@@ -22,7 +23,7 @@ const FIVE_ROWS: u16 = 5;
 
 // What stands at a place, to the rules: a text byte; a good IDn and its number; a label that is set, and whether it has codes; both
 // labels emptied; a frame that gets a question mark; a frame that is left open; the stream's end; anything else.
-#[derive(Drop)]
+#[derive(Clone, Copy)]
 pub enum Sign {
     Text,
     Screen(u16),
@@ -37,7 +38,7 @@ pub enum Sign {
 
 // The rules: the first part is an ID0 or ID5; no label is missing; no question mark is given; no frame is left open. None is none of
 // them.
-#[derive(Drop)]
+#[derive(Clone, Copy)]
 pub enum Rule {
     None,
     NoScreen,
@@ -47,14 +48,14 @@ pub enum Rule {
 }
 
 // The rule that is broken first, and the offset where; no rule, at 0, is yes.
-#[derive(Drop)]
+#[derive(Clone, Copy)]
 pub struct Choice {
     pub rule: Rule,
     pub offset: usize,
 }
 
 // What came since the last IDn: whether labels are asked for, and which of them stand.
-#[derive(Drop)]
+#[derive(Clone, Copy)]
 struct Since {
     asks: bool,
     left: bool,
@@ -110,7 +111,7 @@ fn frame_sign(frame: &[u8]) -> Sign
 }
 
 // What stands at a place, and where the next part begins.
-#[derive(Drop)]
+#[derive(Clone, Copy)]
 struct Read {
     sign: Sign,
     end: usize,

@@ -1,6 +1,7 @@
 // The commands, and which of them a frame spells. A frame is the bytes between ESC and CR.
 // The grammar is in specs/Grammar.antt, which knows nothing of this reader. The ranges of specs/InRange.antt are asked in the
 // crate `command_form`, and frames that draw are read in the crate `picture_frame`: each is judged by the definitions here.
+#![tactic(auto)]
 ghost use Rattle.std.specs.Prelude.{◌≡◌};
 ghost use Rattle.command.specs.Pick.{byte_at, with_number, display_of, light_of, contrast_of, after_i, cursor_sign, after_bracket, command_of};
 ghost use Rattle.frame_table.specs.Reader as reader;
@@ -13,7 +14,7 @@ use picture::Columns;
 use record::LONGEST_LABEL;
 
 // A command of letters, signs and numbers, with its numbers as they were spelt, 0 to 999, in range or not.
-#[derive(Drop)]
+#[derive(Clone, Copy)]
 pub enum Command {
     DisplayOff,
     DisplayOn,
@@ -51,14 +52,14 @@ pub enum Command {
 }
 
 // Which soft-key label.
-#[derive(Drop)]
+#[derive(Clone, Copy)]
 pub enum Side {
     Left,
     Right,
 }
 
 // What a frame that is no picture says. A label's codes are the frame's own from its fourth byte on.
-#[derive(Drop)]
+#[derive(Clone, Copy)]
 pub enum Reading {
     Bad,
     Plain(Command),
@@ -66,7 +67,7 @@ pub enum Reading {
 }
 
 // A picture frame's row and columns; a frame outside the grammar gives no columns, row 0 and zeros.
-#[derive(Drop)]
+#[derive(Clone, Copy)]
 pub struct PictureFrame {
     pub row: u8,
     pub columns: Columns,

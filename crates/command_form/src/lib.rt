@@ -1,5 +1,6 @@
 // A command's frame as the table of the good frames has it (command's specs/Grammar.antt): its signs, and its numbers, each beside its
 // range. `form_of` says it once; which number is out of range and what a writer writes follow from it.
+#![tactic(auto)]
 ghost use Rattle.std.specs.Prelude.{◌≡◌, ◌||◌, [], ◌∷◌, ◌+◌, ◌≤◌};
 ghost use Rattle.record.specs.Range.{mode_in_range, icon_u_in_range, time1_in_range, time2_in_range, contrast_in_range};
 ghost use Rattle.line.specs.Lines.{most_codes, empty_line, added};
@@ -16,7 +17,7 @@ use numeral::Numeral;
 use record::LARGE;
 
 // The range of a number that is alone in its frame, by its name in command's specs/Ranges.antt.
-#[derive(Drop)]
+#[derive(Clone, Copy)]
 enum RangeName {
     Mode,
     IconS,
@@ -34,7 +35,7 @@ enum RangeName {
 }
 
 // How a frame is made up: signs alone; I, a letter and a number in its range; the key times; a place on the display.
-#[derive(Drop)]
+#[derive(Clone, Copy)]
 enum Form {
     TwoSigns(u8, u8),
     ThreeSigns(u8, u8, u8),

@@ -1,6 +1,7 @@
 // Reads a stream from a file or from standard input and prints how much room its answers need at most, from the power-on record:
 // there no frame is open, so it is a byte for each ESC. Of an input that fails nothing is printed: what came before is not the
 // stream.
+#![tactic(auto)]
 use program::Input;
 
 // Nothing says that the input ends, so its pieces are counted down.

@@ -1,5 +1,6 @@
 // What an obeyed frame does to the record: document 01's third column. specs/Effect.antt has it line by line.
 // The text and the picture are changed in place; all that is small goes by value.
+#![tactic(auto)]
 ghost use Rattle.std.specs.Prelude.{◌≡◌, true, cond, List, [], ℕ, ◌+◌, ◌-◌, ◌≤◌, ◌<◌, length, set, take, drop, replicate};
 ghost use Rattle.std.proofs.lemmas.List.Edits.{sets};
 ghost use Rattle.lists.specs.Codes.{blank};
@@ -23,7 +24,7 @@ use record::{
 };
 
 // The settings after a frame, and what it is answered.
-#[derive(Drop)]
+#[derive(Clone, Copy)]
 pub struct Obeyed {
     pub settings: Settings,
     pub answer: Answer,

@@ -10,7 +10,7 @@ use record::{LONGEST_LABEL, Label, Small};
 // A field has a line of the table of words, in this order. Those that a frame sets together stand together, and the labels behind all
 // others. Behind the fields stand numbers of a frame that have a range of their own: some go by the text mode, and the last ones are
 // the sister's. Nothing stands where a command sets none.
-#[derive(Drop)]
+#[derive(Clone, Copy)]
 pub enum Field {
     Mode,
     Overlay,
@@ -105,7 +105,7 @@ fn line_of(field: Field) -> usize {
 }
 
 // The fields from a first to a last one: those that a frame sets.
-#[derive(Drop)]
+#[derive(Clone, Copy)]
 pub struct Fields {
     pub first: Field,
     pub last: Field,

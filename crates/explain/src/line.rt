@@ -36,7 +36,7 @@ const HEX_DIGITS: [u8; 16] = *b"0123456789ABCDEF";
 const HEX_MORE: u64 = 3;
 
 // A part of a table.
-#[derive(Drop)]
+#[derive(Clone, Copy)]
 pub struct Part {
     pub start: usize,
     pub end: usize,

@@ -13,6 +13,7 @@
 // The stream may have any length: what is held of it is a window, and of a part that has not ended by the window's end no more than
 // the window's first bytes are kept, which are enough to tell what it does. Only text and obeyed frames change anything, so no other
 // part is fed to the handset, and its record never has an open frame.
+#![tactic(auto)]
 mod commands;
 mod doings;
 mod fields;
@@ -50,7 +51,7 @@ const TEXT_RUN: u8 = 1;
 const SKIPPED_RUN: u8 = 2;
 
 // What came of the parts that a window has told, and how many bytes these have.
-#[derive(Drop)]
+#[derive(Clone, Copy)]
 struct Told {
     progress: Progress,
     bytes: usize,

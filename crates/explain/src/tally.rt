@@ -26,7 +26,7 @@ pub const OBEYED: usize = 6;
 pub const REFUSED: usize = 7;
 
 // Of 64 bits each, which no stream fills.
-#[derive(Drop)]
+#[derive(Clone, Copy)]
 pub struct Tally {
     // The place of the part that comes next.
     pub place: u64,

@@ -27,7 +27,7 @@ const PICTURE: usize = 672;
 const FRAME: usize = record::LONGEST_FRAME;
 
 // The record behind the parts that were told, but for its text and its picture, and what was counted of them.
-#[derive(Drop)]
+#[derive(Clone, Copy)]
 pub struct Progress {
     pub small: Small,
     pub tally: Tally,

@@ -1,5 +1,6 @@
 // One reader of frames of signs and numbers, over any table: a class for each byte, and a next state for each class and state. It knows
 // no command: the table says which frames are good, and their first bytes which command they spell.
+#![tactic(auto)]
 ghost use Rattle.std.specs.Prelude.{◌≡◌, ◌≤◌, ◌%◌};
 ghost use Rattle.numeral.specs.Numeral.{is_digit};
 ghost use Rattle.frame_table.specs.Numbers.{with_digit};
@@ -10,14 +11,14 @@ ghost use Rattle.frame_table.specs.Run.{found_in};
 pub type Classes = [u8; 256];
 
 // The last two numbers of a frame: the last, and the one before its last ';'.
-#[derive(Drop)]
+#[derive(Clone, Copy)]
 pub struct Numbers {
     pub before: u16,
     pub last: u16,
 }
 
 // Where a frame leads, and its numbers.
-#[derive(Drop)]
+#[derive(Clone, Copy)]
 pub struct Found {
     pub state: usize,
     pub numbers: Numbers,

@@ -1,6 +1,7 @@
 // The proved calls behind include/handset.h: door/handset.c takes what a program in C lends, makes one of these calls, and stores what
 // it hands back. Each hands on a library's call. A record crosses in parts: what is small by value, its three arrays lent. An enum
 // crosses as a number, by the tables of `handset_numbers`.
+#![tactic(auto)]
 ghost use Rattle.std.specs.Prelude.{◌≡◌, length};
 ghost use Rattle.record.specs.PowerOn.{power_on, former_power_on, sister_power_on};
 ghost use Rattle.record.specs.Range.{in_range};
@@ -42,7 +43,7 @@ const COMMAND_OUT_OF_RANGE: usize = 2;
 // How a stream call or a key log ended: the paper's number, the record without its arrays, how many bytes or entries were used, how many
 // answer bytes or key codes were written.
 #[repr(C)]
-#[derive(Drop)]
+#[derive(Clone, Copy)]
 pub struct ProvedFed {
     pub number: u8,
     pub small: Small,
@@ -52,7 +53,7 @@ pub struct ProvedFed {
 
 // How a second or the hook call ended.
 #[repr(C)]
-#[derive(Drop)]
+#[derive(Clone, Copy)]
 pub struct ProvedAfter {
     pub number: u8,
     pub small: Small,
@@ -60,7 +61,7 @@ pub struct ProvedAfter {
 
 // How a second in place ended.
 #[repr(C)]
-#[derive(Drop)]
+#[derive(Clone, Copy)]
 pub struct ProvedLight {
     pub number: u8,
     pub light: Backlight,
@@ -68,7 +69,7 @@ pub struct ProvedLight {
 
 // How a writer or the count of room ended. Both are as wide, so that compilers for all processors hand the pair back alike.
 #[repr(C)]
-#[derive(Drop)]
+#[derive(Clone, Copy)]
 pub struct ProvedCount {
     pub number: usize,
     pub count: usize,
@@ -76,7 +77,7 @@ pub struct ProvedCount {
 
 // verdict: 0 bad, 1 passed over, 2 obeyed; value: the first number that is out of range of one that is passed over, else 0.
 #[repr(C)]
-#[derive(Drop)]
+#[derive(Clone, Copy)]
 pub struct ProvedVerdict {
     pub verdict: u8,
     pub value: u16,
@@ -84,14 +85,14 @@ pub struct ProvedVerdict {
 
 // What becomes of a frame on a record; number_out is 0 unless it is passed over.
 #[repr(C)]
-#[derive(Drop)]
+#[derive(Clone, Copy)]
 pub struct HandsetVerdict {
     pub verdict: u8,
     pub number_out: u16,
 }
 
 #[repr(C)]
-#[derive(Drop)]
+#[derive(Clone, Copy)]
 pub struct ProvedJudged {
     pub number: u8,
     pub judged: HandsetVerdict,
@@ -99,7 +100,7 @@ pub struct ProvedJudged {
 
 // rule: 0 for yes, else the rule that is broken first, 1 to 4, and the offset where.
 #[repr(C)]
-#[derive(Drop)]
+#[derive(Clone, Copy)]
 pub struct ProvedChoice {
     pub rule: usize,
     pub offset: usize,
@@ -107,7 +108,7 @@ pub struct ProvedChoice {
 
 // The part of a stream that stands at a place, and where its end and its body lie.
 #[repr(C)]
-#[derive(Drop)]
+#[derive(Clone, Copy)]
 pub struct HandsetPart {
     pub kind: u8,
     pub end: usize,
@@ -117,14 +118,14 @@ pub struct HandsetPart {
 
 // A panel of the icon bar; level is 0 where there is none.
 #[repr(C)]
-#[derive(Drop)]
+#[derive(Clone, Copy)]
 pub struct HandsetPanel {
     pub panel: u8,
     pub level: u8,
 }
 
 #[repr(C)]
-#[derive(Drop)]
+#[derive(Clone, Copy)]
 pub struct ProvedPanel {
     pub number: u8,
     pub seen: HandsetPanel,
@@ -132,7 +133,7 @@ pub struct ProvedPanel {
 
 // The icon bar.
 #[repr(C)]
-#[derive(Drop)]
+#[derive(Clone, Copy)]
 pub struct HandsetBar {
     pub f: u8,
     pub p: u8,
@@ -144,7 +145,7 @@ pub struct HandsetBar {
 
 // What a row shows: owner and the row, or half of the large line, of the owner; all that it does not use is zero.
 #[repr(C)]
-#[derive(Drop)]
+#[derive(Clone, Copy)]
 pub struct HandsetRow {
     pub owner: u8,
     pub place: u8,
@@ -158,7 +159,7 @@ pub struct HandsetRow {
 }
 
 #[repr(C)]
-#[derive(Drop)]
+#[derive(Clone, Copy)]
 pub struct ProvedRow {
     pub number: u8,
     pub seen: HandsetRow,
@@ -166,7 +167,7 @@ pub struct ProvedRow {
 
 // What a place shows.
 #[repr(C)]
-#[derive(Drop)]
+#[derive(Clone, Copy)]
 pub struct HandsetColumn {
     pub owner: u8,
     pub place: u8,
@@ -177,7 +178,7 @@ pub struct HandsetColumn {
 }
 
 #[repr(C)]
-#[derive(Drop)]
+#[derive(Clone, Copy)]
 pub struct ProvedColumn {
     pub number: u8,
     pub seen: HandsetColumn,

@@ -1,5 +1,6 @@
 // Enums by number, as they cross to C: a function for each table of specs/Numbers.antt, and nothing else. The rules of the
 // choice screen have the numbers that `choice` gives them. include/handset.h has the same tables.
+#![tactic(auto)]
 ghost use Rattle.std.specs.Prelude.{◌≡◌};
 ghost use Rattle.choice.specs.Rules.{rule_number};
 ghost use Rattle.handset_numbers.specs.Numbers.{phase_of, side_of, command_of, sister_command_of, sms_number, volume_numbers, owner_numbers, shown_numbers, verdict_numbers, kind_number};
@@ -12,10 +13,10 @@ use sister_command::{LightChange, Question, SisterCommand, Step};
 use verdict::Verdict;
 
 // The number of a case, and the number that the case holds, 0 where it holds none.
-#[derive(Drop)]
+#[derive(Clone, Copy)]
 pub struct Numbered(pub u8, pub u8);
 
-#[derive(Drop)]
+#[derive(Clone, Copy)]
 pub struct NumberedVerdict(pub u8, pub u16);
 
 // 0 is lit, any other the pause of a flashing icon.

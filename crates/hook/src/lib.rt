@@ -1,4 +1,5 @@
 // The hook switch: a call when the handset is lifted or hung up.
+#![tactic(auto)]
 ghost use Rattle.std.specs.Prelude.{◌≡◌};
 ghost use Rattle.record.specs.Parts.{together};
 ghost use Rattle.hook.specs.Hook.{hooked, lent_of};
@@ -6,14 +7,14 @@ ghost use Rattle.hook.specs.Hook.{hooked, lent_of};
 use record::{FrameBytes, Number, Picture, Record, Small, Text};
 use record_ranges::in_range_lent;
 
-#[derive(Drop)]
+#[derive(Clone, Copy)]
 pub struct Hooked {
     pub number: Number,
     pub after: Record,
 }
 
 // As Hooked, where the arrays were lent.
-#[derive(Drop)]
+#[derive(Clone, Copy)]
 pub struct HookedLent {
     pub number: Number,
     pub small: Small,

@@ -1,6 +1,7 @@
 // The worst day, replayed. A screen says "Mine" over the left key; the frame that makes it "Older" comes down the cord in two
 // pieces, cut at every place in turn. For each cut it prints the label between the two calls and after them. The verdict is
 // computed from the labels that were shown.
+#![tactic(auto)]
 use record::{Label, Record};
 
 fn say(words: &[u8]) {
@@ -29,7 +30,7 @@ fn say_number(n: usize) {
     program::write_number(b"jetty", n as u64);
 }
 
-#[derive(Drop)]
+#[derive(Clone, Copy)]
 struct Shown {
     record: Record,
     marks: usize,
@@ -60,7 +61,7 @@ fn same_label(a: Label, b: Label) -> bool {
 }
 
 // What one cut showed: whether a label other than the old or the new one stood between, and whether the new one stood after.
-#[derive(Drop)]
+#[derive(Clone, Copy)]
 struct Cut {
     wrong_between: bool,
     right_after: bool,

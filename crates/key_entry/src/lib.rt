@@ -1,5 +1,6 @@
 // One entry of a key log: a press, a release or a poll at a tick reading, and the code it sends to the host.
 // The rules are document 01's, in specs/Rules.antt.
+#![tactic(auto)]
 ghost use Rattle.std.specs.Prelude.{◌≡◌};
 ghost use Rattle.lists.specs.Every.{every};
 ghost use Rattle.key_entry.specs.Codes.{column_of, code_of};
@@ -43,7 +44,7 @@ pub const RELEASES: u8 = 128;
 pub const POLL: u8 = 255;
 
 // Which of a key's codes: a column of the table.
-#[derive(Drop)]
+#[derive(Clone, Copy)]
 pub enum Stage {
     Short,
     Long,
@@ -51,7 +52,7 @@ pub enum Stage {
 }
 
 // What an entry leaves: the held key, the backlight, and the code that is sent or none.
-#[derive(Drop)]
+#[derive(Clone, Copy)]
 pub struct Keyed {
     pub held: Held,
     pub backlight: Backlight,

@@ -1,6 +1,7 @@
 // The key log: presses, releases and polls at tick readings, and the codes they send to the host; the sister of AN1900 sends messages.
 // What an entry does is in the crates `key_entry` and `sister_entry`; the call's promise is in specs/Log.antt.
 // It is done on a record in parts, whose arrays it only looks at; `take_log` is the same call on a record by value.
+#![tactic(auto)]
 ghost use Rattle.std.specs.Prelude.{◌≡◌, true, false, length};
 ghost use Rattle.record.specs.Parts.{together};
 ghost use Rattle.key_log.specs.Log.{outcome, handed_back, lent_of, buffer_after, refused_with, done_with, sister_done_with, Takes};
@@ -14,7 +15,7 @@ use record::{Backlight, FrameBytes, Held, Number, Picture, Record, Small, Text};
 use sister_entry::{Message, PTT, SisterKeyed};
 
 // How a key log ended: the number, the record, how many entries were used and how many codes written.
-#[derive(Drop)]
+#[derive(Clone, Copy)]
 pub struct Logged {
     pub number: Number,
     pub record: Record,
@@ -23,7 +24,7 @@ pub struct Logged {
 }
 
 // As Logged, where text, picture and the frame's bytes were lent.
-#[derive(Drop)]
+#[derive(Clone, Copy)]
 pub struct LoggedLent {
     pub number: Number,
     pub small: Small,

@@ -1,5 +1,6 @@
 // A small line of codes: a frame or an answer is built in it, codes behind codes, and then copied into a room, whole or not at all.
 // What finds no room leaves all as it was, so nothing is asked of a caller.
+#![tactic(auto)]
 ghost use Rattle.std.specs.Prelude.{◌≡◌, ◌+◌, ◌≤◌, length};
 ghost use Rattle.std.proofs.lemmas.List.Edits.{sets};
 ghost use Rattle.numeral.specs.Numeral.{decimal};
@@ -11,7 +12,7 @@ use numeral::digits_of;
 pub const MOST_CODES: usize = 200;
 
 // The codes that a line holds are the first `len` of its places.
-#[derive(Drop)]
+#[derive(Clone, Copy)]
 pub struct Line {
     pub len: usize,
     pub bytes: [u8; MOST_CODES],

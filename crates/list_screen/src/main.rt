@@ -4,6 +4,7 @@
 // either edition: after her IDM2 it is MODE 5, and the letter that her IU2 has flashing is 255.
 // REPLIES counts answers, not their bytes. Codes outside 0x20 to 0x7E are printed as '.'. A frame that is still open at the end is
 // not seen.
+#![tactic(auto)]
 use program::Input;
 use record::{Label, Record, Settings, Text};
 

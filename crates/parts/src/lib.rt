@@ -1,5 +1,6 @@
 // The part of a stream that stands at a place: what it is, where it ends, where a frame's body lies. What there is to tell is the
 // parting's, in specs/Parts.antt; that all the parts, told one after the other, are the parting is in specs/Laws.antt.
+#![tactic(auto)]
 ghost use Rattle.std.specs.Prelude.{◌≡◌, [], ◌+◌, ◌<◌, length, drop};
 ghost use Rattle.parting.specs.Cut.{inside, cut};
 ghost use Rattle.parts.specs.Parts.{first_part, part_at};
@@ -7,7 +8,7 @@ ghost use Rattle.parts.specs.Parts.{first_part, part_at};
 use lists::{BLANK, CARRIAGE_RETURN, ESCAPE};
 
 // What stands at a place: a part, or the unfinished tail, or none, at the stream's end and past it.
-#[derive(Drop)]
+#[derive(Clone, Copy)]
 pub enum Kind {
     None,
     Text,
@@ -20,7 +21,7 @@ pub enum Kind {
 // The next part begins at `end`. The bytes from `body` up to `body_end` are those behind the first, without the CR that closes a
 // frame: of a frame and of the tail they are the body, of a text or skipped byte there are none. Where no part is, all three are the
 // place that was asked for.
-#[derive(Drop)]
+#[derive(Clone, Copy)]
 pub struct PartAt {
     pub kind: Kind,
     pub end: usize,

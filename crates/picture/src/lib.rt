@@ -1,5 +1,6 @@
 // The data of a picture frame, read as columns. The crate encoding writes it, by the definitions here.
 // An item is two digits 0-9 A-F, one column, or a letter a to y before them, 2 to 26 equal columns; the top dot is the lowest bit.
+#![tactic(auto)]
 ghost use Rattle.std.specs.Prelude.{◌≡◌, ◌+◌, ◌*◌, ◌≤◌, ◌<◌, [], length, replicate};
 ghost use Rattle.std.proofs.lemmas.List.Edits.{sets};
 ghost use Rattle.lists.specs.Padded.{padded};
@@ -9,21 +10,21 @@ ghost use Rattle.picture.specs.Reading.{hex_of, times_of, pair_of, first_of, col
 pub const MOST_COLUMNS: usize = 96;
 
 // The columns that data draws, the places past `len` zero; `len` is 0 where it is no data.
-#[derive(Drop)]
+#[derive(Clone, Copy)]
 pub struct Columns {
     pub len: u8,
     pub bytes: [u8; 96],
 }
 
 // The data that columns are written with, the places past `len` zero.
-#[derive(Drop)]
+#[derive(Clone, Copy)]
 pub struct Data {
     pub len: u8,
     pub bytes: [u8; 192],
 }
 
 // The item that data begins with: so many equal columns, their value, and how many codes it takes.
-#[derive(Drop)]
+#[derive(Clone, Copy)]
 enum FirstItem {
     Bad,
     Run(usize, u8, usize),

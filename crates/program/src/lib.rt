@@ -4,6 +4,7 @@
 // A word that begins with - is an option, and the options of a program stand in a table, each with a line feed behind it; any
 // other word is a file's name. What a program does not take it refuses, with the first line of its usage, and does nothing else.
 // A usage has a first line that begins with "usage:" and at least one line more: ./run tells by it that a word was refused.
+#![tactic(auto)]
 ghost use Rattle.io.specs.Counts.{IsPrefixLen};
 
 use libc::{STDERR_FILENO, STDIN_FILENO, STDOUT_FILENO};
@@ -74,7 +75,7 @@ pub fn write_entry<'a>(name: &'a [u8], table: &'a [u8], n: u8) {
 
 // Words. They are counted from 1; 0, which is the program's own name, stands for none.
 
-#[derive(Drop)]
+#[derive(Clone, Copy)]
 enum Kind {
     Option,
     File,
@@ -233,7 +234,7 @@ pub fn accepts<'a>(name: &'a [u8], usage: &'a [u8], options: &'a [u8], reads: bo
 // Input.
 
 // A file that was opened by its name, or standard input, which has none.
-#[derive(Drop)]
+#[derive(Clone, Copy)]
 pub struct Input {
     pub descriptor: i32,
     pub name: [u8; 4096],
@@ -292,7 +293,7 @@ pub fn open_input(name: &[u8]) -> Input {
 }
 
 // How long a piece is that was read, 0 at the end of the input; and whether it could not be read.
-#[derive(Drop)]
+#[derive(Clone, Copy)]
 pub struct Piece {
     pub length: usize,
     pub failed: bool,

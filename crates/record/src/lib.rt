@@ -1,5 +1,6 @@
 // The record: all that the handset keeps between two calls. The range of each field is document 01's table, in specs/Range.antt: the
 // crate `record_ranges` asks whether a record keeps to it, and commands are judged by the same definitions.
+#![tactic(auto)]
 ghost use Rattle.std.specs.Prelude.{◌≡◌};
 ghost use Rattle.record.specs.Number.{paper_number};
 ghost use Rattle.record.specs.Range.{rows_of, row_end_of, row_start_of};
@@ -57,26 +58,26 @@ pub const SETS_OF_KEYS: u32 = 2097152;
 
 // A count of 100 ms: Time1 and Time2 of the keys.
 #[repr(C)]
-#[derive(Drop)]
+#[derive(Clone, Copy)]
 pub struct Tenths(pub u8);
 
 // A count of 10 ms: the buzzer.
 #[repr(C)]
-#[derive(Drop)]
+#[derive(Clone, Copy)]
 pub struct Hundredths(pub u8);
 
 // A count of 1 s: the backlight.
 #[repr(C)]
-#[derive(Drop)]
+#[derive(Clone, Copy)]
 pub struct Seconds(pub u8);
 
 // A reading of the clock that steps every 10 ms and runs over from 65,535 to 0: a place in time, and no count.
 #[repr(C)]
-#[derive(Drop)]
+#[derive(Clone, Copy)]
 pub struct Tick(pub u16);
 
 // How a call ended: document 01's number, by name. specs/Number.antt sets out which.
-#[derive(Drop)]
+#[derive(Clone, Copy)]
 pub enum Number {
     Done,
     FieldOutOfRange,
@@ -88,7 +89,7 @@ pub enum Number {
 
 // overlay 0 is none; the column past a row's last one stands at its end.
 #[repr(C)]
-#[derive(Drop)]
+#[derive(Clone, Copy)]
 pub struct Screen {
     pub display: bool,
     pub mode: u8,
@@ -98,14 +99,14 @@ pub struct Screen {
 }
 
 #[repr(C)]
-#[derive(Drop)]
+#[derive(Clone, Copy)]
 pub struct Label {
     pub len: u8,
     pub codes: [u8; 7],
 }
 
 #[repr(C)]
-#[derive(Drop)]
+#[derive(Clone, Copy)]
 pub struct Icons {
     pub s: u8,
     pub u: u8,
@@ -117,7 +118,7 @@ pub struct Icons {
 
 // which: none is 0, or one of the two above.
 #[repr(C)]
-#[derive(Drop)]
+#[derive(Clone, Copy)]
 pub struct Volume {
     pub which: u8,
     pub level: u8,
@@ -127,7 +128,7 @@ pub struct Volume {
 
 // Time1 until a held key is long, Time2 between its repeats.
 #[repr(C)]
-#[derive(Drop)]
+#[derive(Clone, Copy)]
 pub struct Times {
     pub time1: Tenths,
     pub time2: Tenths,
@@ -135,7 +136,7 @@ pub struct Times {
 
 // mode: off, on or auto.
 #[repr(C)]
-#[derive(Drop)]
+#[derive(Clone, Copy)]
 pub struct Backlight {
     pub mode: u8,
     pub duration: Seconds,
@@ -146,7 +147,7 @@ pub struct Backlight {
 // All that is small. The structs inside are the groups of fields that commands change together. hook is whether it is on-hook; inverse
 // has a mark for each text row.
 #[repr(C)]
-#[derive(Drop)]
+#[derive(Clone, Copy)]
 pub struct Settings {
     pub screen: Screen,
     pub shown: bool,
@@ -164,7 +165,7 @@ pub struct Settings {
 
 // down: whether a key is held; long: whether its stage is long.
 #[repr(C)]
-#[derive(Drop)]
+#[derive(Clone, Copy)]
 pub struct Held {
     pub down: bool,
     pub key: u8,
@@ -175,7 +176,7 @@ pub struct Held {
 // The sister's keys that are down. stage: none; short or long, one key and a tick; false, in which `down` has a bit for each of keys 0 to 20
 // that is down.
 #[repr(C)]
-#[derive(Drop)]
+#[derive(Clone, Copy)]
 pub struct Keys {
     pub stage: u8,
     pub key: u8,
@@ -186,7 +187,7 @@ pub struct Keys {
 // Which handset it is, and what only the sister of AN1900 has. In the first edition all of it is unused. It stands beside the settings
 // and not among them, since the stream call hands these on with each frame.
 #[repr(C)]
-#[derive(Drop)]
+#[derive(Clone, Copy)]
 pub struct Edition {
     pub sister: bool,
     pub brightness: u8,
@@ -198,7 +199,7 @@ pub struct Edition {
 
 // The numbers that the sister keeps while the power is off.
 #[repr(C)]
-#[derive(Drop)]
+#[derive(Clone, Copy)]
 pub struct Stored {
     pub times: Times,
     pub contrast: u8,
@@ -209,7 +210,7 @@ pub struct Stored {
 
 // state: none, open or overlong.
 #[repr(C)]
-#[derive(Drop)]
+#[derive(Clone, Copy)]
 pub struct Frame {
     pub state: u8,
     pub len: u8,
@@ -219,7 +220,7 @@ pub struct Frame {
 // The text is 5 rows of 16 codes, row after row, and then the large line of 24: a text byte has one array to go to in every mode.
 // The picture is 7 rows of 96 columns.
 #[repr(C)]
-#[derive(Drop)]
+#[derive(Clone, Copy)]
 pub struct Record {
     pub settings: Settings,
     pub text: [u8; 104],
@@ -238,7 +239,7 @@ pub type FrameBytes = [u8; LONGEST_FRAME];
 
 // All of the record but its three arrays, for one who keeps these elsewhere and lends them: state and len are the frame's.
 #[repr(C)]
-#[derive(Drop)]
+#[derive(Clone, Copy)]
 pub struct Small {
     pub settings: Settings,
     pub held: Held,

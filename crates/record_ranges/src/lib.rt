@@ -1,4 +1,5 @@
 // Whether each field of a record is within its range: the definitions of document 01's table are the record's.
+#![tactic(auto)]
 ghost use Rattle.std.specs.Prelude.{◌≡◌, ◌≤◌, length, ◌&&◌};
 ghost use Rattle.lists.specs.Every.{every};
 ghost use Rattle.record_ranges.specs.Editions.{first_asked, sister_asked};
@@ -25,7 +26,7 @@ const LOUDEST: u8 = 7;
 const SHORT_FRAME: usize = 32;
 
 // What a used place of an array may hold.
-#[derive(Drop)]
+#[derive(Clone, Copy)]
 enum Place {
     Code,
     LowColumn,

@@ -1,4 +1,5 @@
 // The seconds of the backlight: a call each second lowers those that are left.
+#![tactic(auto)]
 ghost use Rattle.std.specs.Prelude.{◌≡◌, ◌-◌};
 ghost use Rattle.record.specs.Parts.{together};
 ghost use Rattle.seconds.specs.Seconds.{lowered, light_passed, passed, lent_of};
@@ -7,20 +8,20 @@ use record::{Backlight, FrameBytes, Number, Picture, Record, Small, Text};
 use record_ranges::in_range_lent;
 use record_small_ranges::backlight_in_range;
 
-#[derive(Drop)]
+#[derive(Clone, Copy)]
 pub struct Passed {
     pub number: Number,
     pub after: Record,
 }
 
 // As Passed, where the arrays were lent.
-#[derive(Drop)]
+#[derive(Clone, Copy)]
 pub struct PassedLent {
     pub number: Number,
     pub small: Small,
 }
 
-#[derive(Drop)]
+#[derive(Clone, Copy)]
 pub struct LightPassed {
     pub number: Number,
     pub backlight: Backlight,

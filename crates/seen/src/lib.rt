@@ -2,6 +2,7 @@
 // The definitions are document 01's "What is seen", in specs/ and, for owners and panels, in the crates `seen_owners` and `seen_panels`. The cursor is no part of
 // what is told, but the column says how many codes the large line has. Each question is asked of a record whose arrays are lent, so that
 // asking copies none of them; by value it lends those of its record.
+#![tactic(auto)]
 ghost use Rattle.std.specs.Prelude.{◌≡◌, true, false, List, ℕ, ◌+◌, ◌≤◌, ◌<◌, length, get_or};
 ghost use Rattle.lists.specs.Padded.{padded};
 ghost use Rattle.std.proofs.Math.Seq.{slice};
@@ -33,7 +34,7 @@ const BIG_CODES: u8 = 8;
 const LINE: usize = 80;
 
 // What stands at a place: a code, a picture's column, icon W; a cell past a label's length is 0. The icon bar is told whole.
-#[derive(Drop)]
+#[derive(Clone, Copy)]
 pub enum Shown {
     Nothing,
     Bar,
@@ -45,7 +46,7 @@ pub enum Shown {
 }
 
 // The icon bar: icons F, P and R, and the two panels.
-#[derive(Drop)]
+#[derive(Clone, Copy)]
 pub struct Bar {
     pub f: u8,
     pub p: u8,
@@ -55,7 +56,7 @@ pub struct Bar {
 }
 
 // The soft keys' row: both labels and icon W.
-#[derive(Drop)]
+#[derive(Clone, Copy)]
 pub struct Labels {
     pub left: Label,
     pub right: Label,
@@ -65,7 +66,7 @@ pub struct Labels {
 // What the row question tells: codes for a text row and for the large line, whose big codes are eight, columns for a picture row,
 // bar for the icon bar, labels for the soft keys. A picture with the rocker has zero in the rocker's columns, and icon W in labels.
 // What the owner does not use is zero. inverse is whether it is a text row that has the inverse mark.
-#[derive(Drop)]
+#[derive(Clone, Copy)]
 pub struct Row {
     pub number: Number,
     pub owner: Owner,
@@ -77,7 +78,7 @@ pub struct Row {
 }
 
 // What the column question tells: bar for the icon bar, inverse as its row has it.
-#[derive(Drop)]
+#[derive(Clone, Copy)]
 pub struct ColumnSeen {
     pub number: Number,
     pub owner: Owner,
@@ -86,13 +87,13 @@ pub struct ColumnSeen {
     pub inverse: bool,
 }
 
-#[derive(Drop)]
+#[derive(Clone, Copy)]
 pub struct SmsSeen {
     pub number: Number,
     pub panel: SmsPanel,
 }
 
-#[derive(Drop)]
+#[derive(Clone, Copy)]
 pub struct VolumeSeen {
     pub number: Number,
     pub panel: VolumePanel,

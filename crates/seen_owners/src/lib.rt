@@ -1,4 +1,5 @@
 // Who owns each display row and each column of it. The table of specs/Table.antt is the definition; the code has the same letters.
+#![tactic(auto)]
 ghost use Rattle.std.specs.Prelude.{◌≡◌, ◌≤◌, ◌<◌};
 ghost use Rattle.seen_owners.specs.Table.{letter_in, mode_line, line_of, letter_at, by_letter, owner_of_row, is_rocker, rocker_or, owner_on};
 
@@ -39,7 +40,7 @@ const TABLE: [[u8; 7]; 12] = [
 
 // Who owns a display row or a place of it. The number is the text row or the picture row, and of the big codes the half that is
 // shown: 0 the upper, 1 the lower. PictureWithRocker has a row alone: each of its places belongs to one of the two.
-#[derive(Drop)]
+#[derive(Clone, Copy)]
 pub enum Owner {
     Nothing,
     IconBar,

@@ -1,17 +1,18 @@
 // The two panels of the icon bar, from the icons and the volume. The definitions are document 01's, in specs/Panels.antt.
+#![tactic(auto)]
 ghost use Rattle.std.specs.Prelude.{◌≡◌};
 ghost use Rattle.seen_panels.specs.Panels.{unread_lit, sms_panel, volume_panel};
 
 use record::{Icons, Volume};
 
 // The two phases of an icon that flashes: it is lit, and then there is a pause.
-#[derive(Drop)]
+#[derive(Clone, Copy)]
 pub enum Phase {
     Lit,
     Pause,
 }
 
-#[derive(Drop)]
+#[derive(Clone, Copy)]
 pub enum SmsPanel {
     Nothing,
     Read,
@@ -19,7 +20,7 @@ pub enum SmsPanel {
 }
 
 // The number is the level.
-#[derive(Drop)]
+#[derive(Clone, Copy)]
 pub enum VolumePanel {
     Nothing,
     Mute,

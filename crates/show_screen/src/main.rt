@@ -13,6 +13,7 @@
 // has a label at each side and the rocker between, and so has a picture that leaves the rocker its columns. A big code is six
 // places wide and two rows high: a digit in strokes, any other as two by two of its sign.
 // With the display off the frame is empty. The cursor is no part of what is seen. Of an input that fails nothing is drawn.
+#![tactic(auto)]
 ghost use Rattle.std.specs.Prelude.{◌≤◌};
 
 use program::Input;

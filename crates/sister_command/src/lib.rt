@@ -1,6 +1,7 @@
 // The commands that only the sister handset of AN1900 has, and which command a frame spells in her edition: one of the first
 // edition's, which she spells in her own way, or one of her own. Her labels and pictures are the first edition's.
 // The grammar is in specs/Grammar.antt, which knows nothing of this reader.
+#![tactic(auto)]
 ghost use Rattle.std.specs.Prelude.{◌≡◌};
 ghost use Rattle.sister_command.specs.Pick.{as_shared, asked_or, stepped_or, mode_of, light_of, after_i, after_and, after_k, command_of};
 ghost use Rattle.sister_command.specs.Reading.{sister_read, shared_read, is_own};
@@ -9,7 +10,7 @@ use command::{Command, Reading, byte_at, with_number};
 use frame_table::Classes;
 
 // What can be asked.
-#[derive(Drop)]
+#[derive(Clone, Copy)]
 pub enum Question {
     Position,
     Version,
@@ -24,7 +25,7 @@ pub enum Question {
 }
 
 // A number one higher or one lower.
-#[derive(Drop)]
+#[derive(Clone, Copy)]
 pub enum Step {
     ContrastUp,
     ContrastDown,
@@ -35,7 +36,7 @@ pub enum Step {
 }
 
 // What a letter after IE does to the light.
-#[derive(Drop)]
+#[derive(Clone, Copy)]
 pub enum LightChange {
     On,
     AutoStart,
@@ -49,7 +50,7 @@ pub enum LightChange {
 }
 
 // A command of her own, with its numbers as they were spelt, 0 to 999, in range or not.
-#[derive(Drop)]
+#[derive(Clone, Copy)]
 pub enum SisterCommand {
     Cursor(u16),
     Restart,
@@ -65,7 +66,7 @@ pub enum SisterCommand {
 }
 
 // What a frame that is no label and no picture says in her edition.
-#[derive(Drop)]
+#[derive(Clone, Copy)]
 pub enum SisterReading {
     Bad,
     Shared(Command),

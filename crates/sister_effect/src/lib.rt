@@ -1,5 +1,6 @@
 // What an obeyed frame does in the sister's edition. specs/Effect.antt has her own commands line by line; the others are the first edition's.
 // The text and the picture are changed in place; all that is small goes by value.
+#![tactic(auto)]
 ghost use Rattle.std.specs.Prelude.{◌≡◌, true, false, cond, List, [], ℕ, ◌≤◌, eqb};
 ghost use Rattle.std.proofs.Math.Option.{some};
 ghost use Rattle.record.specs.Core.{core_of};
@@ -22,7 +23,7 @@ use sister_command::{LightChange, Question, SisterCommand, SisterReading, Step};
 use sister_form::{FLASHING, LOUDEST, MOST_BRIGHTNESS, SHOWN};
 
 // The settings and the edition after a frame, and what it is answered.
-#[derive(Drop)]
+#[derive(Clone, Copy)]
 pub struct SisterObeyed {
     pub settings: Settings,
     pub edition: Edition,

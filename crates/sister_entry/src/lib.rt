@@ -1,5 +1,6 @@
 // One entry of the sister handset's key log: a press, a release or a poll at a tick reading, and the message it sends to the host.
 // The rules are request T-06's, in specs/Rules.antt; the set of keys that are down is specs/Keys.antt.
+#![tactic(auto)]
 ghost use Rattle.std.specs.Prelude.{◌≡◌};
 ghost use Rattle.sister_entry.specs.Keys.{bit_of, is_down, with_key, without_key};
 ghost use Rattle.sister_entry.specs.Rules.{is_release, sign_of, is_held, started, pressed_beside, key_pressed, left_down, key_released, due as dueOf, long_since, polled, lifted, put_back, ptt_pressed, ptt_released, pressed, released, entered, keyed};
@@ -34,7 +35,7 @@ const AGAIN: u8 = b'r';
 const END: u8 = b'e';
 
 // What is sent: nothing, KFx, or a sign and an event.
-#[derive(Drop)]
+#[derive(Clone, Copy)]
 pub enum Message {
     None,
     False,
@@ -42,7 +43,7 @@ pub enum Message {
 }
 
 // What an entry leaves, and the message that it sends. hook is whether it is on-hook, ptt whether it is pressed.
-#[derive(Drop)]
+#[derive(Clone, Copy)]
 pub struct SisterKeyed {
     pub keys: Keys,
     pub backlight: Backlight,

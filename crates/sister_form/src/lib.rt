@@ -1,5 +1,6 @@
 // A command of the sister as her table of the good frames has it (sister_command's specs/Grammar.antt): which of its numbers is out of
 // range, and what is written for it. What her table has as the first edition's is handed on to command_form.
+#![tactic(auto)]
 ghost use Rattle.std.specs.Prelude.{◌≡◌, [], ◌∷◌, ◌++◌, ◌≤◌, leb, length};
 ghost use Rattle.numeral.specs.Numeral.{decimal};
 ghost use Rattle.line.specs.Lines.{empty_line, added};
@@ -163,7 +164,7 @@ pub fn own_body(c: SisterCommand) -> Line
 }
 
 // How she spells a command of the first edition: as it does, by signs of her own, by a place after &H, or not at all.
-#[derive(Drop)]
+#[derive(Clone, Copy)]
 enum SharedForm {
     Same,
     TwoSigns(u8, u8),

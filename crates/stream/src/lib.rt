@@ -1,5 +1,6 @@
 // The stream call: bytes in, the record and answers out. It is the parting's run at the handset's meaning.
 // It is done on lent arrays, in place, so that a short call copies nothing large; `stream_by_value` has the same call on a record by value.
+#![tactic(auto)]
 ghost use Rattle.std.specs.Prelude.{◌≡◌, ℕ, ◌≤◌, ◌<◌, ◌+◌, length, get_or, true, false};
 ghost use Rattle.lists.specs.Codes.{escape, carriage_return, blank};
 ghost use Rattle.parting.specs.Rules.{limit};
@@ -22,7 +23,7 @@ use record::{
 };
 use sister_answer::Told;
 
-#[derive(Drop)]
+#[derive(Clone, Copy)]
 pub struct Fed {
     pub number: Number,
     pub record: Record,
@@ -31,7 +32,7 @@ pub struct Fed {
 }
 
 // As Fed, where text, picture and the frame's bytes were lent.
-#[derive(Drop)]
+#[derive(Clone, Copy)]
 pub struct FedLent {
     pub number: Number,
     pub small: Small,
@@ -40,7 +41,7 @@ pub struct FedLent {
 }
 
 // What the loop leaves beside the lent arrays.
-#[derive(Drop)]
+#[derive(Clone, Copy)]
 struct AfterBytes {
     settings: Settings,
     edition: Edition,
@@ -101,7 +102,7 @@ fn drop_run(bytes: &[u8], from: usize) -> usize
 }
 
 // Where a run of text bytes ends, and the column after it.
-#[derive(Drop)]
+#[derive(Clone, Copy)]
 struct Run {
     at: usize,
     column: u8,

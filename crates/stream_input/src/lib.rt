@@ -1,5 +1,6 @@
 // Reads a stream from an input to its end and feeds it to a handset, in pieces, as a cord would bring it.
 // What an input brings can't be promised; but there are bytes of which the record handed back is the reading.
+#![tactic(auto)]
 ghost use Rattle.std.specs.Prelude.{◌≡◌, true, false, List, ℕ};
 ghost use Rattle.record.specs.Range.{in_range};
 ghost use Rattle.picture.specs.Data.{Bytes};
@@ -12,7 +13,7 @@ use stream::Fed;
 const ROOM: usize = 64;
 
 // The record after the stream, how many answers there were, and whether the input failed before its end.
-#[derive(Drop)]
+#[derive(Clone, Copy)]
 pub struct Heard {
     pub record: Record,
     pub replies: u64,
@@ -20,7 +21,7 @@ pub struct Heard {
 }
 
 // What a call handed back, and how many answers it wrote.
-#[derive(Drop)]
+#[derive(Clone, Copy)]
 struct Call {
     fed: Fed,
     replies: usize,
@@ -81,7 +82,7 @@ fn hear_piece(heard: Heard, piece: &[u8]) -> Heard
 }
 
 // What one reading of the input brought.
-#[derive(Drop)]
+#[derive(Clone, Copy)]
 struct Turn {
     heard: Heard,
     ended: bool,

@@ -1,6 +1,7 @@
 // What becomes of a frame in a text mode, or in a record of either edition, asked without doing it: specs/Verdict.antt has it by the
 // order that the frame spells, and specs/Laws.antt by the grammar and the ranges. It is what effect::obey and sister_effect::obey_own_frame
 // do; both stand on the same reading and the same ranges.
+#![tactic(auto)]
 ghost use Rattle.std.specs.Prelude.{◌≡◌, List, ℕ};
 ghost use Rattle.std.proofs.Math.Option.{some};
 ghost use Rattle.command.specs.Reading.{order_drawn};
@@ -16,7 +17,7 @@ use sister_command::{SisterCommand, SisterReading};
 
 // A bad frame gets a question mark. A good one with a number out of range is passed over, and the first such number is told; any other
 // is obeyed, unless the record's state refuses it: then it is answered as a bad frame, and nothing changes.
-#[derive(Drop)]
+#[derive(Clone, Copy)]
 pub enum Verdict {
     Bad,
     PassedOver(u16),

@@ -5,6 +5,7 @@
 // A line has a byte of the frame, its class, and the state to which it leads. The last lines say whether the frame is good and, where it
 // is not, what could have stood there. Each line asks the proved reader how far the bytes up to here lead. With --table the table itself
 // is printed, as it stands in docs/RULES.md.
+#![tactic(auto)]
 use command::{CLASSES, ENTRIES, FIRST_GOOD, NEXT_STATES, STATES};
 
 const LAST_CLASS: u8 = 16;

@@ -3,6 +3,7 @@
 // with its number and the reason, and nothing of it is written. Words are parted by blanks and numbers have one to three digits, without leading zeros.
 // An empty line says nothing, and so does one that begins with #. A line has at most 1024 bytes, and may end with CR LF. With
 // --sister the frames are those of the sister handset. The usage below has the lines.
+#![tactic(auto)]
 ghost use Rattle.std.specs.Prelude.{◌≤◌, length};
 
 use command::{Command, Side};
@@ -72,7 +73,7 @@ const LAST_ROW: u16 = record::LAST_ROW as u16;
 const MOST_PIECES: u64 = 0xFFFF_FFFF_FFFF_FFFF;
 
 // What became of a line: it is taken, or why it can't be.
-#[derive(Drop)]
+#[derive(Clone, Copy)]
 enum Outcome {
     Taken,
     NoSuchCommand,
@@ -84,7 +85,7 @@ enum Outcome {
 }
 
 // A phrase, by its line of the table; where the table goes on behind its words, and where the line does that begins with them.
-#[derive(Drop)]
+#[derive(Clone, Copy)]
 struct Found {
     phrase: u8,
     behind: usize,
@@ -92,7 +93,7 @@ struct Found {
 }
 
 // A word as a number, and where it ends.
-#[derive(Drop)]
+#[derive(Clone, Copy)]
 struct Given {
     number: u16,
     end: usize,
@@ -100,7 +101,7 @@ struct Given {
 
 // Whether the lines are the sister's, the number of the one that is being read, and how many of its bytes are held; NOWHERE of a line
 // that is too long.
-#[derive(Drop)]
+#[derive(Clone, Copy)]
 struct Reading {
     sister: bool,
     number: u64,

@@ -2,6 +2,7 @@
 // Labels and picture rows are the same in both.
 // A frame is built once, in a line of its own, and copied once into the lent room. One that is out of range or finds no room
 // leaves the room as it was.
+#![tactic(auto)]
 ghost use Rattle.std.specs.Prelude.{◌≡◌, true, [], ◌∷◌, ◌++◌, ◌+◌, ◌≤◌, length};
 ghost use Rattle.lists.specs.Codes.{escape, carriage_return, line_feed};
 ghost use Rattle.line.specs.Lines.{held, empty_line};
@@ -30,7 +31,7 @@ use writer_ranges::{label_in_range, row_in_range};
 const MOST_ROWS: u8 = 5;
 
 // How a writer ended, and how many bytes of the room it wrote.
-#[derive(Drop)]
+#[derive(Clone, Copy)]
 pub struct Written {
     pub number: Number,
     pub count: usize,

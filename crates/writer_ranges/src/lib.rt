@@ -1,4 +1,5 @@
 // Whether a label and a picture row are fit to be written: document 01's number 2, in specs/Fitting.antt.
+#![tactic(auto)]
 ghost use Rattle.std.specs.Prelude.{◌≡◌};
 ghost use Rattle.lists.specs.Every.{every};
 ghost use Rattle.writer_ranges.specs.Fitting.{is_label, is_row, test_of};
@@ -8,7 +9,7 @@ use picture::MOST_COLUMNS;
 use record::{LAST_ROW, LONGEST_LABEL, LOW_COLUMN_END};
 
 // What a lent slice is made of.
-#[derive(Drop)]
+#[derive(Clone, Copy)]
 enum Kind {
     LabelCode,
     LowColumn,
