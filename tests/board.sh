@@ -3,10 +3,9 @@
 # is its first line; on the second, the service line, it tells its screen, the rows on its glass and what it complains of
 # (examples/firmware/mps2.c). Streams come in pieces by chance, with pauses, and in bursts; the screen is held against the program
 # list_screen, and answers and rows against the archive of this machine (tests/board/expected.c). Then keys by the board's own clock,
-# the hook, a record that is spoilt. All that is done once as the first handset and once as the sister; then the stack is looked at. Last
-# other programs run on the board (tests/board/instead.c): one that lends things at all places, and those with which tests/c.sh tries and
-# measures the calls here. A line for each test; the last line has the counts. Without the emulator, qemu-system-arm, nothing is tried and
-# nothing counted.
+# the hook, a record that is spoilt, and the stack. Last other programs run on the board (tests/board/instead.c): one that lends things
+# at all places, and those with which tests/c.sh tries and measures the calls here. A line for each test; the last line has the counts.
+# Without the emulator, qemu-system-arm, nothing is tried and nothing counted.
 # usage: tests/board.sh [STREAMS]      (so many streams by chance; 12 if nothing is said)
 # ARCHIVES=FOLDER has the archives of that folder tried, laid out as target/staticlib is, and none built.
 set -u
@@ -96,11 +95,8 @@ ask() { # BYTES LINES: what the service line says to these bytes, as escapes of 
 has_used() { # COUNT
     [ "$(ask u 1)" = "USED $1" ]
 }
-edition='' # whose device the board is, as programs are told it: nothing, or --sister
 power_on() { # and what the cord says from now on is that handset's
-    local letter=p
-    [ -z "$edition" ] || letter=z
-    ask "${letter}u" 1 >/dev/null
+    ask pu 1 >/dev/null
     said_before=$(wc -c <"$work/cord.out")
 }
 said() { # what came down the cord since the power-on
@@ -128,12 +124,12 @@ send_in_pieces() { # FILE: in pieces by chance, with pauses
 # ---- What it is to show ----
 
 lists() { # STREAM: whether its screen is the one that list_screen lists
-    program target/bin/list_screen ${edition:+"$edition"} "$1" >"$work/listed"
+    program target/bin/list_screen "$1" >"$work/listed"
     ask s 12 >"$work/told"
     cmp -s "$work/listed" "$work/told" || { echo "the screen of $1:"; diff "$work/listed" "$work/told"; return 1; }
 }
 answers() { # STREAM
-    program "$work/expected" ${edition:+"$edition"} answers <"$1" >"$work/answers"
+    program "$work/expected" answers <"$1" >"$work/answers"
     said | cmp - "$work/answers" || { echo "the answers to $1"; return 1; }
 }
 draws() { # the rows on its glass are those of either phase; they are drawn at a tick
@@ -141,8 +137,8 @@ draws() { # the rows on its glass are those of either phase; they are drawn at a
     cmp -s "$work/glass" "$work/lit" || cmp -s "$work/glass" "$work/pause"
 }
 shows() { # STREAM
-    program "$work/expected" ${edition:+"$edition"} lit <"$1" >"$work/lit"
-    program "$work/expected" ${edition:+"$edition"} pause <"$1" >"$work/pause"
+    program "$work/expected" lit <"$1" >"$work/lit"
+    program "$work/expected" pause <"$1" >"$work/pause"
     within draws || { echo "the rows of $1:"; diff "$work/lit" "$work/glass"; return 1; }
 }
 takes() { # SEND STREAM
@@ -152,23 +148,11 @@ takes() { # SEND STREAM
     lists "$2" && answers "$2" && shows "$2"
 }
 
-# Streams by chance: slices of the examples and of some frames that they have not, some bytes of them by chance. The sister has frames of
-# her own, and of the examples one alone: most of their frames are bad ones for her.
+# Streams by chance: slices of the examples and of some frames that they have not, some bytes of them by chance.
 pool() {
-    case $edition in
-    '')
-        cat examples/*.stream
-        printf '\033&V\r\033IA\r\033IH\r\033IP0001\r\033IP20\r\033IK1ABCDEFGH\r\033IU255\r\033IS1\r\033IL7\r\n\033IZ3\r'
-        printf '\033ID10\rLarge 123456\033ID14\r\033%0260d\r' 0
-        ;;
-    *)
-        cat "$work/hers" examples/picture.stream
-        printf '\033&V?\r\033IA?\r\033KH?\r\033KP?\r\033&H?\r\033IDM?\r\033IE?\r\033IN?\r\033IT?\r\033IV?\r\033IP20\r\033ID5\r'
-        printf '\033IA20\r\033IA+\r\033IN0\r\033IN-\r\033IV+\r\033IT4;4\r\033IE250\r\033IEe\r\033IES\r\033IEe\r\033IEc\r\033IEQ\r\033IER\r'
-        printf '\033&C1\r\033IJ4\r\033IM1\r\033IP19\r\033IR1\r\033IDMD\r\033IDME\r\033IDM4\rLarge 123456\033&K\r\033IDM8\r\033IDM12\r'
-        printf '\033%0260d\r\033IDM3\r\033&H4;3\rmeter\033IZ5\r\033IK0\r\033&00\r\033IDM1\rafter it\033IF2\r' 0
-        ;;
-    esac
+    cat examples/*.stream
+    printf '\033&V\r\033IA\r\033IH\r\033IP0001\r\033IP20\r\033IK1ABCDEFGH\r\033IU255\r\033IS1\r\033IL7\r\n\033IZ3\r'
+    printf '\033ID10\rLarge 123456\033ID14\r\033%0260d\r' 0
 }
 make_stream() { # SEED
     pool | od -An -v -tu1 | awk -v seed="$1" '
@@ -198,9 +182,10 @@ succeeds "the firmware is built for the board" \
 succeeds "tests/board/expected.c is built for this machine" build_here tests/board/expected.c -o "$work/expected" || finish
 [ -f target/bin/list_screen ] || succeeds "list_screen is built" rt check list_screen || finish
 
-whose() { # TEST: its name, and whose device it was
-    printf '%s%s' "${edition:+the sister: }" "$1"
-}
+start "$work/firmware.elf"
+succeeds "the board starts" within has_used 0 || { cat "$work/emulator"; finish; }
+RANDOM=1
+for stream in examples/*.stream; do succeeds "$stream in pieces" takes send_in_pieces "$stream"; done
 by_chance() {
     local seed
     for ((seed = 0; seed < streams; seed++)); do
@@ -208,10 +193,15 @@ by_chance() {
         takes send_in_pieces "$work/stream" || { echo "the stream of seed $seed"; return 1; }
     done
 }
+succeeds "$streams streams by chance in pieces" by_chance
+
+# More than the ring has room for, at once: the line is held, and no byte lost.
+for ((seed = 0; seed < 8; seed++)); do printf '%b' "$(make_stream "$seed")"; done >"$work/burst"
+succeeds "a burst of $(wc -c <"$work/burst") bytes" takes send "$work/burst"
 
 # the worst day: a label comes in two halves, with a pause between
 halves() {
-    printf '\033IF3\r\033IK1Ke' >"$work/first"
+    printf '\033ID0\r\033IK1Ke' >"$work/first"
     printf 'ep\r\033IK2Skip\r' >"$work/second"
     cat "$work/first" "$work/second" >"$work/stream"
     takes send "$work/first" || return 1
@@ -219,15 +209,7 @@ halves() {
     send "$work/second"
     within has_used "$sent" && lists "$work/stream" && answers "$work/stream" && shows "$work/stream"
 }
-
-# More than the ring has room for, at once: the line is held, and no byte lost.
-try_streams() {
-    local seed
-    succeeds "$(whose "$streams streams by chance in pieces")" by_chance
-    for ((seed = 0; seed < 8; seed++)); do printf '%b' "$(make_stream "$seed")"; done >"$work/burst"
-    succeeds "$(whose "a burst of $(wc -c <"$work/burst") bytes")" takes send "$work/burst"
-    succeeds "$(whose "a label in two halves")" halves
-}
+succeeds "a label in two halves" halves
 
 # The keys by the board's own clock: the left soft key pressed and released, the right one held until its long code comes. With the first
 # code two ticks have passed, so the hook was looked at.
@@ -236,25 +218,9 @@ keys() {
     ask 'h\0000\0200' 0 && within says 'L' && printf '\033IH\r' >"$work/stream" && send "$work/stream" && within says 'L\0033IHh\r' &&
         ask '\0001' 0 && within says 'L\0033IHh\r\0322' && ask '\0201H' 0 && sleep 0.2 && says 'L\0033IHh\r\0322'
 }
+succeeds "short and long keys, and the hook" keys || said | od -c
 
-# The sister's send messages, HOOK and PTT too. Without Time2 a held key has one long message, whatever the clock does meanwhile. Two keys
-# at once have one message, and then none.
-next() { # BYTES MESSAGES: these bytes on the service line, and what the cord has said after them
-    local message
-    for message in $2; do messages="$messages\\0033K$message\\r\\n"; done
-    ask "$1" 0 && within says "$messages"
-}
-her_keys() {
-    messages=''
-    power_on
-    printf '\033IT4;0\r' >"$work/stream"
-    send "$work/stream"
-    within has_used "$sent" && next '\0000\0200' 'Ls Le' && next h Hs && next '\0026' Ps && printf '\033KH?\r\033KP?\r' >"$work/stream" &&
-        send "$work/stream" && next '' 'H:\0040h P:\0040P' && next '\0226' Pe && next '\0001' 'Rs Rl' && next '\0201' Re &&
-        next '\0023\0024' 'Ms Fx' && ask '\0223\0224' 0 && next H He
-}
-
-# a mistake of the port's own is told, and a record that is spoilt or the other handset's is powered on anew; none of them is the end
+# a mistake of the port's own is told, and a spoilt record powered on anew; both are no end
 refuses() { # BYTE TEXT
     ask "$1" 1 >"$work/told"
     [ "$(cat "$work/told")" = "$2" ] || { cat "$work/told"; return 1; }
@@ -265,34 +231,13 @@ goes_on() { # STREAM: from a power-on of the loop's own
     send "$1"
     within has_used "$sent" && lists "$1" && answers "$1" && shows "$1"
 }
-try_mistakes() { # EDGE STREAM
-    local spoilt
-    power_on
-    succeeds "$(whose "an edge that is not listed is told")" refuses "$1" 'refused 4, nothing was done'
-    for spoilt in 'x a spoilt record' "y the other handset's record"; do
-        send "$2"
-        within has_used "$sent"
-        power_on
-        succeeds "$(whose "${spoilt#? } is told")" refuses "${spoilt%% *}" 'refused 1, powered on anew'
-        succeeds "$(whose 'and the board goes on')" goes_on "$2"
-    done
-}
-
-start "$work/firmware.elf"
-succeeds "the board starts" within has_used 0 || { cat "$work/emulator"; finish; }
-RANDOM=1
-for stream in examples/*.stream; do succeeds "$stream in pieces" takes send_in_pieces "$stream"; done
-try_streams
-succeeds "short and long keys, and the hook" keys || said | od -c
-try_mistakes '\0023' examples/menu.stream
-
-edition=--sister
-printf '\033IDM2\r\033&D\r\033IK1Keep\r\033IK2Older\r\033&H1;0\rTwo readings:\033&H2;1\r004711\033Gr3,y01y01y01q01z\r' >"$work/hers"
-printf '\033IDM11\r\033IF4\r\033IU2\r\033IS1\r\033IL7\r\033IW3\r\033IZ2\r\033IA?\r' >>"$work/hers"
-succeeds "$(whose 'a screen in pieces')" takes send_in_pieces "$work/hers"
-try_streams
-succeeds "$(whose 'keys, hook and PTT')" her_keys || said | od -c
-try_mistakes '\0027' "$work/hers"
+power_on
+succeeds "an edge that is not listed is told" refuses '\0023' 'refused 4, nothing was done'
+send examples/menu.stream
+within has_used "$sent"
+power_on
+succeeds "a spoilt record is told" refuses x 'refused 1, powered on anew'
+succeeds "and the board goes on" goes_on examples/menu.stream
 
 # how deep the whole firmware went in all this, of what mps2.ld gives it
 depth=$(ask d 1)

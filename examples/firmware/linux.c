@@ -1,14 +1,13 @@
 /*
  * The port to a terminal: a list of events stands for cord, keypad, hook and power, and standard output for the cord back, the display
- * and whoever looks after the device. Time does not pass but by steps, so that it always writes the same: the file stdout has it. First it
- * is a handset of AN1901, then the sister of AN1900.
+ * and whoever looks after the device. Time does not pass but by steps, so that it always writes the same: the file stdout has it.
  */
 #include "loop.h"
 
 #include <stdio.h>
 
 enum {
-    STEPS = 700,       /* 7 seconds */
+    STEPS = 360,       /* 3.6 seconds */
     FIRST_TICK = 65400 /* the clock runs over on the way */
 };
 
@@ -16,13 +15,13 @@ static struct handset phone;
 
 /* ---- What happens, and when ---- */
 
-enum what { CORD, KEY, HOOK, POWER_DIP, SISTER };
+enum what { CORD, KEY, HOOK, POWER_DIP };
 
 static const struct event {
     uint16_t step;
     enum what what;
     const char *bytes; /* of CORD */
-    uint8_t value;     /* of KEY its edge, of HOOK 1 for on-hook, of POWER_DIP 1 if it leaves the other handset's record */
+    uint8_t value;     /* of KEY its edge, of HOOK 1 for on-hook */
 } events[] = {
     {1, CORD, "\033ID0\r\033&#\r\033IF4\r\033[1;2H\rMeter 4711", 0},
     {2, CORD, "\033IK1Ke", 0}, /* the cord cuts a label in two */
@@ -30,43 +29,21 @@ static const struct event {
     {4, CORD, "\033&V\r\033&V\r\033IP0001\r", 0}, /* two long answers and a bad frame: more than the room of one call */
     {20, KEY, NULL, HANDSET_PRESS + HANDSET_KEY_LEFT_SOFT},
     {26, KEY, NULL, HANDSET_RELEASE + HANDSET_KEY_LEFT_SOFT},
-    {30, KEY, NULL, HANDSET_PRESS + HANDSET_KEY_MUTE}, /* a key that only the sister has: a mistake in the keypad's table */
+    {30, KEY, NULL, HANDSET_PRESS + HANDSET_KEY_ON_OFF + 1}, /* a key that no handset has: a mistake in the keypad's table */
     {40, CORD, "\033IT10;5\r\033Gr3,yFFy00yFFj00z\r\033ID17\r\033IZ2\r", 0},
     {50, HOOK, NULL, 0},
     {51, CORD, "\033IH\r", 0},
     {60, KEY, NULL, HANDSET_PRESS + HANDSET_KEY_DOWN},
     {280, KEY, NULL, HANDSET_RELEASE + HANDSET_KEY_DOWN},
     {310, POWER_DIP, NULL, 0}, /* the record is spoilt: it is powered on anew, and told that it is still off-hook */
-    {320, POWER_DIP, NULL, 1}, /* a record in range, but the sister's: that is found too */
     /* more than the ring has room for: the line is held */
     {330, CORD, "\033IH\r\033ID5\r\033&#\rPlease read the \033[1;0H\rmeter 4712 once \033[2;0H\rmore.\033IK1Go\r\033IK2Later\r", 0},
-    {380, HOOK, NULL, 1},
-
-    {400, SISTER, NULL, 0},
-    {401, CORD, "\033IDM0\r\033&D\r\033IF4\r\033&H1;2\rMeter 4711\033IK1Keep\r\033IK2Skip\r", 0},
-    {405, CORD, "\033&V?\r\033IEe\r\033ID5\r", 0}, /* the longest answer, a frame that is refused, and one that she has not */
-    {420, KEY, NULL, HANDSET_PRESS + HANDSET_KEY_LEFT_SOFT},
-    {426, KEY, NULL, HANDSET_RELEASE + HANDSET_KEY_LEFT_SOFT},
-    {430, HOOK, NULL, 0},
-    {440, KEY, NULL, HANDSET_PRESS + HANDSET_KEY_PTT},
-    {450, CORD, "\033KH?\r\033KP?\r\033IT4;4\r", 0},
-    {460, KEY, NULL, HANDSET_RELEASE + HANDSET_KEY_PTT},
-    {470, KEY, NULL, HANDSET_PRESS + HANDSET_KEY_DOWN},
-    {560, KEY, NULL, HANDSET_PRESS + HANDSET_KEY_UP}, /* two keys are down: after that she is silent until none is */
-    {570, KEY, NULL, HANDSET_RELEASE + HANDSET_KEY_DOWN},
-    {580, KEY, NULL, HANDSET_RELEASE + HANDSET_KEY_UP},
-    {600, CORD, "\033&00\r\033IT?\r\033KH?\r", 0}, /* a restart keeps the times, and takes the handset to be on-hook */
-    {610, HOOK, NULL, 1},                          /* so this is no change, and nothing is sent */
-    {620, HOOK, NULL, 0},
-    {640, POWER_DIP, NULL, 0}, /* she is still off-hook, and says so again */
-    {650, CORD, "\033IT?\r\033KH?\r", 0},
 };
 
 /* What the collector has sent and the ring had no room for yet: a line that is held. */
 static const char *on_the_line = "";
 static uint8_t edge = HANDSET_POLL;
 static bool on_hook = true;
-static bool sister;
 
 static void happens(const struct event *event)
 {
@@ -74,15 +51,7 @@ static void happens(const struct event *event)
     case CORD: on_the_line = event->bytes; break;
     case KEY: edge = event->value; break;
     case HOOK: on_hook = event->value == 1; break;
-    case POWER_DIP:
-        if (event->value == 1) phone.small.edition.sister = !sister;
-        else phone.small.settings.contrast = 255;
-        break;
-    case SISTER:
-        printf("---- the sister\n");
-        sister = true;
-        loop_power_on();
-        break;
+    case POWER_DIP: phone.small.settings.contrast = 0; break;
     }
 }
 
@@ -103,30 +72,20 @@ bool port_is_on_hook(void)
     return on_hook;
 }
 
-bool port_is_sister(void)
-{
-    return sister;
-}
-
 /* ---- The cord back, the light, complaints ---- */
 
-static void put_bytes(const char *word, const uint8_t *bytes, size_t count)
+void port_send(const uint8_t *bytes, size_t count)
 {
-    printf("%s", word);
+    printf("answers ");
     for (size_t i = 0; i < count; i++)
         if (bytes[i] < 0x20 || bytes[i] > 0x7E) printf("<%02X>", bytes[i]);
         else putchar(bytes[i]);
     putchar('\n');
 }
 
-void port_send(const uint8_t *bytes, size_t count)
+void port_send_key(uint8_t code)
 {
-    put_bytes("answers ", bytes, count);
-}
-
-void port_send_key(const uint8_t *bytes, size_t count)
-{
-    put_bytes("key     ", bytes, count);
+    printf("key     %02X\n", code);
 }
 
 void port_light(uint8_t mode, struct handset_seconds left)

@@ -3,9 +3,6 @@
  * answers whole. Keys go in by polls, one entry a tick. Seconds and hook are looked at with each tick. What changed on the display is
  * drawn row by row.
  *
- * It is the loop of both handsets. Which one a record is stands in it from power-on on, and all calls go by that: beside power-on the two
- * differ here in the hook alone, of which the sister sends messages, as of her keys.
- *
  * The number that a call ends with is always read. No number ends the loop, and none can make it turn on the spot: bytes that were refused
  * or found no room wait in the ring for the next step.
  */
@@ -13,7 +10,7 @@
 
 enum {
     RING = 64, /* a power of two, so that the two counts may run over */
-    ROOM = 32, /* no less than HANDSET_LONGEST_ANSWER: with less, the version's question would stay in the ring for ever */
+    ROOM = 32, /* no less than HANDSET_LONGEST_ANSWER: with less, &V would stay in the ring for ever */
     TICKS_A_SECOND = 100,
     TICKS_A_PHASE = 50 /* a flashing icon is lit for half a second, and dark for as long */
 };
@@ -26,28 +23,22 @@ static struct handset *phone;
 /* whether the glass may show something else than the record */
 static bool stale;
 
-/* Whose record it is, and the hook as it was told. Asked of the record itself both might be spoilt, and then not even a bool. */
-static bool sister;
+/* The hook as the record was told it. Asked of the record itself it might be spoilt, and then not even a bool. */
 static bool on_hook;
 
-/* The sister keeps six numbers while the power is off (docs/RULES.md, section 1): a device that stores them sets them in her record. */
 void loop_power_on(void)
 {
-    sister = port_is_sister();
-    if (sister) handset_sister_power_on(phone);
-    else handset_power_on(phone);
+    handset_power_on(phone);
     on_hook = true;
     stale = true;
 }
 
 /*
  * Whether a call did its work. A record that is out of range, as a dip of the power can leave memory, is refused by every call from
- * then on: the handset would be dead. So it is powered on anew, and the collector finds a handset as after any other power-on. A dip can
- * also leave the other handset's record, in range: no call refuses that, and no frame could change it back.
+ * then on: the handset would be dead. So it is powered on anew, and the collector finds a handset as after any other power-on.
  */
 static bool done(uint8_t number)
 {
-    if (number == HANDSET_DONE && phone->small.edition.sister != sister) number = HANDSET_FIELD_OUT_OF_RANGE;
     if (number == HANDSET_DONE) return true;
     if (number == HANDSET_FIELD_OUT_OF_RANGE) loop_power_on();
     port_complain(number);
@@ -113,17 +104,14 @@ static void take_cord(void)
 
 /* ---- Keys, seconds, hook ---- */
 
-/*
- * One entry of the key log; whether it was taken. It sends a code or a message at most, so there is always room. With a poll the handset
- * is asked how long a key is held by now. An entry that is refused is lost, as a key held before it is.
- */
-static bool take_edge(uint16_t tick, uint8_t edge)
+/* With a poll the handset is asked how long a key is held by now. An entry that is refused is lost, as a key held before it is. */
+static void take_key(uint16_t tick)
 {
-    uint8_t said[HANDSET_MESSAGE_SIZE];
+    uint8_t edge = port_next_edge();
+    uint8_t code;
     uint64_t used, written;
-    if (!done(handset_take_log(phone, &tick, 1, &edge, 1, said, sizeof said, &used, &written))) return false;
-    if (written > 0) port_send_key(said, (size_t)written);
-    return true;
+    if (!done(handset_take_log(phone, &tick, 1, &edge, 1, &code, 1, &used, &written))) return;
+    if (written > 0) port_send_key(code);
 }
 
 static uint16_t second_began;
@@ -137,18 +125,11 @@ static void take_seconds(uint16_t tick)
     }
 }
 
-/* The hook call sends nothing. The sister sends a message: her hook is a key, whose press lifts it. */
-static bool tell_hook(uint16_t tick, bool on)
-{
-    if (sister) return take_edge(tick, on ? HANDSET_RELEASE + HANDSET_KEY_HOOK : HANDSET_PRESS + HANDSET_KEY_HOOK);
-    return done(handset_hook(phone, on));
-}
-
 /* A handset that was powered on anew takes itself to be on-hook, so it is told again. */
-static void take_hook(uint16_t tick)
+static void take_hook(void)
 {
     bool on = port_is_on_hook();
-    if (on != on_hook && tell_hook(tick, on)) on_hook = on;
+    if (on != on_hook && done(handset_hook(phone, on))) on_hook = on;
 }
 
 /* ---- Display and light ---- */
@@ -219,9 +200,9 @@ static enum handset_phase last_phase;
 static void take_tick(uint16_t tick)
 {
     enum handset_phase phase = tick / TICKS_A_PHASE % 2 == 0 ? HANDSET_LIT : HANDSET_PAUSE;
-    take_edge(tick, port_next_edge());
+    take_key(tick);
     take_seconds(tick);
-    take_hook(tick);
+    take_hook();
     if (stale || phase != last_phase) draw(phase);
     last_phase = phase;
     follow_light();

@@ -34,16 +34,13 @@ uint32_t loop_bytes_used(void);
 
 /* ---- What a port does for the loop ---- */
 
-/* Whether the device is the sister, the handset of AN1900. It is asked at each power-on, and not in between. */
-bool port_is_sister(void);
-
 /* Sends answers down the cord, all of them before it comes back: the next call puts its own in the same place. */
 void port_send(const uint8_t *bytes, size_t count);
 
-/* Sends what a key has to say down the cord: its code, which is one byte, or the sister's message, which has several. */
-void port_send_key(const uint8_t *bytes, size_t count);
+/* Sends the code of a key down the cord. */
+void port_send_key(uint8_t code);
 
-/* The next edge of the keypad, the sister's PTT among it: enum handset_edge, or HANDSET_POLL if there is none. It is asked once a tick. */
+/* The next edge of the keypad, enum handset_edge, or HANDSET_POLL if there is none. It is asked once a tick. */
 uint8_t port_next_edge(void);
 
 /* Whether the handset lies on its hook. It is asked once a tick. */

@@ -6,10 +6,10 @@
  *   qemu-system-arm -M mps2-an385 -display none -monitor none -kernel firmware.elf -serial stdio \
  *       -serial tcp:localhost:4711,server=on,wait=off
  *
- * UART0 is the cord, and carries nothing but stream, answers and what keys say. UART1 is a line for service and tests (above: nc localhost
+ * UART0 is the cord, and carries nothing but stream, answers and key codes. UART1 is a line for service and tests (above: nc localhost
  * 4711): it takes single bytes, which `serve` lists. The board has two buttons for keys and no switch for a hook, so both can be worked
- * from there, and it can be made the sister: a device would know that from how it was built. Rows of the display are kept as they were
- * drawn, in place of a glass with a controller of its own; a lamp of the board is the backlight.
+ * from there. Rows of the display are kept as they were drawn, in place of a glass with a controller of its own; a lamp of the board is
+ * the backlight.
  */
 #include "loop.h"
 
@@ -168,7 +168,7 @@ static void fault(void)
 
 static struct handset phone;
 
-/* An answer is a question mark, or a frame; CR LF behind the sister's question mark, and LF behind a frame, are none of their own. */
+/* An answer is a question mark, or a frame; LF behind a frame is none of its own. */
 static bool in_frame;
 static uint32_t replies;
 
@@ -187,9 +187,9 @@ void port_send(const uint8_t *bytes, size_t count)
     }
 }
 
-void port_send_key(const uint8_t *bytes, size_t count)
+void port_send_key(uint8_t code)
 {
-    for (size_t i = 0; i < count; i++) put_byte(cord, bytes[i]);
+    put_byte(cord, code);
 }
 
 static struct handset_row glass[HANDSET_DISPLAY_ROWS];
@@ -238,15 +238,6 @@ uint8_t port_next_edge(void)
 bool port_is_on_hook(void)
 {
     return on_hook;
-}
-
-/* ---- Whose device it is ---- */
-
-static bool sister;
-
-bool port_is_sister(void)
-{
-    return sister;
 }
 
 /* ---- The service line ---- */
@@ -339,9 +330,8 @@ static void list_used(void)
     put_words("\n");
 }
 
-static void power_on(bool as_sister)
+static void power_on(void)
 {
-    sister = as_sister;
     replies = 0;
     loop_power_on();
 }
@@ -357,10 +347,8 @@ static void serve(void)
     case 'g': list_glass(); break;
     case 'd': list_stack(); break;
     case 'u': list_used(); break;
-    case 'p': power_on(false); break;
-    case 'z': power_on(true); break;                       /* as the sister */
-    case 'x': phone.small.settings.contrast = 255; break;  /* as a dip of the power might */
-    case 'y': phone.small.edition.sister = !sister; break; /* the same, and it is the other handset's record now */
+    case 'p': power_on(); break;
+    case 'x': phone.small.settings.contrast = 0; break; /* as a dip of the power might */
     case 'h': on_hook = false; break;
     case 'H': on_hook = true; break;
     default: edge_from_service = asked; break; /* as from a keypad: enum handset_edge */

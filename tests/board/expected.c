@@ -1,8 +1,7 @@
 /*
  * What a board is to answer and to show, told by the archive of this machine: reads a stream from standard input, hands it over byte by
- * byte from the power-on record on, with --sister from hers, and prints the answers as they are, or the seven rows of the display in
- * base 16.
- * usage: expected [--sister] answers|lit|pause
+ * byte from the power-on record on, and prints the answers as they are, or the seven rows of the display in base 16.
+ * usage: expected answers|lit|pause
  */
 #include "handset.h"
 
@@ -48,15 +47,11 @@ static bool show(uint8_t phase)
 
 int main(int count, char **words)
 {
-    bool sister = count > 1 && words[1][0] == '-';
     bool answers, done;
-    char what;
-    if (count != (sister ? 3 : 2)) return 2;
-    what = words[count - 1][0];
-    answers = what == 'a';
-    if (sister) handset_sister_power_on(&phone);
-    else handset_power_on(&phone);
-    done = hear(answers) && (answers || show(what == 'l' ? HANDSET_LIT : HANDSET_PAUSE));
+    if (count != 2) return 2;
+    answers = words[1][0] == 'a';
+    handset_power_on(&phone);
+    done = hear(answers) && (answers || show(words[1][0] == 'l' ? HANDSET_LIT : HANDSET_PAUSE));
     if (!done) printf("a call ended as none should\n");
     return !done;
 }

@@ -75,7 +75,7 @@ static void press(const struct lent *lent)
     static const uint8_t edges[] = {HANDSET_KEY_DOWN, HANDSET_POLL, HANDSET_POLL, HANDSET_RELEASE + HANDSET_KEY_DOWN};
     uint64_t used, written;
     memcpy(lent->bytes->edges, edges, sizeof edges);
-    tell(handset_take_log(lent->phone, ticks, 4, lent->bytes->edges, 4, lent->bytes->room, 4 * HANDSET_MESSAGE_SIZE, &used, &written));
+    tell(handset_take_log(lent->phone, ticks, 4, lent->bytes->edges, 4, lent->bytes->room, 4, &used, &written));
     tell_bytes(lent->bytes->room, (size_t)written);
 }
 
@@ -106,16 +106,6 @@ static void look(const struct lent *lent)
     tell(handset_in_range(lent->phone));
 }
 
-/* A verdict has a number of 16 bits, and lies where such numbers do. */
-static void judge(const struct lent *lent, const char *frame, size_t count)
-{
-    struct handset_verdict judged;
-    memcpy(lent->bytes->stream, frame, count);
-    tell(handset_judge_in(lent->phone, lent->bytes->stream, count, &judged));
-    tell(judged.verdict);
-    tell(judged.number_out);
-}
-
 static void write_frames(const struct lent *lent)
 {
     uint64_t written;
@@ -126,8 +116,6 @@ static void write_frames(const struct lent *lent)
     tell(handset_write_label(HANDSET_RIGHT, lent->bytes->stream, HANDSET_LABEL_SIZE, lent->bytes->room, 200, &written));
     tell_bytes(lent->bytes->room, (size_t)written);
     tell(handset_write_command(HANDSET_COMMAND_KEY_TIMES, 12, 50, lent->bytes->room, 200, &written));
-    tell_bytes(lent->bytes->room, (size_t)written);
-    tell(handset_write_sister_command(HANDSET_SISTER_KEY_TIMES, 12, 50, lent->bytes->room, 200, &written));
     tell_bytes(lent->bytes->room, (size_t)written);
 }
 
@@ -148,20 +136,6 @@ static void ask_of_streams(const struct lent *lent)
 
 static const char screen[] = "\033ID0\r\033[1;2H\rMeter\033IK1Keep\r\033Gr3,yFF0011z\r\033ID17\r\033IEA\r\033IU1\r\033IL7\r";
 static const char questions[] = "\033IK2Ski\033IA\r\033&V\r\033IP0001\r";
-static const char her_screen[] = "\033IDM0\r\033&H1;2\rMeter\033IK1Keep\r\033Gr3,yFF0011z\r\033IDM11\r\033IU2\r\033IL7\r";
-static const char her_questions[] = "\033IK2Ski\033IA?\r\033IA+\r\033IEe\r\033IN7";
-
-/* Those of one record, which is powered on and has a screen. */
-static void calls_on_a_record(const struct lent *lent)
-{
-    press(lent);
-    pass_time(lent);
-    look(lent);
-    judge(lent, "IP20", 4);
-    tell_bytes(lent->phone->text, sizeof lent->phone->text);
-    tell_bytes(lent->phone->picture, sizeof lent->phone->picture);
-    tell_bytes(lent->phone->frame, sizeof lent->phone->frame);
-}
 
 static uint32_t all_calls(const struct lent *lent)
 {
@@ -171,13 +145,14 @@ static uint32_t all_calls(const struct lent *lent)
     handset_power_on(lent->phone);
     feed(lent, screen, LENGTH(screen));
     feed(lent, questions, LENGTH(questions));
-    calls_on_a_record(lent);
-    handset_sister_power_on(lent->phone);
-    feed(lent, her_screen, LENGTH(her_screen));
-    feed(lent, her_questions, LENGTH(her_questions));
-    calls_on_a_record(lent);
+    press(lent);
+    pass_time(lent);
+    look(lent);
     write_frames(lent);
     ask_of_streams(lent);
+    tell_bytes(lent->phone->text, sizeof lent->phone->text);
+    tell_bytes(lent->phone->picture, sizeof lent->phone->picture);
+    tell_bytes(lent->phone->frame, sizeof lent->phone->frame);
     return told;
 }
 

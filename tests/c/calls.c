@@ -232,17 +232,46 @@ static const struct step steps[] = {
     {FRAME("ID5"), "IZ5", {SET(inverse[4], 1)}},
 };
 
-/* The sister's, whose light is in auto by PWM at power-on. Most of hers are tried with her writer, below. */
+/* The sister's, whose light is in auto by PWM at power-on. */
 static const struct step her_steps[] = {
+    {"", "IDMD", {SET(screen.display, 0)}},
+    {FRAME("IDMD"), "IDME", {SET(screen.display, 1)}},
     {"", "IDM1", {SET(screen.mode, HANDSET_MODE_1)}},
     {"", "IDM2", {SET(screen.mode, HANDSET_MODE_5)}},
     {"", "IDM3", {SET(screen.mode, HANDSET_MODE_6)}},
     {"", "IDM4", {SET(screen.mode, HANDSET_MODE_LARGE)}},
     {"", "IDM5", {SET(screen.overlay, HANDSET_OVERLAY_FIRST)}},
+    {"", "IDM12", {SET(screen.overlay, HANDSET_OVERLAY_LAST)}},
     {FRAME("IDM7"), "IDM0", {SET(screen.overlay, HANDSET_OVERLAY_NONE)}},
+    {"", "&H2;7", {SET(screen.row, 2), SET(screen.column, 7)}},
+    {FRAME("&H2;7"), "&D", {SET(screen.row, 0), SET(screen.column, 0)}},
+    {"", "&C1", {SET(shown, 1)}},
     {FRAME("&C1"), "&C0", {SET(shown, 0)}},
     {"", "IK1ABCDEFG", {SET_LABEL(left, 'A')}},
+    {"", "IU2", {SET(icons.u, 255)}},
+    {"", "IJ9", {SET(volume.which, HANDSET_WHICH_HANDSFREE), SET(volume.level, 9)}},
+    {"", "IT0;0", {SET(times.time1.tenths, 0), SET(times.time2.tenths, 0)}},
+    {"", "IE250", {SET(backlight.duration.seconds, 250)}},
     {"", "IE0", {SET(backlight.mode, HANDSET_LIGHT_OFF), SET_HERS(pwm, 0)}},
+    {"", "IEE", {SET(backlight.mode, HANDSET_LIGHT_ON), SET_HERS(pwm, 0)}},
+    {"", "IES", {SET_HERS(pwm, 0)}},
+    {"", "IEA", {SET_HERS(pwm, 0), SET(backlight.left.seconds, 30)}},
+    {"", "IEP", {SET(backlight.mode, HANDSET_LIGHT_ON)}},
+    {FRAME("IE0"), "IEQ", {SET(backlight.mode, HANDSET_LIGHT_AUTO), SET_HERS(pwm, 1)}},
+    {"", "IER", {SET(backlight.left.seconds, 30)}},
+    {FRAME("IES"), "IEe", {SET(backlight.keypad, 1)}},
+    {FRAME("IES") FRAME("IEe"), "IEs", {SET(backlight.keypad, 0)}},
+    {FRAME("IES") FRAME("IEe"), "IEc", {SET(backlight.keypad, 0), SET(backlight.left.seconds, 30)}},
+    {"", "IA20", {SET(contrast, 20)}},
+    {"", "IA+", {SET(contrast, 11)}},
+    {FRAME("IA1"), "IA-", {SET(contrast, 0)}},
+    {"", "IN100", {SET_HERS(brightness, 100)}},
+    {"", "IN+", {SET_HERS(brightness, 51)}},
+    {"", "IN-", {SET_HERS(brightness, 49)}},
+    {"", "IV7", {SET_HERS(speaker, 7)}},
+    {"", "IV+", {SET_HERS(speaker, 4)}},
+    {"", "IV-", {SET_HERS(speaker, 2)}},
+    {FRAME("IP3") FRAME("IN7") FRAME("IE0"), "&00", {SET(icons.p, 0), SET(backlight.mode, HANDSET_LIGHT_AUTO), SET_HERS(pwm, 1)}},
     {"", "IN99", {SET_HERS(brightness, 99)}},
     {"", "IV6", {SET_HERS(speaker, 6)}},
 };
@@ -513,15 +542,24 @@ static void try_fed(void)
     check("needed", "room for three question marks");
 }
 
-/* The sister's answers, each ended by CR LF. What she answers at power-on is tried with her writer. */
+/* The sister's answers, each ended by CR LF. */
 static void try_her_fed(void)
 {
     static const struct {
         const char *first, *frame, *answer;
     } told[] = {
+        {"", "&H?", TOLD("&H: 0;0")},
+        {"", "KH?", TOLD("KH: H")},
+        {"", "KP?", TOLD("KP: p")},
+        {"", "IA?", TOLD("IA: 10")},
+        {"", "IDM?", TOLD("IDM: 0")},
         {FRAME("IDM10"), "IDM?", TOLD("IDM: 10")},
+        {"", "IE?", TOLD("IE: 2;30")},
         {FRAME("IE0"), "IE?", TOLD("IE: 4;30")},
+        {"", "IN?", TOLD("IN: 50")},
         {FRAME("IN100"), "IN?", TOLD("IN: 100")},
+        {"", "IT?", TOLD("IT: 12;12")},
+        {"", "IV?", TOLD("IV: 3")},
     };
     static const char *const refused[] = {"Q", "IA", "[K", "IEe", "IEc", "IEs", "II5", "ID0", "&#"};
     const uint8_t *version = (const uint8_t *)FRAME("&V?");
