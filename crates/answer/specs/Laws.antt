@@ -1,5 +1,5 @@
 -- How long the answers are, which byte they are counted by, and that one is written whole or not at all. Assumes nothing.
-use Rattle.std.specs.Prelude.{ℕ, suc, ◌+◌, ◌≤◌, ◌<◌, Bool, true, false, cond, ◌||◌, List, [], ◌∷◌, ◌++◌, ◌≡◌, refl, eqb, leb, ltb, length, take, drop}
+use Rattle.std.specs.Prelude.{ℕ, ◌+◌, ◌≤◌, ◌<◌, Bool, true, false, cond, List, [], ◌∷◌, ◌++◌, ◌≡◌, refl, leb, ltb, length, take, drop}
 use Prim.Native.Char.{code}
 use Rattle.std.proofs.Common.{arith, true≢false, length-append, leb-true, lt-ltb, ne_eqb}
 use Rattle.std.proofs.Math.Seq.{length-sets}

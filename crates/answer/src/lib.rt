@@ -1,6 +1,7 @@
 // What the collector is answered: a question mark to a bad frame, and the answers to its questions. An answer is written whole or not
 // at all. specs/Answers.antt has the bytes.
 #![tactic(auto)]
+
 ghost use Rattle.std.specs.Prelude.{◌≡◌, true};
 ghost use Rattle.answer.specs.Answers.{answer_bytes, is_silence, count_after, buffer_after, heads};
 

@@ -1,10 +1,9 @@
 -- What the grammar spells is read: the reader finds the order of every good frame. Assumes nothing.
-use Rattle.std.specs.Prelude.{ℕ, suc, ◌+◌, ◌-◌, ◌<◌, ◌≤◌, List, [], ◌∷◌, ◌++◌, Bool, true, false, ◌||◌, ◌≡◌, refl, eqb, leb, length, get_or, drop}
+use Rattle.std.specs.Prelude.{ℕ, suc, ◌-◌, ◌<◌, ◌≤◌, List, [], ◌∷◌, ◌++◌, Bool, true, false, ◌||◌, ◌≡◌, refl, eqb, length, get_or, drop}
 use Prim.Native.Char.{code}
-use Rattle.std.proofs.Common.{arith, append-nil, append_assoc, true≢false, sym, ◌∙◌, ap, length-append, ne_eqb, le-leb, leb-true}
+use Rattle.std.proofs.Common.{arith, append-nil, true≢false, sym, ◌∙◌, length-append, ne_eqb, le-leb}
 use Rattle.std.proofs.Math.Option.{some}
 use Rattle.std.proofs.Math.Seq.{take-append_seam, get_or-append_seam}
-use Rattle.lists.specs.Both.{both}
 use Rattle.lists.specs.Every.{every}
 use Rattle.record.specs.Range.{is_code}
 use Rattle.numeral.specs.Spelt.{digit_code}

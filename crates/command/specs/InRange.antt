@@ -1,5 +1,5 @@
 -- Which orders are in range: the numbers of the table's lines, each by the range that stands beside it. Assumes nothing.
-use Rattle.std.specs.Prelude.{ℕ, List, [], ◌∷◌, Bool, true, not, cond, ◌&&◌, ◌||◌, leb, ltb, eqb}
+use Rattle.std.specs.Prelude.{ℕ, List, [], ◌∷◌, Bool, true, cond, ◌&&◌, eqb}
 use Rattle.record.specs.Range.{large, rows_of}
 pub use Rattle.frame_table.specs.Pieces.{most_rows}
 use Rattle.numeral.specs.declared.Numeral.{Numeral}

@@ -1,7 +1,7 @@
 -- What is read was spelt: where the reader finds an order, the grammar spells it. Assumes nothing.
-use Rattle.std.specs.Prelude.{ℕ, suc, ◌+◌, ◌-◌, ◌≤◌, ◌<◌, List, [], ◌∷◌, ◌++◌, Bool, true, false, cond, ◌&&◌, ◌||◌, ◌≡◌, refl, eqb, leb, length, get_or, take, drop}
+use Rattle.std.specs.Prelude.{ℕ, suc, ◌-◌, ◌≤◌, ◌<◌, List, [], ◌∷◌, ◌++◌, Bool, true, false, cond, ◌&&◌, ◌||◌, ◌≡◌, refl, eqb, leb, length, get_or, take, drop}
 use Prim.Native.Char.{code}
-use Rattle.std.proofs.Common.{arith, append-nil, append_assoc, true≢false, sym, ◌∙◌, ap, subst, length-drop, drop_of_length-le, eqb-true, leb-true}
+use Rattle.std.proofs.Common.{arith, append-nil, true≢false, sym, ◌∙◌, ap, subst, drop_of_length-le, eqb-true, leb-true}
 use Rattle.std.proofs.Math.Option.{Option, none, some}
 use Rattle.std.proofs.Math.Seq.{split_at}
 use Rattle.std.proofs.lemmas.Bool.{eqb-false}

@@ -12,7 +12,7 @@ use Rattle.picture.specs.Data.{Draws}
 use Rattle.picture.specs.Writing.{encode}
 use Rattle.frame_table.specs.Spelling.{is_plain}
 use Rattle.command.specs.Order.{Order}
-use Rattle.command.specs.Grammar.{Range, Piece, sign, number, digit, text, columns, Matches, end, signs, digits, one_digit, codes, data_of, form}
+use Rattle.command.specs.Grammar.{Piece, sign, number, digit, text, columns, Matches, end, signs, digits, one_digit, codes, data_of, form}
 use Rattle.command.specs.InRange.{Judged, all_in, judged_in, most_rows}
 
 abbrev pub spell_piece : Piece → List ℕ

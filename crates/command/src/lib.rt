@@ -2,6 +2,7 @@
 // The grammar is in specs/Grammar.antt, which knows nothing of this reader. The ranges of specs/InRange.antt are asked in the
 // crate `command_form`, and frames that draw are read in the crate `picture_frame`: each is judged by the definitions here.
 #![tactic(auto)]
+
 ghost use Rattle.std.specs.Prelude.{◌≡◌};
 ghost use Rattle.command.specs.Pick.{byte_at, with_number, display_of, light_of, contrast_of, after_i, cursor_sign, after_bracket, command_of};
 ghost use Rattle.frame_table.specs.Reader as reader;
@@ -122,6 +123,7 @@ pub const STATES: u8 = 24;
 pub const FIRST_GOOD: usize = 20;
 
 // The command of a letter and its number.
+#[tactic(auto, unfolding(crate::specs::Pick::with_number))]
 pub fn with_number(letter: u8, n: u16) -> Reading
     ensures same { result ≡ with_number letter n }
 {
@@ -143,6 +145,7 @@ pub fn with_number(letter: u8, n: u16) -> Reading
 }
 
 // After ID: a letter, or a number.
+#[tactic(auto, unfolding(crate::specs::Pick::display_of))]
 fn display(sign: u8, n: u16) -> Reading
     ensures same { result ≡ display_of sign n }
 {
@@ -154,6 +157,7 @@ fn display(sign: u8, n: u16) -> Reading
 }
 
 // After IE: a letter, or a number.
+#[tactic(auto, unfolding(crate::specs::Pick::light_of))]
 fn light(sign: u8, n: u16) -> Reading
     ensures same { result ≡ light_of sign n }
 {
@@ -169,6 +173,7 @@ fn light(sign: u8, n: u16) -> Reading
 }
 
 // After IA: nothing, which asks, or a number.
+#[tactic(auto, unfolding(crate::specs::Pick::contrast_of))]
 fn contrast(sign: u8, n: u16) -> Reading
     ensures same { result ≡ contrast_of sign n }
 {
@@ -179,6 +184,7 @@ fn contrast(sign: u8, n: u16) -> Reading
 }
 
 // The byte after I picks the command.
+#[tactic(auto, unfolding(crate::specs::Pick::after_i))]
 fn after_i(letter: u8, sign: u8, before: u16, last: u16) -> Reading
     ensures same { result ≡ after_i letter sign before last }
 {
@@ -194,6 +200,7 @@ fn after_i(letter: u8, sign: u8, before: u16, last: u16) -> Reading
 }
 
 // After &.
+#[tactic(auto, unfolding(crate::specs::Pick::cursor_sign))]
 fn cursor_sign(sign: u8) -> Reading
     ensures same { result ≡ cursor_sign sign }
 {
@@ -207,6 +214,7 @@ fn cursor_sign(sign: u8) -> Reading
 }
 
 // After [: a K, or a position.
+#[tactic(auto, unfolding(crate::specs::Pick::after_bracket))]
 fn after_bracket(sign: u8, before: u16, last: u16) -> Reading
     ensures same { result ≡ after_bracket sign before last }
 {
@@ -224,6 +232,7 @@ pub fn byte_at(f: &[u8], i: usize) -> u8
 }
 
 // The command of a good frame, by its first three bytes and its numbers.
+#[tactic(auto, unfolding(crate::specs::Pick::command_of))]
 fn command_of(first: u8, second: u8, third: u8, before: u16, last: u16) -> Reading
     ensures same { result ≡ command_of first second third before last }
 {

@@ -1,6 +1,7 @@
 // A command's frame as the table of the good frames has it (command's specs/Grammar.antt): its signs, and its numbers, each beside its
 // range. `form_of` says it once; which number is out of range and what a writer writes follow from it.
 #![tactic(auto)]
+
 ghost use Rattle.std.specs.Prelude.{◌≡◌, ◌||◌, [], ◌∷◌, ◌+◌, ◌≤◌};
 ghost use Rattle.record.specs.Range.{mode_in_range, icon_u_in_range, time1_in_range, time2_in_range, contrast_in_range};
 ghost use Rattle.line.specs.Lines.{most_codes, empty_line, added};

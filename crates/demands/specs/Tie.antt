@@ -6,7 +6,7 @@ use base.Logic.{sep}
 use contract.Lifetimes.{Lfts}
 use contract.Monad.{fact}
 use contract.Notation.{connectives}
-use Rattle.std.specs.Borrow.{Bor}
+use Rattle.std.specs.Borrow.{Bor, MutBor}
 use denote.Triple.Clauses.{Ended, AtExit}
 use borrow.Fn.World.{World, Pr, ArgsD, ResD}
 use Rattle.record.specs.Number.{paper_number}
@@ -381,6 +381,13 @@ Lent Rest = Small × (Bor (List ℕ) × (Bor (List ℕ) × (Bor (List ℕ) × Re
 abbrev lent : {Rest : Type 0} → Lent Rest → Record
 lent a = together a.0 a.1.0.now a.1.1.0.now a.1.1.1.0.now
 
+-- the same where all three are lent to be written
+abbrev LentToWrite : Type 0 → Type 0
+LentToWrite Rest = Small × (MutBor (List ℕ) × (MutBor (List ℕ) × (MutBor (List ℕ) × Rest)))
+
+abbrev lent_to_write : {Rest : Type 0} → LentToWrite Rest → Record
+lent_to_write a = together a.0 a.1.0.now a.1.1.0.now a.1.1.1.0.now
+
 -- a contract's arguments and its arguments at exit, looked at as these, and its result, made of this
 abbrev Entry : Ended → Type 0 → Type 0
 Entry t X = (κs : Lfts t.signature.lifetimes) → ArgsD t.signature κs → X
@@ -393,10 +400,10 @@ Back t X = (κs : Lfts t.signature.lifetimes) → X → ResD t.signature κs
 
 -- a call that also lends bytes and the answers' room: it hands back what the stream call makes of that record, and leaves the arrays so
 abbrev Feeding : Type 0
-Feeding = Lent (Bor (List ℕ) × (Bor (List ℕ) × Unit {0}))
+Feeding = LentToWrite (Bor (List ℕ) × (MutBor (List ℕ) × Unit {0}))
 
 abbrev called : Feeding → Fed
-called a = fed_of (lent a) a.1.1.1.1.0.now (length a.1.1.1.1.1.0.now)
+called a = fed_of (lent_to_write a) a.1.1.1.1.0.now (length a.1.1.1.1.1.0.now)
 
 abbrev SaysFed : (t : Ended) → Asking t → Clause t → Entry t Feeding → Exit t Feeding → Back t Fed → Type 2
 SaysFed t requires ensures entry exit back =
@@ -405,11 +412,11 @@ SaysFed t requires ensures entry exit back =
     (λ κs a q e. (exit κs e).1.0.now ≡ (called (entry κs a)).record.text)
     (λ κs a q e. (exit κs e).1.1.0.now ≡ (called (entry κs a)).record.picture)
     (λ κs a q e. (exit κs e).1.1.1.0.now ≡ (called (entry κs a)).record.frame.bytes)
-    (λ κs a q e. (exit κs e).1.1.1.1.1.0.now ≡ answers_after (lent (entry κs a)) (entry κs a).1.1.1.1.0.now (entry κs a).1.1.1.1.1.0.now)
+    (λ κs a q e. (exit κs e).1.1.1.1.1.0.now ≡ answers_after (lent_to_write (entry κs a)) (entry κs a).1.1.1.1.0.now (entry κs a).1.1.1.1.1.0.now)
 
 -- the same of the key log: ticks, edges and the codes' room, which alone is written to
 abbrev Logging : Type 0
-Logging = Lent (Bor (List ℕ) × (Bor (List ℕ) × (Bor (List ℕ) × Unit {0})))
+Logging = Lent (Bor (List ℕ) × (Bor (List ℕ) × (MutBor (List ℕ) × Unit {0})))
 
 abbrev logged : Logging → Outcome
 logged a = outcome (lent a) a.1.1.1.1.0.now a.1.1.1.1.1.0.now (length a.1.1.1.1.1.1.0.now)
@@ -421,7 +428,7 @@ SaysLogged t requires ensures entry exit back =
     (λ κs a q e. (exit κs e).1.1.1.1.1.1.0.now ≡ buffer_after (logged (entry κs a)) (entry κs a).1.1.1.1.1.1.0.now)
 
 -- and a call that takes a record apart hands back what is small of it and leaves the rest in the three arrays
-abbrev SaysApart : (t : Ended) → Asking t → Clause t → Back t Small → Exit t (Bor (List ℕ) × (Bor (List ℕ) × (Bor (List ℕ) × Unit {0}))) → Record → Type 2
+abbrev SaysApart : (t : Ended) → Asking t → Clause t → Back t Small → Exit t (MutBor (List ℕ) × (MutBor (List ℕ) × (MutBor (List ℕ) × Unit {0}))) → Record → Type 2
 SaysApart t requires ensures back exit r =
     SaysFour t requires ensures
     (λ κs a q e. q ≡ back κs (small_of r))

@@ -6,7 +6,7 @@ use mathlib.Core.Path.{◌≡◌, refl, sym, subst, ◌∙◌}
 use lib.Dec.{leb, ltb, eqb}
 use borrow.Author.Tests.{leb-true, leb-false, lt-leb, ltb-true, eqb-true, ne_eqb}
 use Rattle.lists.specs.Both.{both}
-use Rattle.record.specs.Range.{large, rows_of, line_start, row_start_of, mode_in_range, icon_u_in_range, time1_in_range, time2_in_range}
+use Rattle.record.specs.Range.{large, line_start, row_start_of, mode_in_range, icon_u_in_range, time1_in_range, time2_in_range}
 use Rattle.command.specs.InRange.{is_overlay, is_column, rows_named, command_in_range}
 use Rattle.command.specs.declared.Command.{Command}
 use Rattle.command.specs.declared.Command.TheVariants.{Position, KeyTimes, Contrast, Inverse}

@@ -4,10 +4,10 @@ use native.Mathlib.Omega.{arith}
 use native.Mathlib.Numerals.{add-one}
 use mathlib.Core.Path.{◌≡◌, sym, ap, ◌∙◌}
 use mathlib.Core.List.{List, [], ◌∷◌, map}
-use lib.ListN.{length, take, drop, set, get_or}
+use lib.ListN.{length, take, set, get_or}
 use lib.Seq.{sets, slice, slice-cons, slice_empty, take-suc, length-take-le}
 use Rattle.lists.specs.Padded.{padded, lengthen}
-use Rattle.effect.specs.Effect.{kept_in, drawn}
+use Rattle.effect.specs.Effect.{kept_in}
 
 -- one code more stands in its place
 pub one_more : (places : ℕ) (t codes : List ℕ) (i v : ℕ) → i < length t → length t ≤ places → codes ≡ padded places (take i t) → v ≡ get_or t i 0

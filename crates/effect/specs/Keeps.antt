@@ -1,5 +1,5 @@
 -- Whatever a frame orders and whatever text byte comes, the core stays within its ranges. Assumes nothing.
-use Rattle.std.specs.Prelude.{ℕ, zero, suc, ◌+◌, ◌*◌, ◌-◌, ◌%◌, ◌<◌, ◌≤◌, Bool, true, false, cond, not, ◌&&◌, ◌||◌, List, [], ◌∷◌, map, ◌≡◌, refl, leb, ltb, eqb, length, set, take, drop, replicate}
+use Rattle.std.specs.Prelude.{ℕ, zero, suc, ◌+◌, ◌*◌, ◌-◌, ◌%◌, ◌<◌, ◌≤◌, Bool, true, false, cond, ◌&&◌, ◌||◌, List, [], ◌∷◌, map, ◌≡◌, refl, leb, ltb, eqb, length, set, drop, replicate}
 use Rattle.std.proofs.Common.{arith, mod-lt, true≢false, sym, ap, ◌∙◌, length-set, take_all, leb-true, ltb-true, lt-ltb, le-leb, eq-eqb}
 use Rattle.std.proofs.Math.Bool.{or-true}
 use Rattle.std.proofs.Math.Option.{Option, none, some}
@@ -17,12 +17,11 @@ use Rattle.record.specs.declared.Screen.{Screen}
 use Rattle.record.specs.declared.Icons.{Icons}
 use Rattle.record.specs.declared.Volume.{Volume}
 use Rattle.record.specs.declared.Backlight.{Backlight}
-use Rattle.record.specs.declared.Label.{Label}
 use Rattle.record.specs.declared.Held.{Held}
 use Rattle.record.specs.declared.Frame.{Frame}
 use Rattle.record.specs.Laws.{SettingsRanges, Ranges, screen_set, shown_set, labels_set, icons_set, volume_set, times_set, buzzer_set, backlight_set, contrast_set, inverse_set, of_first}
-use Rattle.record.specs.Range.{large, rows_of, row_end_of, line_start, row_start_of, is_code, is_low_column, is_unused, mode_in_range, overlay_in_range, cursor_in_range, text_in_range, label_in_range, picture_in_range, icon_s_in_range, icon_u_in_range, icon_f_in_range, icon_r_in_range, icon_p_in_range, icon_w_in_range, icons_in_range, which_in_range, level_in_range, volume_in_range, buzzer_in_range, duration_in_range, backlight_in_range, backlight_kept, contrast_in_range, contrast_kept, inverse_in_range, held_kept, edition_kept, frame_in_range}
-use Rattle.record.specs.With.{with_left, with_right, with_shown, with_icon_s, with_icon_u, with_icon_f, with_icon_r, with_icon_p, with_icon_w, with_contrast, with_inverse}
+use Rattle.record.specs.Range.{large, rows_of, row_end_of, line_start, row_start_of, is_code, is_low_column, is_unused, mode_in_range, overlay_in_range, cursor_in_range, text_in_range, label_in_range, picture_in_range, icon_s_in_range, icon_u_in_range, icon_f_in_range, icon_r_in_range, icon_p_in_range, icon_w_in_range, icons_in_range, which_in_range, level_in_range, volume_in_range, duration_in_range, backlight_in_range, backlight_kept, contrast_in_range, contrast_kept, inverse_in_range, held_kept, edition_kept, frame_in_range}
+use Rattle.record.specs.With.{with_icon_s, with_icon_u, with_icon_f, with_icon_r, with_icon_p, with_icon_w}
 use Rattle.command.specs.Order.{Order, plain, label, draw}
 use Rattle.command.specs.Kind.{same_kind}
 use Rattle.command.specs.declared.Command.{Command}

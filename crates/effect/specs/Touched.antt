@@ -1,6 +1,6 @@
 -- WHAT AN ORDER TOUCHES: the fields that it may set, document 01's third column ("The good frames"), field by field, and those that it
 -- reads besides. Assumes nothing.
-use Rattle.std.specs.Prelude.{ℕ, Bool, cond, ◌||◌, List, [], ◌∷◌, eqb}
+use Rattle.std.specs.Prelude.{Bool, cond, ◌||◌, List, [], ◌∷◌, eqb}
 use Rattle.record.specs.Fields.{Field, display, mode, overlay, row, column, text, large_line, shown, leftLabel, rightLabel, iconS, icon_u, iconF, iconR, icon_p, iconW, which, level, mute, hidden, time1, time2, buzzer, light, duration, secondsLeft, keypad, picture, contrast, hook, inverse, among}
 use Rattle.command.specs.Order.{Order, plain, label, draw}
 use Rattle.command.specs.InRange.{is_overlay}

@@ -1,6 +1,6 @@
 -- WHAT AN ORDER DOES NOT TOUCH: it sets no field but those that the table of Touched.antt names, and what stands in a field that it
 -- neither sets nor reads makes no difference to it. Assumes nothing.
-use Rattle.std.specs.Prelude.{ℕ, ◌+◌, ◌*◌, ◌<◌, ◌≤◌, Bool, true, false, cond, List, [], ◌∷◌, ◌++◌, map, ◌≢◌, ◌≡◌, refl, eqb, leb, ltb, length, get_or}
+use Rattle.std.specs.Prelude.{ℕ, ◌+◌, ◌*◌, ◌<◌, ◌≤◌, Bool, true, false, cond, List, [], ◌∷◌, map, ◌≢◌, ◌≡◌, refl, eqb, leb, ltb, length, get_or}
 use Rattle.std.proofs.Common.{arith, ⊎_elim, ap, sym, subst, drop-set-lt, ltb-true}
 use Rattle.std.proofs.Math.Option.{some}
 use Rattle.std.proofs.lemmas.List.{length-map, take-set-le}

@@ -1,6 +1,7 @@
 // What an obeyed frame does to the record: document 01's third column. specs/Effect.antt has it line by line.
 // The text and the picture are changed in place; all that is small goes by value.
 #![tactic(auto)]
+
 ghost use Rattle.std.specs.Prelude.{◌≡◌, true, cond, List, [], ℕ, ◌+◌, ◌-◌, ◌≤◌, ◌<◌, length, set, take, drop, replicate};
 ghost use Rattle.std.proofs.lemmas.List.Edits.{sets};
 ghost use Rattle.lists.specs.Codes.{blank};

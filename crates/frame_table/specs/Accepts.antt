@@ -1,8 +1,7 @@
 -- A table that is right accepts exactly the frames that fit. Assumes nothing.
-use Rattle.std.specs.Prelude.{ℕ, zero, suc, ◌+◌, ◌*◌, ◌-◌, ◌%◌, ◌<◌, ◌≤◌, Bool, false, ◌&&◌, List, [], ◌∷◌, ◌++◌, ◌≡◌, refl, leb, length}
+use Rattle.std.specs.Prelude.{ℕ, zero, suc, ◌+◌, ◌*◌, ◌%◌, ◌<◌, ◌≤◌, Bool, false, ◌&&◌, List, [], ◌∷◌, ◌≡◌, refl, leb, length}
 use Rattle.std.proofs.Common.{arith, true≢false, ap, ap₂, ◌∙◌, subst}
 use Rattle.std.proofs.Math.Bool.{true, beq}
-use Rattle.std.proofs.lemmas.Bool.{false≢true}
 use Rattle.std.proofs.Math.Path.{sym}
 use Rattle.std.proofs.Math.Dec.{eqb, ltb}
 use Rattle.std.proofs.Math.ListN.{get_or, get_or-eq_default}
@@ -11,8 +10,8 @@ use Rattle.lists.specs.Both.{both}
 use Rattle.lists.specs.Every.{every}
 use Rattle.lists.specs.Tests.{by_test}
 use Rattle.numeral.specs.Numeral.{is_digit}
-use Rattle.frame_table.specs.Rest.{Mark, sign, number, Rest, if, after_marks, after_digits, after, ends, fits}
-use Rattle.frame_table.specs.Table.{Table, next_state, state_from, accepts, same_marks, same_rests, listed, low_marks, low_rests, every_from, whole, labels, label, state_right, targets_valid, right}
+use Rattle.frame_table.specs.Rest.{Mark, sign, number, Rest, after_marks, after_digits, after, ends, fits}
+use Rattle.frame_table.specs.Table.{Table, next_state, state_from, accepts, same_marks, same_rests, low_marks, low_rests, every_from, whole, labels, label, state_right, targets_valid, right}
 
 -- What passes a test ------------------------------------------------------------------------------------------------
 

@@ -1,6 +1,6 @@
 -- A type by kinds: each kind makes a value of two numbers. Where every value is of a kind, what is computed to be alike for each kind
 -- and any numbers is alike for each value. Assumes nothing.
-use Rattle.std.specs.Prelude.{ℕ, zero, suc, List, [], ◌∷◌, map, ◌≡◌, refl}
+use Rattle.std.specs.Prelude.{ℕ, zero, suc, List, [], ◌∷◌, map, ◌≡◌}
 use Rattle.std.proofs.Common.{arith, subst}
 use Rattle.std.proofs.Math.Option.{Option, none, some}
 

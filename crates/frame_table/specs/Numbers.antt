@@ -1,5 +1,5 @@
 -- The last two numbers of a frame, told by its bytes alone. Assumes nothing.
-use Rattle.std.specs.Prelude.{ℕ, ◌+◌, ◌*◌, ◌-◌, ◌%◌, ◌<◌, Bool, true, false, cond, ◌&&◌, List, [], ◌∷◌, ◌++◌, ◌≡◌, refl, eqb}
+use Rattle.std.specs.Prelude.{ℕ, ◌+◌, ◌*◌, ◌-◌, ◌%◌, ◌<◌, Bool, true, cond, ◌&&◌, List, [], ◌∷◌, ◌++◌, ◌≡◌, refl, eqb}
 use Prim.Native.Char.{code}
 use Rattle.std.proofs.Common.{mod-eq_of_lt, arith, true≢false, sym, ap, ◌∙◌, eqb-true, le-leb}
 use Rattle.lists.specs.Both.{both}

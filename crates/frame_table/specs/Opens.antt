@@ -1,7 +1,7 @@
 -- The first bytes of a frame that fits: what holds of all that the marks allow holds of the frame's. Assumes nothing.
-use Rattle.std.specs.Prelude.{ℕ, zero, suc, ◌+◌, ◌≤◌, ◌<◌, Bool, true, false, List, [], ◌∷◌, ◌++◌, map, ◌≡◌, refl, eqb, leb, get_or}
+use Rattle.std.specs.Prelude.{ℕ, zero, suc, ◌+◌, ◌≤◌, ◌<◌, true, false, List, [], ◌∷◌, ◌++◌, map, ◌≡◌, refl, eqb, leb, get_or}
 use Prim.Native.Char.{code}
-use Rattle.std.proofs.Common.{arith, true≢false, append-nil, append_assoc, sym, ap, ◌∙◌, subst, eqb-true, leb-true}
+use Rattle.std.proofs.Common.{arith, true≢false, append-nil, append_assoc, sym, ◌∙◌, subst, eqb-true, leb-true}
 use Rattle.std.proofs.lemmas.Bool.{eqb-false}
 use Rattle.lists.specs.Both.{both}
 use Rattle.lists.specs.Tests.{by_test}

@@ -6,7 +6,6 @@ use Rattle.std.proofs.Common.{arith, true≢false, sym, ap₂, ◌∙◌, subst,
 use Rattle.std.specs.Prelude.{Bool, true, ◌&&◌, false, ◌↔◌, ◌≡◌, refl, leb, length}
 use Rattle.std.proofs.Math.Bool.{cond}
 use mathlib.Core.List.{List, [], ◌∷◌, ◌++◌, map}
-use Rattle.std.proofs.Math.Option.{some}
 use Rattle.std.proofs.Math.Path.{ap}
 use Rattle.std.proofs.lemmas.Bool.{lt-leb}
 use Rattle.lists.specs.Both.{both}
@@ -15,7 +14,7 @@ use Rattle.numeral.specs.Laws.{one_spelling}
 use Rattle.frame_table.specs.declared.Numbers.{Numbers}
 use Rattle.frame_table.specs.declared.Found.{Found}
 use Rattle.frame_table.specs.Pieces.{Piece, sign, number, digit, text, columns, Matches, end, signs, digits}
-use Rattle.frame_table.specs.Kinds.{Kind, OfKind, of_kind, first_of, others_of}
+use Rattle.frame_table.specs.Kinds.{Kind, of_kind, first_of, others_of}
 use Rattle.frame_table.specs.Rest.{Mark, fits, fits_append, fits_none}
 use Rattle.frame_table.specs.Spelling.{marks_of, is_plain, fits_one, how_many, numbers_in, Fills, matched_fits, fits_filled, filled_matches, either, or_left, or_right}
 use Rattle.frame_table.specs.Numbers.{pair, numbers_from, numbers_told, begins_each, numbers_read}

@@ -1,5 +1,5 @@
 -- What the reader finds in a frame over a table, and the laws of its loop. Assumes nothing.
-use Rattle.std.specs.Prelude.{ℕ, suc, ◌+◌, ◌-◌, ◌<◌, ◌≤◌, List, true, false, ◌≡◌, eqb, length, get_or, drop}
+use Rattle.std.specs.Prelude.{ℕ, suc, ◌+◌, ◌-◌, ◌<◌, ◌≤◌, List, true, false, ◌≡◌, length, get_or, drop}
 use Prim.Native.Char.{code}
 use Rattle.std.proofs.Common.{add-one, sym, ap, ap₂, drop_of_length-le, drop-cons}
 use borrow.Author.Tests.{eq-eqb, ne_eqb}

@@ -1,8 +1,8 @@
 -- A frame fits marks exactly where it matches the pieces that have them, with some numbers. Assumes nothing.
-use Rattle.std.specs.Prelude.{ℕ, zero, suc, ◌+◌, ◌*◌, ◌-◌, ◌<◌, ◌≤◌, Bool, true, false, cond, ◌||◌, ◌&&◌, List, [], ◌∷◌, ◌++◌, ◌≡◌, refl, eqb, leb, length}
+use Rattle.std.specs.Prelude.{ℕ, zero, suc, ◌+◌, ◌*◌, ◌-◌, ◌<◌, ◌≤◌, Bool, true, false, ◌||◌, List, [], ◌∷◌, ◌++◌, ◌≡◌, refl, eqb, leb, length}
 use Prim.Native.Char.{code}
 use Rattle.std.proofs.Common.{arith, true≢false, append-nil, append_assoc, sym, ap, ◌∙◌, subst, eqb-true, eq-eqb, ne_eqb, le-leb, leb-true}
-use Rattle.std.proofs.Math.Bool.{or-true, or-false}
+use Rattle.std.proofs.Math.Bool.{or-true}
 use Rattle.std.proofs.lemmas.Bool.{eqb-false}
 use Rattle.lists.specs.Both.{both}
 use Rattle.lists.specs.Tests.{by_test}
@@ -11,7 +11,7 @@ use Rattle.numeral.specs.Spelt.{Spelt, one, two, three, digit_code}
 use Rattle.numeral.specs.Numeral.{is_digit}
 use Rattle.frame_table.specs.Pieces.{Piece, text, columns, Matches, end, signs, digits, one_digit, codes, data_of}
 use Rattle.frame_table.specs.Pieces as piece
-use Rattle.frame_table.specs.Rest.{Mark, sign, number, Rest, if, after_marks, after_digits, after, is_end, ends, fits, fits_append, fits_none}
+use Rattle.frame_table.specs.Rest.{Mark, sign, number, Rest, if, after_marks, fits, fits_append, fits_none}
 
 -- the marks of pieces, and whether they are signs and numbers alone
 abbrev pub marks_of : List Piece → List Mark
@@ -209,14 +209,19 @@ numbers_in (piece.digit r n ∷ ps) = n ∷ numbers_in ps
 numbers_in (text t ∷ ps) = numbers_in ps
 numbers_in (columns cs ∷ ps) = numbers_in ps
 
--- what fills the marks of pieces with their numbers is those pieces
-pub filled_matches : (ps : List Piece) {f : List ℕ} → is_plain ps ≡ true → Fills (marks_of ps) (numbers_in ps) f → Matches ps f
-filled_matches [] h none = end
-filled_matches (piece.sign [] ∷ ps) h k = signs [] (filled_matches ps h k)
-filled_matches (piece.sign (a ∷ s) ∷ ps) h (a_sign k) = prepend (filled_matches (piece.sign s ∷ ps) h k)
+-- what fills the marks of a piece of signs is its signs, and what fills the rest
+filled_signs : (s : List ℕ) (ps : List Piece) {f : List ℕ} → ((g : List ℕ) → Fills (marks_of ps) (numbers_in ps) g → Matches ps g)
+    → Fills (marks_of (piece.sign s ∷ ps)) (numbers_in ps) f → Matches (piece.sign s ∷ ps) f
+filled_signs [] ps rest k = signs [] (rest _ k)
+filled_signs (a ∷ s) ps rest (a_sign k) = prepend (filled_signs s ps rest k)
   where
     prepend : {g : List ℕ} → Matches (piece.sign s ∷ ps) g → Matches (piece.sign (a ∷ s) ∷ ps) (a ∷ g)
     prepend (signs _ m) = signs (a ∷ s) m
+
+-- what fills the marks of pieces with their numbers is those pieces
+pub filled_matches : (ps : List Piece) {f : List ℕ} → is_plain ps ≡ true → Fills (marks_of ps) (numbers_in ps) f → Matches ps f
+filled_matches [] h none = end
+filled_matches (piece.sign s ∷ ps) h k = filled_signs s ps (λ (g : List ℕ) m. filled_matches ps h m) k
 filled_matches (piece.number r n ∷ ps) h (a_number d k) = digits d (filled_matches ps h k)
 filled_matches (piece.digit r n ∷ ps) h k = absurd (true≢false (sym h))
 filled_matches (text t ∷ ps) h k = absurd (true≢false (sym h))

@@ -1,16 +1,10 @@
 -- A table: the class of each byte, and the next state by state and class. State 0 refuses, state 1 is the start. Each state has an
 -- example, a frame so far that leads to it. The table is right if, for every state and byte, what may come after the example and the byte
 -- is what may come after the next state's example: one test over the whole table. Assumes nothing.
-use Rattle.std.specs.Prelude.{ℕ, zero, suc, ◌+◌, ◌*◌, ◌-◌, ◌%◌, ◌<◌, ◌≤◌, Bool, true, false, ◌&&◌, ◌||◌, List, [], ◌∷◌, ◌++◌, map, ◌≡◌, refl, eqb, leb, ltb, length, get_or}
-use Rattle.std.proofs.Common.{arith, true≢false, sym, ap, ap₂, ◌∙◌, subst, eqb-true, ltb-true, ne_eqb}
+use Rattle.std.specs.Prelude.{ℕ, zero, suc, ◌+◌, ◌*◌, ◌%◌, Bool, true, false, ◌&&◌, ◌||◌, List, [], ◌∷◌, ◌++◌, map, eqb, leb, ltb, length, get_or}
 use Rattle.std.specs.Bool.{beq}
-use Rattle.std.proofs.Math.ListN.{get_or-eq_default}
-use Rattle.std.proofs.lemmas.Bool.{lt-leb}
-use Rattle.lists.specs.Both.{both}
 use Rattle.lists.specs.Every.{every}
-use Rattle.lists.specs.Tests.{by_test}
-use Rattle.numeral.specs.Numeral.{is_digit}
-use Rattle.frame_table.specs.Rest.{Mark, sign, number, Rest, if, after_marks, after_digits, after, ends, fits}
+use Rattle.frame_table.specs.Rest.{Mark, sign, number, Rest, after, ends}
 
 pub record Table : Type 0 where
   pub class : List ℕ

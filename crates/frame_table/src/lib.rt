@@ -1,6 +1,7 @@
 // One reader of frames of signs and numbers, over any table: a class for each byte, and a next state for each class and state. It knows
 // no command: the table says which frames are good, and their first bytes which command they spell.
 #![tactic(auto)]
+
 ghost use Rattle.std.specs.Prelude.{◌≡◌, ◌≤◌, ◌%◌};
 ghost use Rattle.numeral.specs.Numeral.{is_digit};
 ghost use Rattle.frame_table.specs.Numbers.{with_digit};

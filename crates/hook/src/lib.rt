@@ -1,5 +1,6 @@
 // The hook switch: a call when the handset is lifted or hung up.
 #![tactic(auto)]
+
 ghost use Rattle.std.specs.Prelude.{◌≡◌};
 ghost use Rattle.record.specs.Parts.{together};
 ghost use Rattle.hook.specs.Hook.{hooked, lent_of};

@@ -1,6 +1,7 @@
 // One entry of a key log: a press, a release or a poll at a tick reading, and the code it sends to the host.
 // The rules are document 01's, in specs/Rules.antt.
 #![tactic(auto)]
+
 ghost use Rattle.std.specs.Prelude.{◌≡◌};
 ghost use Rattle.lists.specs.Every.{every};
 ghost use Rattle.key_entry.specs.Codes.{column_of, code_of};

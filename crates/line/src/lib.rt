@@ -1,6 +1,7 @@
 // A small line of codes: a frame or an answer is built in it, codes behind codes, and then copied into a room, whole or not at all.
 // What finds no room leaves all as it was, so nothing is asked of a caller.
 #![tactic(auto)]
+
 ghost use Rattle.std.specs.Prelude.{◌≡◌, ◌+◌, ◌≤◌, length};
 ghost use Rattle.std.proofs.lemmas.List.Edits.{sets};
 ghost use Rattle.numeral.specs.Numeral.{decimal};

@@ -1,5 +1,6 @@
 // The frames that draw a picture row, in the note's spelling. What they say stands in command's specs/Reading.antt.
 #![tactic(auto)]
+
 ghost use Rattle.std.specs.Prelude.{◌≡◌};
 ghost use Rattle.command.specs.Reading.{opens_picture, row_with, no_picture, row_and_data, drawn_row, picture_of};
 

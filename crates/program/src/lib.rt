@@ -5,9 +5,14 @@
 // other word is a file's name. What a program does not take it refuses, with the first line of its usage, and does nothing else.
 // A usage has a first line that begins with "usage:" and at least one line more: ./run tells by it that a word was refused.
 #![tactic(auto)]
-ghost use Rattle.io.specs.Counts.{IsPrefixLen};
 
-use libc::{STDERR_FILENO, STDIN_FILENO, STDOUT_FILENO};
+ghost use Rattle.program.specs.Counts.{IsPrefixLen};
+
+use std::cell::Cell;
+use std::env::{Env, FillError};
+use std::fs::File;
+use std::io::{Error, Read, Stdin};
+use std::{io, str};
 
 const LINE_FEED: u8 = b'\n';
 
@@ -16,48 +21,84 @@ const MINUS: u8 = b'-';
 // Past every place of a word.
 const NOWHERE: usize = 0xFFFF_FFFF_FFFF_FFFF;
 
-// Complaints, on standard error.
+// The system's number for a text that is not what it should be.
+const NO_TEXT: i32 = 84;
 
-fn tell(words: &[u8]) {
-    io::write_all(STDERR_FILENO, words);
+// What a program runs on: the runtime, and whether standard output has failed.
+#[derive(Drop)]
+pub struct Host {
+    rt: HostRuntime,
+    silent: Cell<bool>,
 }
 
-// Who complains, of what, and why the call failed that was made last.
-fn complain(name: &[u8], what: &[u8]) {
-    tell(name);
-    tell(b": ");
-    os::fail(what);
+impl Host {
+    pub fn new(rt: HostRuntime) -> Host {
+        Host {
+            rt: rt,
+            silent: Cell::new(false),
+        }
+    }
+}
+
+// Complaints, on standard error.
+
+// Where standard error fails nobody is left to be told.
+fn tell(host: &Host, words: &[u8]) {
+    let _ = host.rt.stderr().write_all(words);
+}
+
+// The words for an error, without its number.
+fn words_of(text: &str) -> &str {
+    match text.split_once(" (os error ") {
+        Some((words, _)) => words,
+        None => text,
+    }
+}
+
+fn tell_error(host: &Host, error: &Error) {
+    match format!(in host.rt.alloc(); "{error}") {
+        Ok(text) => tell(host, words_of(text.as_str()).as_bytes()),
+        Err(_) => tell(host, b"out of memory"),
+    }
+}
+
+// Who complains, of what, and why the call failed.
+fn complain(host: &Host, name: &[u8], what: &[u8], error: &Error) {
+    tell(host, name);
+    tell(host, b": ");
+    tell(host, what);
+    tell(host, b": ");
+    tell_error(host, error);
+    tell(host, b"\n");
 }
 
 // Standard output.
 
-// From here on what is written goes nowhere, so that an output that fails is complained of once and not at each line. A file
-// that is opened gets the lowest number that is free, which is standard output's unless standard input is closed as well.
-fn fall_silent() {
-    libc::close(STDOUT_FILENO);
-    let descriptor = os::open_overwrite(b"/dev/null");
-    if descriptor < STDOUT_FILENO {
-        os::open_overwrite(b"/dev/null");
+// Once standard output has failed what is written goes nowhere, so that this is complained of once and not at each line.
+fn settle(host: &Host, name: &[u8], written: io::Result<()>) {
+    if let Err(error) = written {
+        complain(host, name, b"standard output", &error);
+        host.silent.set(true);
     }
 }
 
 // Writes to standard output, and complains if that fails.
-pub fn write<'a>(name: &'a [u8], bytes: &'a [u8]) {
-    if io::write_all(STDOUT_FILENO, bytes) {
+pub fn write<'a>(host: &Host, name: &'a [u8], bytes: &'a [u8]) {
+    if host.silent.get() {
         return;
     }
-    complain(name, b"standard output");
-    fall_silent();
+    settle(host, name, host.rt.write_all(bytes));
 }
 
-pub fn write_number(name: &[u8], n: u64) {
-    let mut digits = [0u8; 20];
-    let count = io::decimal(n, &mut digits);
-    write(name, &digits[..count]);
+pub fn write_number(host: &Host, name: &[u8], n: u64) {
+    if host.silent.get() {
+        return;
+    }
+    settle(host, name, host.rt.print(n));
 }
 
 // Writes the words of a number, from 0: each has a line of the table. A number past the last one has none.
-pub fn write_entry<'a>(name: &'a [u8], table: &'a [u8], n: u8) {
+pub fn write_entry<'a>(host: &Host, name: &'a [u8], table: &'a [u8], n: u8) {
     let mut line = 0;
     let mut start = 0;
     for i in 0..table.len() {
@@ -65,7 +106,7 @@ pub fn write_entry<'a>(name: &'a [u8], table: &'a [u8], n: u8) {
             continue;
         }
         if line == n as usize {
-            write(name, &table[start..i]);
+            write(host, name, &table[start..i]);
             return;
         }
         line += 1;
@@ -123,14 +164,35 @@ fn kind_of(word: &[u8], options: &[u8]) -> Kind {
     Kind::Unknown
 }
 
-fn kind_at(i: usize, options: &[u8]) -> Kind {
-    let mut word = io::buffer();
-    let n = os::arg(i, &mut word);
+// How many words there are, the program's own name among them.
+fn word_count(host: &Host) -> usize {
+    for i in 0..usize::MAX {
+        let mut none = [0u8; 1];
+        if let Err(FillError::NotPresent) = host.rt.arg(i, &mut none) {
+            return i;
+        }
+    }
+    usize::MAX
+}
+
+// A word, at the front of the room: how many codes it has, 0 if it has more than the room takes.
+fn word_at(host: &Host, i: usize, room: &mut [u8]) -> usize
+    ensures { IsPrefixLen result room.new }
+{
+    match host.rt.arg(i, room) {
+        Ok(n) => n,
+        Err(_) => 0,
+    }
+}
+
+fn kind_at(host: &Host, i: usize, options: &[u8]) -> Kind {
+    let mut word = [0u8; 4096];
+    let n = word_at(host, i, &mut word);
     kind_of(&word[..n], options)
 }
 
-fn is_given_at(i: usize, option: &[u8]) -> bool {
-    match kind_at(i, option) {
+fn is_given_at(host: &Host, i: usize, option: &[u8]) -> bool {
+    match kind_at(host, i, option) {
         Kind::Option => true,
         Kind::File => false,
         Kind::Unknown => false,
@@ -138,17 +200,17 @@ fn is_given_at(i: usize, option: &[u8]) -> bool {
 }
 
 // Whether an option is among the words. It is named as in a table, with its line feed.
-pub fn is_given(option: &[u8]) -> bool {
-    for i in 1..os::arg_count() {
-        if is_given_at(i, option) {
+pub fn is_given(host: &Host, option: &[u8]) -> bool {
+    for i in 1..word_count(host) {
+        if is_given_at(host, i, option) {
             return true;
         }
     }
     false
 }
 
-fn is_file_at(i: usize) -> bool {
-    match kind_at(i, b"") {
+fn is_file_at(host: &Host, i: usize) -> bool {
+    match kind_at(host, i, b"") {
         Kind::Option => false,
         Kind::File => true,
         Kind::Unknown => false,
@@ -156,9 +218,9 @@ fn is_file_at(i: usize) -> bool {
 }
 
 // Which word names a file.
-fn file_word() -> usize {
-    for i in 1..os::arg_count() {
-        if is_file_at(i) {
+fn file_word(host: &Host) -> usize {
+    for i in 1..word_count(host) {
+        if is_file_at(host, i) {
             return i;
         }
     }
@@ -166,10 +228,10 @@ fn file_word() -> usize {
 }
 
 // The first word that a program does not take which knows these options and reads a file or none.
-fn refused_word(options: &[u8], reads: bool) -> usize {
+fn refused_word(host: &Host, options: &[u8], reads: bool) -> usize {
     let mut wanted = reads;
-    for i in 1..os::arg_count() {
-        match kind_at(i, options) {
+    for i in 1..word_count(host) {
+        match kind_at(host, i, options) {
             Kind::Option => {}
             Kind::File => {
                 if !wanted {
@@ -197,48 +259,74 @@ fn first_line(text: &[u8]) -> usize
     0
 }
 
-fn tell_word(i: usize) {
-    let mut word = io::buffer();
-    let n = os::arg(i, &mut word);
-    tell(&word[..n]);
+fn tell_word(host: &Host, i: usize) {
+    let mut word = [0u8; 4096];
+    let n = word_at(host, i, &mut word);
+    tell(host, &word[..n]);
 }
 
-fn refuse(usage: &[u8], i: usize) {
+fn refuse(host: &Host, usage: &[u8], i: usize) {
     let n = first_line(usage);
-    tell(&usage[..n]);
-    tell(b"this word is not taken: ");
-    tell_word(i);
-    tell(b"\n");
+    tell(host, &usage[..n]);
+    tell(host, b"this word is not taken: ");
+    tell_word(host, i);
+    tell(host, b"\n");
 }
 
 // All of a usage but its first line, on standard error, where a program's input asks for help.
-pub fn tell_help(usage: &[u8]) {
+pub fn tell_help(host: &Host, usage: &[u8]) {
     let n = first_line(usage);
-    tell(&usage[n..]);
+    tell(host, &usage[n..]);
 }
 
 // Whether a program can go on with its words. If not it is done: help was asked for and is written, or a word was refused.
-pub fn accepts<'a>(name: &'a [u8], usage: &'a [u8], options: &'a [u8], reads: bool) -> bool {
-    if is_given(b"--help\n") {
-        write(name, usage);
+pub fn accepts<'a>(
+    host: &Host,
+    name: &'a [u8],
+    usage: &'a [u8],
+    options: &'a [u8],
+    reads: bool,
+) -> bool {
+    if is_given(host, b"--help\n") {
+        write(host, name, usage);
         return false;
     }
-    let refused = refused_word(options, reads);
+    let refused = refused_word(host, options, reads);
     if refused == 0 {
         return true;
     }
-    refuse(usage, refused);
+    refuse(host, usage, refused);
     false
 }
 
 // Input.
 
-// A file that was opened by its name, or standard input, which has none.
-#[derive(Clone, Copy)]
+#[derive(Drop)]
+enum Source {
+    Standard(Stdin),
+    Opened(File),
+}
+
+// A file that was opened by its name, or standard input, which has none; and why the last call failed that did.
+#[derive(Drop)]
 pub struct Input {
-    pub descriptor: i32,
+    source: Source,
     pub name: [u8; 4096],
     pub length: usize,
+    error: Error,
+}
+
+impl Read for Input {
+    fn read(&mut self, buf: &mut [u8]) -> io::Result<usize> {
+        let got = match &mut self.source {
+            Source::Standard(stdin) => stdin.read(buf),
+            Source::Opened(file) => file.read(buf),
+        };
+        if let Err(error) = &got {
+            self.error = *error;
+        }
+        got
+    }
 }
 
 // What an input is called: the first n codes of its path, or by the other name where it has none.
@@ -253,43 +341,59 @@ fn called<'a>(path: &'a [u8], n: usize, unnamed: &'a [u8]) -> &'a [u8] {
 }
 
 // Complains of an input on which the last call failed.
-pub fn complain_of(name: &[u8], input: Input) {
-    complain(name, called(&input.name, input.length, b"standard input"));
+pub fn complain_of(host: &Host, name: &[u8], input: &Input) {
+    complain(
+        host,
+        name,
+        called(&input.name, input.length, b"standard input"),
+        &input.error,
+    );
 }
 
 // Says why a program does not take an input, on which no call failed.
-pub fn refuse_input(name: &[u8], input: Input, why: &[u8]) {
-    tell(name);
-    tell(b": ");
-    tell(called(&input.name, input.length, b"standard input"));
-    tell(b": ");
-    tell(why);
-    tell(b"\n");
+pub fn refuse_input(host: &Host, name: &[u8], input: &Input, why: &[u8]) {
+    tell(host, name);
+    tell(host, b": ");
+    tell(host, called(&input.name, input.length, b"standard input"));
+    tell(host, b": ");
+    tell(host, why);
+    tell(host, b"\n");
 }
 
-// The file that the words name, or standard input if they name none. A file that can't be opened is complained of, and has a
-// descriptor below 0.
-pub fn open_input(name: &[u8]) -> Input {
-    let mut path = io::buffer();
-    let i = file_word();
+// A path is text.
+fn open(host: &Host, path: &[u8]) -> io::Result<File> {
+    match str::from_utf8(path) {
+        Ok(path) => File::open(&host.rt, path),
+        Err(_) => Err(Error::from_raw_os_error(NO_TEXT)),
+    }
+}
+
+// The file that the words name, or standard input if they name none. A file that can't be opened is complained of, and is no
+// input.
+pub fn open_input(host: &Host, name: &[u8]) -> Option<Input> {
+    let mut path = [0u8; 4096];
+    let i = file_word(host);
     if i == 0 {
-        return Input {
-            descriptor: STDIN_FILENO,
+        return Some(Input {
+            source: Source::Standard(host.rt.stdin()),
             name: path,
             length: 0,
-        };
+            error: Error::from_raw_os_error(0),
+        });
     }
-    let n = os::arg(i, &mut path);
-    let descriptor = os::open_read(&path[..n]);
-    let input = Input {
-        descriptor: descriptor,
-        name: path,
-        length: n,
-    };
-    if descriptor < 0 {
-        complain_of(name, input);
+    let n = word_at(host, i, &mut path);
+    match open(host, &path[..n]) {
+        Ok(file) => Some(Input {
+            source: Source::Opened(file),
+            name: path,
+            length: n,
+            error: Error::from_raw_os_error(0),
+        }),
+        Err(error) => {
+            complain(host, name, called(&path, n, b"standard input"), &error);
+            None
+        }
     }
-    input
 }
 
 // How long a piece is that was read, 0 at the end of the input; and whether it could not be read.
@@ -300,26 +404,31 @@ pub struct Piece {
 }
 
 // Reads a piece of an input, and complains if that fails.
-pub fn read_piece(name: &[u8], input: Input, piece: &mut [u8]) -> Piece
+pub fn read_piece(host: &Host, name: &[u8], input: &mut Input, piece: &mut [u8]) -> Piece
     ensures { IsPrefixLen result.length piece.new }
 {
-    let got = libc::read(input.descriptor, piece);
-    if got < 0 {
-        complain_of(name, input);
-    }
-    Piece {
-        length: io::count(got, piece),
-        failed: got < 0,
+    match input.read(piece) {
+        Ok(n) => Piece {
+            length: n,
+            failed: false,
+        },
+        Err(_) => {
+            complain_of(host, name, input);
+            Piece {
+                length: 0,
+                failed: true,
+            }
+        }
     }
 }
 
 // The word that is no option, at the front of the room: how many codes it has, 0 if there is none.
-pub fn read_word(room: &mut [u8]) -> usize
+pub fn read_word(host: &Host, room: &mut [u8]) -> usize
     ensures { IsPrefixLen result room.new }
 {
-    let i = file_word();
+    let i = file_word(host);
     if i == 0 {
         return 0;
     }
-    os::arg(i, room)
+    word_at(host, i, room)
 }

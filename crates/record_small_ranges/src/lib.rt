@@ -1,6 +1,7 @@
 // Whether the small fields of a record, all but its arrays, are within their ranges: the definitions of document 01's table are the
 // record's.
 #![tactic(auto)]
+
 ghost use Rattle.std.specs.Prelude.{◌≡◌, true};
 ghost use Rattle.record.specs.Range.{mode_in_range, overlay_in_range, cursor_in_range, icons_in_range, volume_in_range, times_in_range, buzzer_in_range, backlight_in_range, contrast_in_range, inverse_in_range, held_in_range, sister_times, sister_backlight, held_unused};
 ghost use Rattle.record_small_ranges.specs.Small.{small_in_range, small_kept};

@@ -1,5 +1,6 @@
 // The seconds of the backlight: a call each second lowers those that are left.
 #![tactic(auto)]
+
 ghost use Rattle.std.specs.Prelude.{◌≡◌, ◌-◌};
 ghost use Rattle.record.specs.Parts.{together};
 ghost use Rattle.seconds.specs.Seconds.{lowered, light_passed, passed, lent_of};

@@ -1,5 +1,6 @@
 // The two panels of the icon bar, from the icons and the volume. The definitions are document 01's, in specs/Panels.antt.
 #![tactic(auto)]
+
 ghost use Rattle.std.specs.Prelude.{◌≡◌};
 ghost use Rattle.seen_panels.specs.Panels.{unread_lit, sms_panel, volume_panel};
 

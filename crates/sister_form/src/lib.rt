@@ -1,6 +1,7 @@
 // A command of the sister as her table of the good frames has it (sister_command's specs/Grammar.antt): which of its numbers is out of
 // range, and what is written for it. What her table has as the first edition's is handed on to command_form.
 #![tactic(auto)]
+
 ghost use Rattle.std.specs.Prelude.{◌≡◌, [], ◌∷◌, ◌++◌, ◌≤◌, leb, length};
 ghost use Rattle.numeral.specs.Numeral.{decimal};
 ghost use Rattle.line.specs.Lines.{empty_line, added};

@@ -1,12 +1,14 @@
 // Reads a stream from an input to its end and feeds it to a handset, in pieces, as a cord would bring it.
 // What an input brings can't be promised; but there are bytes of which the record handed back is the reading.
 #![tactic(auto)]
+
 ghost use Rattle.std.specs.Prelude.{◌≡◌, true, false, List, ℕ};
 ghost use Rattle.record.specs.Range.{in_range};
 ghost use Rattle.picture.specs.Data.{Bytes};
 ghost use Rattle.stream_input.specs.Heard.{capped, record_after, replies_to, call_of, counted, heard_after, Hears};
 
 use record::Record;
+use std::io::Read;
 use stream::Fed;
 
 // Any room does that takes the longest answer, the sister's version of 31 bytes.
@@ -89,21 +91,26 @@ struct Turn {
     failed: bool,
 }
 
-fn hear_once(descriptor: i32, heard: Heard) -> Turn
+fn hear_once<R: Read>(input: &mut R, heard: Heard) -> Turn
     ensures { Hears heard result.heard }
 {
-    let mut buffer = io::buffer();
-    let got = libc::read(descriptor, &mut buffer);
-    let n = io::count(got, &buffer);
-    Turn {
-        heard: hear_piece(heard, &buffer[..n]),
-        ended: n == 0,
-        failed: got < 0,
+    let mut buffer = [0u8; 4096];
+    match input.read(&mut buffer) {
+        Ok(n) => Turn {
+            heard: hear_piece(heard, &buffer[..n]),
+            ended: n == 0,
+            failed: false,
+        },
+        Err(_) => Turn {
+            heard: heard,
+            ended: true,
+            failed: true,
+        },
     }
 }
 
 // Reads an input to its end, or to where it fails, from this record.
-pub fn hear(descriptor: i32, r: Record) -> Heard
+pub fn hear<R: Read>(input: &mut R, r: Record) -> Heard
     ensures heard { in_range r ≡ true → (bytes : List ℕ) × Bytes bytes × (result.record ≡ record_after r bytes) × (result.replies ≡ capped (replies_to r bytes)) }
     ensures refused { in_range r ≡ false → (result.record ≡ r) × (result.replies ≡ 0) }
 {
@@ -114,7 +121,7 @@ pub fn hear(descriptor: i32, r: Record) -> Heard
     };
     let mut turns: u64 = 0xFFFF_FFFF_FFFF_FFFF;
     while 0 < turns {
-        let turn = hear_once(descriptor, heard);
+        let turn = hear_once(input, heard);
         let after = turn.heard;
         heard = after;
         if turn.ended {
