@@ -1,5 +1,6 @@
 // What a number does to the screen and to the volume: IDn, and ILn and IJn. specs/Modes.antt has document 01's words.
 #![tactic(auto)]
+
 ghost use Rattle.std.specs.Prelude.{◌≡◌};
 ghost use Rattle.effect_modes.specs.Modes.{in_mode, to_mode, at_level};
 

@@ -1,6 +1,7 @@
 // Enums by number, as they cross to C: a function for each table of specs/Numbers.antt, and nothing else. The rules of the
 // choice screen have the numbers that `choice` gives them. include/handset.h has the same tables.
 #![tactic(auto)]
+
 ghost use Rattle.std.specs.Prelude.{◌≡◌};
 ghost use Rattle.choice.specs.Rules.{rule_number};
 ghost use Rattle.handset_numbers.specs.Numbers.{phase_of, side_of, command_of, sister_command_of, sms_number, volume_numbers, owner_numbers, shown_numbers, verdict_numbers, kind_number};

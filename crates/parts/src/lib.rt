@@ -1,6 +1,7 @@
 // The part of a stream that stands at a place: what it is, where it ends, where a frame's body lies. What there is to tell is the
 // parting's, in specs/Parts.antt; that all the parts, told one after the other, are the parting is in specs/Laws.antt.
 #![tactic(auto)]
+
 ghost use Rattle.std.specs.Prelude.{◌≡◌, [], ◌+◌, ◌<◌, length, drop};
 ghost use Rattle.parting.specs.Cut.{inside, cut};
 ghost use Rattle.parts.specs.Parts.{first_part, part_at};

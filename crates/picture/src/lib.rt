@@ -1,6 +1,7 @@
 // The data of a picture frame, read as columns. The crate encoding writes it, by the definitions here.
 // An item is two digits 0-9 A-F, one column, or a letter a to y before them, 2 to 26 equal columns; the top dot is the lowest bit.
 #![tactic(auto)]
+
 ghost use Rattle.std.specs.Prelude.{◌≡◌, ◌+◌, ◌*◌, ◌≤◌, ◌<◌, [], length, replicate};
 ghost use Rattle.std.proofs.lemmas.List.Edits.{sets};
 ghost use Rattle.lists.specs.Padded.{padded};

@@ -1,5 +1,6 @@
 // The data of a picture frame, written from columns. What it has to be stands in picture's specs/Writing.antt.
 #![tactic(auto)]
+
 ghost use Rattle.std.specs.Prelude.{◌≡◌, ◌+◌, ◌*◌, ◌≤◌, ◌<◌, [], length};
 ghost use Rattle.std.proofs.lemmas.List.Edits.{sets};
 ghost use Rattle.lists.specs.Padded.{padded};

@@ -1,5 +1,6 @@
 // Whether each field of a record is within its range: the definitions of document 01's table are the record's.
 #![tactic(auto)]
+
 ghost use Rattle.std.specs.Prelude.{◌≡◌, ◌≤◌, length, ◌&&◌};
 ghost use Rattle.lists.specs.Every.{every};
 ghost use Rattle.record_ranges.specs.Editions.{first_asked, sister_asked};

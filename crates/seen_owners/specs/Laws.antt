@@ -2,7 +2,7 @@
 -- names a row that the record has. Assumes nothing.
 use Rattle.std.specs.Prelude.{ℕ, ◌-◌, ◌≤◌, ◌<◌, ◌≡◌, refl, true, false, cond, ◌&&◌, leb, eqb}
 use Prim.Native.Char.{code}
-use Rattle.std.proofs.Common.{arith, sym, ap, ◌∙◌, true≢false, leb-true, lt-ltb}
+use Rattle.std.proofs.Common.{arith, sym, ap, true≢false, leb-true, lt-ltb}
 use Rattle.std.proofs.Math.Bool.{and-false}
 use Rattle.lists.specs.Tests.{either_way}
 use Rattle.lists.specs.Both.{both}

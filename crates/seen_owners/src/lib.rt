@@ -1,5 +1,6 @@
 // Who owns each display row and each column of it. The table of specs/Table.antt is the definition; the code has the same letters.
 #![tactic(auto)]
+
 ghost use Rattle.std.specs.Prelude.{◌≡◌, ◌≤◌, ◌<◌};
 ghost use Rattle.seen_owners.specs.Table.{letter_in, mode_line, line_of, letter_at, by_letter, owner_of_row, is_rocker, rocker_or, owner_on};
 

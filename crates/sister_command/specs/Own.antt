@@ -1,7 +1,6 @@
 -- WHAT IS HER OWN AND WHAT IS SHARED: a frame of the sister's spells a command of her own, or it is read as the first edition's. Assumes nothing.
 use Rattle.std.specs.Prelude.{ℕ, Bool, true, false, List, ◌≡◌, refl, drop}
-use Rattle.std.proofs.Common.{arith, true≢false, sym, ◌∙◌}
-use Rattle.std.proofs.Math.Option.{some}
+use Rattle.std.proofs.Common.{arith, true≢false, sym}
 use Rattle.lists.specs.Tests.{by_test}
 use Rattle.frame_table.specs.Reader as commands
 use Rattle.command.specs.First.{opens_label}
@@ -10,10 +9,9 @@ use Rattle.command.specs.Found.{label_by}
 use Rattle.command.specs.Reading.{read_of, opens_picture, order_read, order_found, order_of}
 use Rattle.command.specs.declared.Side.{Side}
 use Rattle.command.specs.declared.Reading.TheVariants.{Label}
-use Rattle.sister_command.specs.Order.{AnyOrder}
 use Rattle.sister_command.specs.Sister.{sister, tested}
 use Rattle.sister_command.specs.Sister as said
-use Rattle.sister_command.specs.Reading.{sister_read, order_said, as_first, sister_order_of, as_reading, shared_read, read_in, own_said, own_found, is_own_reading, is_own}
+use Rattle.sister_command.specs.Reading.{sister_read, order_said, as_first, sister_order_of, as_reading, shared_read, read_in, own_found, is_own_reading, is_own}
 use Rattle.sister_command.specs.declared.SisterCommand.{SisterCommand}
 use Rattle.sister_command.specs.declared.SisterReading.{SisterReading}
 use Rattle.sister_command.specs.declared.SisterReading.TheVariants.{Bad, Shared, Own}

@@ -2,6 +2,7 @@
 // edition's, which she spells in her own way, or one of her own. Her labels and pictures are the first edition's.
 // The grammar is in specs/Grammar.antt, which knows nothing of this reader.
 #![tactic(auto)]
+
 ghost use Rattle.std.specs.Prelude.{◌≡◌};
 ghost use Rattle.sister_command.specs.Pick.{as_shared, asked_or, stepped_or, mode_of, light_of, after_i, after_and, after_k, command_of};
 ghost use Rattle.sister_command.specs.Reading.{sister_read, shared_read, is_own};
@@ -134,6 +135,7 @@ fn shared(found: Reading) -> SisterReading
 }
 
 // A question, or what else the frame says.
+#[tactic(auto, unfolding(crate::specs::Pick::asked_or))]
 fn asked_or(sign: u8, question: Question, other: SisterReading) -> SisterReading
     ensures same { result ≡ asked_or sign question other }
 {
@@ -144,6 +146,7 @@ fn asked_or(sign: u8, question: Question, other: SisterReading) -> SisterReading
 }
 
 // A question, a step, or what else the frame says.
+#[tactic(auto, unfolding(crate::specs::Pick::stepped_or))]
 fn stepped_or(
     sign: u8,
     question: Question,
@@ -162,6 +165,7 @@ fn stepped_or(
 }
 
 // After IDM: a letter, a question, or a number.
+#[tactic(auto, unfolding(crate::specs::Pick::mode_of))]
 fn mode(sign: u8, n: u16) -> SisterReading
     ensures same { result ≡ mode_of sign n }
 {
@@ -174,6 +178,7 @@ fn mode(sign: u8, n: u16) -> SisterReading
 }
 
 // After IE: a letter, a question, or a number.
+#[tactic(auto, unfolding(crate::specs::Pick::light_of))]
 fn light(sign: u8, n: u16) -> SisterReading
     ensures same { result ≡ light_of sign n }
 {
@@ -193,6 +198,7 @@ fn light(sign: u8, n: u16) -> SisterReading
 }
 
 // The byte after I picks the command; after ID the fourth byte does. Letters that only a number follows are the first edition's, save U.
+#[tactic(auto, unfolding(crate::specs::Pick::after_i))]
 fn after_i(letter: u8, sign: u8, next: u8, before: u16, last: u16) -> SisterReading
     ensures same { result ≡ after_i letter sign next before last }
 {
@@ -232,6 +238,7 @@ fn after_i(letter: u8, sign: u8, next: u8, before: u16, last: u16) -> SisterRead
 }
 
 // After &.
+#[tactic(auto, unfolding(crate::specs::Pick::after_and))]
 fn after_and(letter: u8, sign: u8, before: u16, last: u16) -> SisterReading
     ensures same { result ≡ after_and letter sign before last }
 {
@@ -251,6 +258,7 @@ fn after_and(letter: u8, sign: u8, before: u16, last: u16) -> SisterReading
 }
 
 // After K: H or P.
+#[tactic(auto, unfolding(crate::specs::Pick::after_k))]
 fn after_k(letter: u8) -> SisterReading
     ensures same { result ≡ after_k letter }
 {
@@ -261,6 +269,7 @@ fn after_k(letter: u8) -> SisterReading
 }
 
 // The command of a good frame, by its first four bytes and its numbers.
+#[tactic(auto, unfolding(crate::specs::Pick::command_of))]
 fn command_of(first: u8, second: u8, third: u8, fourth: u8, before: u16, last: u16) -> SisterReading
     ensures same { result ≡ command_of first second third fourth before last }
 {

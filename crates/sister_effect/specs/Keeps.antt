@@ -1,6 +1,6 @@
 -- WHATEVER A FRAME ORDERS IN EITHER EDITION, the core stays within its ranges. Assumes nothing.
-use Rattle.std.specs.Prelude.{ℕ, zero, suc, ◌+◌, ◌-◌, ◌≤◌, Bool, true, false, cond, not, ◌&&◌, ◌||◌, List, ◌≡◌, refl, leb, eqb}
-use Rattle.std.proofs.Common.{arith, true≢false, sym, ap, ◌∙◌, subst, leb-true, leb-false, le-leb, eqb-true, eq-eqb}
+use Rattle.std.specs.Prelude.{ℕ, zero, suc, ◌+◌, ◌-◌, ◌≤◌, Bool, true, false, not, ◌&&◌, ◌||◌, List, ◌≡◌, refl, leb, eqb}
+use Rattle.std.proofs.Common.{arith, true≢false, sym, ◌∙◌, subst, leb-true, leb-false, le-leb}
 use Rattle.std.proofs.Math.Bool.{or-true}
 use Rattle.std.proofs.Math.Option.{Option, none, some}
 use Rattle.std.proofs.lemmas.Bool.{eqb-false}
@@ -9,9 +9,9 @@ use Rattle.lists.specs.Tests.{by_test, either_way}
 use Rattle.record.specs.declared.Backlight.{Backlight}
 use Rattle.record.specs.declared.Edition.{Edition}
 use Rattle.record.specs.Laws.{ranges, not_so, shown_set, times_set, backlight_set, contrast_set, sister_with_in_range}
-use Rattle.record.specs.Range.{off, on, auto, mode_in_range, icon_u_in_range, duration_in_range, backlight_in_range, sister_times, sister_backlight, sister_contrast, brightness_in_range, speaker_in_range, keys_in_range, edition_kept, times_in_range, time1_in_range, time2_in_range}
-use Rattle.record.specs.With.{with_light, with_keypad, with_duration, with_icon_u, with_brightness, with_speaker, with_pwm}
-use Rattle.record.specs.Core.{Core, core_of, on_backlight, on_edition}
+use Rattle.record.specs.Range.{off, on, auto, mode_in_range, icon_u_in_range, duration_in_range, backlight_in_range, sister_times, sister_backlight, sister_contrast, brightness_in_range, speaker_in_range, keys_in_range, time1_in_range, time2_in_range}
+use Rattle.record.specs.With.{with_light, with_keypad, with_duration, with_icon_u}
+use Rattle.record.specs.Core.{Core, on_backlight, on_edition}
 use Rattle.record.specs.PowerOn.{sister_with}
 use Rattle.command.specs.Ranges.{is_overlay}
 use Rattle.command.specs.Order.{Order, plain, label, draw}

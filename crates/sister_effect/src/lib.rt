@@ -1,6 +1,7 @@
 // What an obeyed frame does in the sister's edition. specs/Effect.antt has her own commands line by line; the others are the first edition's.
 // The text and the picture are changed in place; all that is small goes by value.
 #![tactic(auto)]
+
 ghost use Rattle.std.specs.Prelude.{◌≡◌, true, false, cond, List, [], ℕ, ◌≤◌, eqb};
 ghost use Rattle.std.proofs.Math.Option.{some};
 ghost use Rattle.record.specs.Core.{core_of};

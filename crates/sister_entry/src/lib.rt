@@ -1,6 +1,7 @@
 // One entry of the sister handset's key log: a press, a release or a poll at a tick reading, and the message it sends to the host.
 // The rules are request T-06's, in specs/Rules.antt; the set of keys that are down is specs/Keys.antt.
 #![tactic(auto)]
+
 ghost use Rattle.std.specs.Prelude.{◌≡◌};
 ghost use Rattle.sister_entry.specs.Keys.{bit_of, is_down, with_key, without_key};
 ghost use Rattle.sister_entry.specs.Rules.{is_release, sign_of, is_held, started, pressed_beside, key_pressed, left_down, key_released, due as dueOf, long_since, polled, lifted, put_back, ptt_pressed, ptt_released, pressed, released, entered, keyed};

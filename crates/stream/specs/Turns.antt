@@ -1,5 +1,5 @@
 -- The turns of the reader's loop: what each kind of byte does to the state that the loop's locals stand for. Assumes nothing.
-use Rattle.std.specs.Prelude.{ℕ, suc, ◌+◌, ◌-◌, ◌*◌, ◌≤◌, ◌<◌, ◌≡◌, refl, Bool, true, false, cond, ◌&&◌, List, [], ◌∷◌, ◌++◌, eqb, ltb, leb, length, take, set, get_or, replicate}
+use Rattle.std.specs.Prelude.{ℕ, ◌+◌, ◌-◌, ◌*◌, ◌≤◌, ◌<◌, ◌≡◌, refl, Bool, true, false, cond, ◌&&◌, List, [], ◌∷◌, ◌++◌, eqb, ltb, leb, length, take, set, get_or, replicate}
 use Rattle.std.proofs.Common.{arith, add-one, sym, ap, ◌∙◌, subst, true≢false, length-set, take-suc-set, length-take-le, eqb-true, eq-eqb, ne_eqb, lt-ltb, le-ltb, ltb-true, leb-true, leb-false}
 use Rattle.std.proofs.Math.Option.{Option, none, some}
 use Rattle.std.proofs.lemmas.Bool.{eqb-false}
@@ -28,7 +28,7 @@ use Rattle.command.specs.Order.{Order}
 use Rattle.command.specs.Reading.{order_found}
 use Rattle.command.specs.Table.{classes, next_states}
 use Rattle.command.specs.Found.{order_by_lem}
-use Rattle.answer.specs.Answers.{answer_bytes, is_silence, fits, count_after, buffer_after}
+use Rattle.answer.specs.Answers.{is_silence, fits, count_after, buffer_after}
 use Rattle.answer.specs.Laws.{answer_not_empty}
 use Rattle.answer.specs.declared.Answer.{Answer}
 use Rattle.answer.specs.declared.Answer.TheVariants.{Silence, QuestionMark, Contrast, Hook, Version}

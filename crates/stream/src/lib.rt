@@ -1,6 +1,7 @@
 // The stream call: bytes in, the record and answers out. It is the parting's run at the handset's meaning.
 // It is done on lent arrays, in place, so that a short call copies nothing large; `stream_by_value` has the same call on a record by value.
 #![tactic(auto)]
+
 ghost use Rattle.std.specs.Prelude.{◌≡◌, ℕ, ◌≤◌, ◌<◌, ◌+◌, length, get_or, true, false};
 ghost use Rattle.lists.specs.Codes.{escape, carriage_return, blank};
 ghost use Rattle.parting.specs.Rules.{limit};

@@ -1,5 +1,6 @@
 // The stream call on a record by value: it lends the record's arrays to `stream` and puts the record together again.
 #![tactic(auto)]
+
 ghost use Rattle.std.specs.Prelude.{◌≡◌, length};
 ghost use Rattle.record.specs.Parts.{together};
 ghost use Rattle.stream.specs.Stream.{fed_of, answers_after};

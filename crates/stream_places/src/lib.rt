@@ -1,5 +1,6 @@
 // Places of a frame that are not used.
 #![tactic(auto)]
+
 ghost use Rattle.std.specs.Prelude.{◌≡◌};
 ghost use Rattle.stream_places.specs.Places.{emptied};
 

@@ -1,6 +1,6 @@
 -- READING BACK: what is written for a command, a label or a picture row in range spells exactly that in its edition, and its bytes part into
 -- that one closed frame and one skipped LF. Assumes nothing.
-use Rattle.std.specs.Prelude.{ℕ, ◌<◌, ◌≤◌, Bool, true, false, cond, List, [], ◌∷◌, ◌++◌, ◌≡◌, refl, length, take, drop}
+use Rattle.std.specs.Prelude.{ℕ, ◌≤◌, Bool, true, false, cond, List, [], ◌∷◌, ◌≡◌, refl, length, take, drop}
 use Rattle.std.proofs.Common.{arith, true≢false, append_assoc, sym, ◌∙◌, ap, subst}
 use Rattle.lists.specs.Codes.{carriage_return, line_feed}
 use Rattle.lists.specs.Both.{both}

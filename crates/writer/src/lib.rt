@@ -3,6 +3,7 @@
 // A frame is built once, in a line of its own, and copied once into the lent room. One that is out of range or finds no room
 // leaves the room as it was.
 #![tactic(auto)]
+
 ghost use Rattle.std.specs.Prelude.{◌≡◌, true, [], ◌∷◌, ◌++◌, ◌+◌, ◌≤◌, length};
 ghost use Rattle.lists.specs.Codes.{escape, carriage_return, line_feed};
 ghost use Rattle.line.specs.Lines.{held, empty_line};

@@ -1,5 +1,6 @@
 // Whether a label and a picture row are fit to be written: document 01's number 2, in specs/Fitting.antt.
 #![tactic(auto)]
+
 ghost use Rattle.std.specs.Prelude.{◌≡◌};
 ghost use Rattle.lists.specs.Every.{every};
 ghost use Rattle.writer_ranges.specs.Fitting.{is_label, is_row, test_of};
@@ -36,6 +37,7 @@ fn all_pass(s: &[u8], kind: Kind) -> bool
     ok
 }
 
+#[tactic(auto, unfolding(crate::specs::Fitting::is_label))]
 pub fn label_in_range(codes: &[u8]) -> bool
     ensures same { result ≡ is_label codes.now }
 {
@@ -46,6 +48,7 @@ pub fn label_in_range(codes: &[u8]) -> bool
 }
 
 // The columns are looked at only in row 6, and only if they are at most 96.
+#[tactic(auto, unfolding(crate::specs::Fitting::is_row))]
 pub fn row_in_range(row: u8, columns: &[u8]) -> bool
     ensures same { result ≡ is_row row columns.now }
 {

@@ -1,9 +1,0 @@
--- 0 is lit, any other the pause. Assumes nothing.
-use borrow.Author.Tests.{ne_eqb}
-use Rattle.handset_numbers.proofs.phase_of.Statement.{statement}
-use Rattle.handset_numbers.proofs.phase_of.Tie as tie
-
-pub phase_of_spec : {M : Type 1} → statement M
-phase_of_spec = tie.close (tie.spec
-    (λ c. rw c.if1.true)
-    (λ c. rw (ne_eqb c.before.args.n 0 c.if1.false)))

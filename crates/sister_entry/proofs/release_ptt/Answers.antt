@@ -1,0 +1,11 @@
+-- `sister_entry::release_ptt` keeps its promise. Assumes nothing.
+use Rattle.sister_entry.specs.Rules.{sign_of, ptt_released}
+use Rattle.sister_entry.proofs.release_ptt.Goals as goal
+
+pub returns-then-was : goal.returns-then-was
+unfolding sign_of ptt_released
+returns-then-was c = rw c.if-was.true
+
+pub returns : goal.returns
+unfolding sign_of ptt_released
+returns c = rw c.if-was.false
