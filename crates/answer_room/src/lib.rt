@@ -1,6 +1,7 @@
 // How much room for answers a stream call can need, told before it is made: by the ESC bytes that are offered and the frame that is
 // open, each a mark of the record's edition. It holds where no frame is a question.
 #![tactic(auto)]
+
 ghost use Rattle.std.specs.Prelude.{◌≡◌};
 ghost use Rattle.record.specs.Parts.{together};
 ghost use Rattle.parting.specs.Count.{escapes};

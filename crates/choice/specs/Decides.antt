@@ -26,7 +26,7 @@ use Rattle.choice.specs.declared.Choice.{Choice}
 use Rattle.choice.specs.declared.Rule.{Rule}
 use Rattle.choice.specs.declared.Rule.TheVariants.{None, NoScreen, LabelMissing, QuestionMark, FrameOpen}
 use Rattle.choice.specs.Signs.{command_sign, label_sign, frame_sign, part_sign, first_sign, opens_choice, asks_labels, is_check, left_after, right_after}
-use Rattle.choice.specs.Rules.{sign_at, until_check, from_check, left_stands, right_stands, wanted_at, Broken, no_screen, label_missing, question_mark, frame_open, Earliest, Told, rule_number, Says}
+use Rattle.choice.specs.Rules.{sign_at, until_check, from_check, left_stands, right_stands, wanted_at, Broken, no_screen, label_missing, question_mark, frame_open, Told, rule_number, Says}
 use Rattle.choice.specs.Choice.{calm, after, wanted, broken_by, is_zero, is_fine, answer_of, judged_from, judged_all, choice_of}
 
 -- ANSWERS, of anything that can be broken at offsets -----------------------------------------------------------------------

@@ -1,5 +1,5 @@
 -- WHAT A PART IS TO THE RULES of the choice screen, by the order that a closed frame spells. Assumes nothing.
-use Rattle.std.specs.Prelude.{ℕ, Bool, true, false, not, cond, ◌||◌, List, [], ◌∷◌, eqb, ltb, length}
+use Rattle.std.specs.Prelude.{ℕ, Bool, true, false, cond, ◌||◌, List, eqb, ltb, length}
 use Rattle.std.proofs.Math.Option.{Option, none, some}
 use Rattle.record.specs.Range.{mode_in_range}
 use Rattle.command.specs.Order.{Order, plain, label, draw}

@@ -1,6 +1,7 @@
 // Whether a collector's stream keeps the shop's four rules for screens that ask for a choice. The rules stand in specs/Rules.antt, over
 // the parting and without this code; specs/Choice.antt has what is computed, specs/Decides.antt that it is what the rules say.
 #![tactic(auto)]
+
 ghost use Rattle.std.specs.Prelude.{◌≡◌, drop};
 ghost use Rattle.record.specs.Range.{mode_in_range};
 ghost use Rattle.command.specs.Reading.{order_of};

@@ -2,6 +2,7 @@
 // What an entry does is in the crates `key_entry` and `sister_entry`; the call's promise is in specs/Log.antt.
 // It is done on a record in parts, whose arrays it only looks at; `take_log` is the same call on a record by value.
 #![tactic(auto)]
+
 ghost use Rattle.std.specs.Prelude.{◌≡◌, true, false, length};
 ghost use Rattle.record.specs.Parts.{together};
 ghost use Rattle.key_log.specs.Log.{outcome, handed_back, lent_of, buffer_after, refused_with, done_with, sister_done_with, Takes};

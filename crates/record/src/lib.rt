@@ -1,6 +1,7 @@
 // The record: all that the handset keeps between two calls. The range of each field is document 01's table, in specs/Range.antt: the
 // crate `record_ranges` asks whether a record keeps to it, and commands are judged by the same definitions.
 #![tactic(auto)]
+
 ghost use Rattle.std.specs.Prelude.{◌≡◌};
 ghost use Rattle.record.specs.Number.{paper_number};
 ghost use Rattle.record.specs.Range.{rows_of, row_end_of, row_start_of};

@@ -1,6 +1,7 @@
 // What the sister handset answers: '?' CR LF to a bad frame, and to a question ESC, the question's letters, a colon, a blank, the value,
 // CR LF. An answer is written whole or not at all. specs/Told.antt has the bytes.
 #![tactic(auto)]
+
 ghost use Rattle.std.specs.Prelude.{◌≡◌, cond, [], ◌∷◌, ◌≤◌, length};
 ghost use Rattle.numeral.specs.Numeral.{decimal};
 ghost use Rattle.line.specs.Lines.{most_codes, held, empty_line, added};

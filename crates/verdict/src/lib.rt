@@ -2,6 +2,7 @@
 // order that the frame spells, and specs/Laws.antt by the grammar and the ranges. It is what effect::obey and sister_effect::obey_own_frame
 // do; both stand on the same reading and the same ranges.
 #![tactic(auto)]
+
 ghost use Rattle.std.specs.Prelude.{◌≡◌, List, ℕ};
 ghost use Rattle.std.proofs.Math.Option.{some};
 ghost use Rattle.command.specs.Reading.{order_drawn};

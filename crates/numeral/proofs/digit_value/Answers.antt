@@ -1,6 +1,6 @@
 -- A code counts as the digit that it is. Assumes nothing.
 use Prim.Native.Char.{code}
-use Rattle.std.proofs.Common.{rules, arith, le-leb}
+use Rattle.std.proofs.Common.{arith, le-leb}
 use Rattle.std.proofs.lemmas.Bool.{lt-leb}
 use Rattle.numeral.specs.Numeral.{digit_of}
 use Rattle.numeral.proofs.digit_value.Goals as goal

@@ -1,5 +1,4 @@
 -- The loop keeps: the columns drawn so far stand in the row, and the codes that are left give the others. Assumes nothing.
--- the codes from i on begin with the item that was found
 use Rattle.std.proofs.Common.{arith, ◌∙◌}
 use Rattle.lists.specs.Padded.{length_padded}
 use Rattle.picture.proofs.Drawing.{begins, moves, draws_on, no_data, over_full, ends}

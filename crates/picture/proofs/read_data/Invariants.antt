@@ -1,5 +1,4 @@
 -- The loop keeps: the columns drawn so far stand in the row, and the codes that are left give the others. Assumes nothing.
--- the codes from i on begin with the item that was found
 use Rattle.std.specs.Prelude.{◌-◌, length}
 use Rattle.picture.proofs.Drawing.{Drawing}
 use Rattle.picture.proofs.read_data.Given as goal
