@@ -1,17 +1,15 @@
 -- What follows from the definitions: numbers and refusals, the phase, display off, the owners of a row and of its columns, the
 -- cursor, and whose the contents are. Assumes nothing.
-use Rattle.std.specs.Prelude.{ℕ, ◌+◌, ◌*◌, ◌≤◌, ◌<◌, ◌≡◌, Bool, true, false, not, ◌||◌, List, eqb, get_or}
-use Rattle.std.proofs.Common.{arith, sym, ap, ◌∙◌, true≢false, lt-ltb, le-ltb, eqb-true}
+use Rattle.std.specs.Prelude.{ℕ, ◌+◌, ◌*◌, ◌≤◌, ◌<◌, ◌≡◌, Bool, true, false, not, ◌||◌, get_or}
+use Rattle.std.proofs.Common.{ap, lt-ltb, le-ltb}
 use Rattle.std.proofs.Math.Path.{refl}
-use Rattle.std.proofs.Math.Bool.{cond, and-false, or-true}
+use Rattle.std.proofs.Math.Bool.{cond, or-true}
 use Rattle.std.proofs.Math.Dec.{ltb}
-use Rattle.lists.specs.Tests.{by_test, either_way}
-use Rattle.lists.specs.Both.{both}
+use Rattle.lists.specs.Tests.{by_test}
 use Rattle.record.specs.Number.{paper_number, numbered}
 use Rattle.record.specs.Range.{in_range, large}
-use Rattle.record.specs.With.{with_settings, with_screen, with_shown, with_display, with_overlay, with_row, with_column}
+use Rattle.record.specs.With.{with_settings, with_screen, with_shown, with_row, with_column}
 use Rattle.record.specs.declared.Record.{Record}
-use Rattle.record.specs.declared.Screen.{Screen}
 use Rattle.seen_panels.specs.Panels.{sms_panel, volume_panel, steady_panel}
 use Rattle.seen_panels.specs.declared.Phase.{Phase}
 use Rattle.seen_panels.specs.declared.Phase.TheVariants.{Lit}
@@ -25,7 +23,7 @@ use Rattle.seen.specs.LineLaws.{row_at}
 use Rattle.seen_owners.specs.Table.{last_row, last_column, owner_of_row, row_owner, owner_at, is_line}
 use Rattle.seen_owners.specs.Laws.{off_nothing}
 use Rattle.seen_owners.specs.Sentences.{line_in_row, line_at}
-use Rattle.seen.specs.Rows.{row_of, nothing_seen, contents, row_seen, sms_seen, volume_seen}
+use Rattle.seen.specs.Rows.{nothing_seen, contents, row_seen, sms_seen, volume_seen}
 use Rattle.seen.specs.Columns.{shown_at, no_place, place_of, column_seen}
 
 -- The row question, once it is not refused.

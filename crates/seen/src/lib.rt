@@ -3,6 +3,7 @@
 // what is told, but the column says how many codes the large line has. Each question is asked of a record whose arrays are lent, so that
 // asking copies none of them; by value it lends those of its record.
 #![tactic(auto)]
+
 ghost use Rattle.std.specs.Prelude.{◌≡◌, true, false, List, ℕ, ◌+◌, ◌≤◌, ◌<◌, length, get_or};
 ghost use Rattle.lists.specs.Padded.{padded};
 ghost use Rattle.std.proofs.Math.Seq.{slice};

@@ -1,9 +1,0 @@
--- The number as the paper has it. Assumes nothing.
-use borrow.Author.Rules.{rules}
-use Rattle.handset.proofs.after_with.Statement.{statement}
-use Rattle.handset.proofs.after_with.Tie as tie
-
-pub after_with_spec : {M : Type 1} → statement M
-after_with_spec = tie.close (tie.spec
-    (λ c κs. search rules)
-    (λ c. rw c.paper-number.ensures))

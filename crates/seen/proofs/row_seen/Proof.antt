@@ -1,9 +1,0 @@
--- `seen::row_seen` keeps its promise. Assumes nothing.
-use borrow.Author.Rules.{rules}
-use Rattle.seen.proofs.row_seen.Statement.{statement}
-use Rattle.seen.proofs.row_seen.Tie as tie
-
-pub row_seen_spec : {M : Type 1} → statement M
-row_seen_spec = tie.close (tie.spec
-    (λ c κs. search rules) (λ c κs. search rules)
-    (λ c. rw (c.row-seen-lent.ensures, c.before.before.before.before.before.small_of.ensures)))

@@ -1,9 +1,0 @@
--- `seen::volume_seen` keeps its promise. Assumes nothing.
-use borrow.Author.Rules.{rules}
-use Rattle.seen.proofs.volume_seen.Statement.{statement}
-use Rattle.seen.proofs.volume_seen.Tie as tie
-
-pub volume_seen_spec : {M : Type 1} → statement M
-volume_seen_spec = tie.close (tie.spec
-    (λ c κs. search rules) (λ c κs. search rules)
-    (λ c. rw (c.volume-seen-lent.ensures, c.before.before.before.before.before.small_of.ensures)))

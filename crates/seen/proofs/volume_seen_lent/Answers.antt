@@ -1,0 +1,11 @@
+-- `seen::volume_seen_lent` keeps its promise. Assumes nothing.
+use Rattle.seen.specs.Rows.{volume_seen}
+use Rattle.seen.proofs.volume_seen_lent.Goals as goal
+
+pub returns-then-not-ok : goal.returns-then-not-ok
+unfolding volume_seen
+returns-then-not-ok c = record { same = rw (← c.in_range_lent-ok.ensures.same, c.if-not-ok.true) }
+
+pub returns : goal.returns
+unfolding volume_seen
+returns c = record { same = rw (← c.in_range_lent-ok.ensures.same, c.if-not-ok.false, c.volume_panel-panel.ensures.same) }
