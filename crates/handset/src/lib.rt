@@ -2,6 +2,7 @@
 // it hands back. Each hands on a library's call. A record crosses in parts: what is small by value, its three arrays lent. An enum
 // crosses as a number, by the tables of `handset_numbers`.
 #![tactic(auto)]
+
 ghost use Rattle.std.specs.Prelude.{◌≡◌, length};
 ghost use Rattle.record.specs.PowerOn.{power_on, former_power_on, sister_power_on};
 ghost use Rattle.record.specs.Range.{in_range};
@@ -234,12 +235,7 @@ fn put_apart(r: Record, text: &mut Text, picture: &mut Picture, frame: &mut Fram
 }
 
 // The record of this edition.
-#[unsafe(no_mangle)]
-pub extern "C" fn proved_power_on(
-    text: &mut Text,
-    picture: &mut Picture,
-    frame: &mut FrameBytes,
-) -> Small
+pub fn proved_power_on(text: &mut Text, picture: &mut Picture, frame: &mut FrameBytes) -> Small
     ensures same { result ≡ small_of power_on }
     ensures text { text.new ≡ power_on.text }
     ensures picture { picture.new ≡ power_on.picture }
@@ -249,8 +245,7 @@ pub extern "C" fn proved_power_on(
 }
 
 // The same with the former defaults of the key times.
-#[unsafe(no_mangle)]
-pub extern "C" fn proved_power_on_former(
+pub fn proved_power_on_former(
     text: &mut Text,
     picture: &mut Picture,
     frame: &mut FrameBytes,
@@ -264,8 +259,7 @@ pub extern "C" fn proved_power_on_former(
 }
 
 // The sister's.
-#[unsafe(no_mangle)]
-pub extern "C" fn proved_sister_power_on(
+pub fn proved_sister_power_on(
     text: &mut Text,
     picture: &mut Picture,
     frame: &mut FrameBytes,
@@ -280,8 +274,7 @@ pub extern "C" fn proved_sister_power_on(
 
 // Calls on the record in parts.
 
-#[unsafe(no_mangle)]
-pub extern "C" fn proved_in_range<'a>(
+pub fn proved_in_range<'a>(
     small: Small,
     text: &'a Text,
     picture: &'a Picture,
@@ -293,8 +286,7 @@ pub extern "C" fn proved_in_range<'a>(
 }
 
 // Bytes from the cord.
-#[unsafe(no_mangle)]
-pub extern "C" fn proved_feed(
+pub fn proved_feed(
     small: Small,
     text: &mut Text,
     picture: &mut Picture,
@@ -315,8 +307,7 @@ pub extern "C" fn proved_feed(
 }
 
 // Keys: a tick and an edge for each entry.
-#[unsafe(no_mangle)]
-pub extern "C" fn proved_take_log<'a>(
+pub fn proved_take_log<'a>(
     small: Small,
     text: &'a Text,
     picture: &'a Picture,
@@ -335,8 +326,7 @@ pub extern "C" fn proved_take_log<'a>(
 }
 
 // A second passes.
-#[unsafe(no_mangle)]
-pub extern "C" fn proved_second<'a>(
+pub fn proved_second<'a>(
     small: Small,
     text: &'a Text,
     picture: &'a Picture,
@@ -363,8 +353,7 @@ fn second_of(b: Backlight) -> LightPassed
 }
 
 // A second passes, on a backlight alone.
-#[unsafe(no_mangle)]
-pub extern "C" fn proved_light_second(light: Backlight) -> ProvedLight
+pub fn proved_light_second(light: Backlight) -> ProvedLight
     ensures same { result ≡ light_in (light_passed light) }
 {
     let q = second_of(light);
@@ -377,8 +366,7 @@ pub extern "C" fn proved_light_second(light: Backlight) -> ProvedLight
 }
 
 // The hook: `on` is whether it is on-hook now.
-#[unsafe(no_mangle)]
-pub extern "C" fn proved_hook<'a>(
+pub fn proved_hook<'a>(
     small: Small,
     text: &'a Text,
     picture: &'a Picture,
@@ -394,8 +382,7 @@ pub extern "C" fn proved_hook<'a>(
 }
 
 // How much room the answers to these bytes can need.
-#[unsafe(no_mangle)]
-pub extern "C" fn proved_room_needed<'a>(
+pub fn proved_room_needed<'a>(
     small: Small,
     text: &'a Text,
     picture: &'a Picture,
@@ -423,8 +410,7 @@ fn judged_with(ended: Number, v: Verdict) -> ProvedJudged
 }
 
 // What would become of a frame if it came now.
-#[unsafe(no_mangle)]
-pub extern "C" fn proved_judge_in<'a>(
+pub fn proved_judge_in<'a>(
     small: Small,
     text: &'a Text,
     picture: &'a Picture,
@@ -442,8 +428,7 @@ pub extern "C" fn proved_judge_in<'a>(
 
 // What is seen. phase 0 is lit, any other the pause of a flashing icon.
 
-#[unsafe(no_mangle)]
-pub extern "C" fn proved_sms_seen<'a>(
+pub fn proved_sms_seen<'a>(
     small: Small,
     text: &'a Text,
     picture: &'a Picture,
@@ -470,8 +455,7 @@ pub extern "C" fn proved_sms_seen<'a>(
     }
 }
 
-#[unsafe(no_mangle)]
-pub extern "C" fn proved_volume_seen<'a>(
+pub fn proved_volume_seen<'a>(
     small: Small,
     text: &'a Text,
     picture: &'a Picture,
@@ -535,8 +519,7 @@ fn row_in(row: Row) -> ProvedRow
     }
 }
 
-#[unsafe(no_mangle)]
-pub extern "C" fn proved_row_seen<'a>(
+pub fn proved_row_seen<'a>(
     small: Small,
     text: &'a Text,
     picture: &'a Picture,
@@ -577,8 +560,7 @@ fn column_in(c: ColumnSeen) -> ProvedColumn
     }
 }
 
-#[unsafe(no_mangle)]
-pub extern "C" fn proved_column_seen<'a>(
+pub fn proved_column_seen<'a>(
     small: Small,
     text: &'a Text,
     picture: &'a Picture,
@@ -610,8 +592,7 @@ fn written_in(w: Written) -> ProvedCount
 }
 
 // A kind of command that is not known is a command out of range.
-#[unsafe(no_mangle)]
-pub extern "C" fn proved_write_command(kind: u8, a: u16, b: u16, room: &mut [u8]) -> ProvedCount
+pub fn proved_write_command(kind: u8, a: u16, b: u16, room: &mut [u8]) -> ProvedCount
     ensures same { result ≡ command_written kind a b room.old }
     ensures left { room.new ≡ command_room kind a b room.old }
 {
@@ -644,13 +625,7 @@ fn write_own_kind(kind: u8, a: u16, b: u16, room: &mut [u8]) -> ProvedCount
 }
 
 // In the sister's spelling: a command of her own, or one that both editions have.
-#[unsafe(no_mangle)]
-pub extern "C" fn proved_write_sister_command(
-    kind: u8,
-    a: u16,
-    b: u16,
-    room: &mut [u8],
-) -> ProvedCount
+pub fn proved_write_sister_command(kind: u8, a: u16, b: u16, room: &mut [u8]) -> ProvedCount
     ensures same { result ≡ sister_written kind a b room.old }
     ensures left { room.new ≡ sister_room kind a b room.old }
 {
@@ -660,16 +635,14 @@ pub extern "C" fn proved_write_sister_command(
     written_in(writer::write_shared(handset_numbers::command_of(kind, a, b), room))
 }
 
-#[unsafe(no_mangle)]
-pub extern "C" fn proved_write_label(side: u8, codes: &[u8], room: &mut [u8]) -> ProvedCount
+pub fn proved_write_label(side: u8, codes: &[u8], room: &mut [u8]) -> ProvedCount
     ensures same { result ≡ written_in (written_of (is_label codes.now) (frame_of (spelling (label (side_of side) codes.now))) room.old) }
     ensures left { room.new ≡ room_after (is_label codes.now) (frame_of (spelling (label (side_of side) codes.now))) room.old }
 {
     written_in(writer::write_label(handset_numbers::side_of(side), codes, room))
 }
 
-#[unsafe(no_mangle)]
-pub extern "C" fn proved_write_picture_row(row: u8, columns: &[u8], room: &mut [u8]) -> ProvedCount
+pub fn proved_write_picture_row(row: u8, columns: &[u8], room: &mut [u8]) -> ProvedCount
     ensures same { result ≡ written_in (written_of (is_row row columns.now) (frame_of (spelling (draw row columns.now))) room.old) }
     ensures left { room.new ≡ room_after (is_row row columns.now) (frame_of (spelling (draw row columns.now))) room.old }
 {
@@ -679,8 +652,7 @@ pub extern "C" fn proved_write_picture_row(row: u8, columns: &[u8], room: &mut [
 // Questions about a stream.
 
 // What becomes of a frame, all between ESC and CR, in a text mode.
-#[unsafe(no_mangle)]
-pub extern "C" fn proved_judge(mode: u8, frame: &[u8]) -> ProvedVerdict
+pub fn proved_judge(mode: u8, frame: &[u8]) -> ProvedVerdict
     ensures same { result ≡ judged_in (verdict_of mode frame.now) }
 {
     let v = handset_numbers::verdict_numbers(verdict::judge(mode, frame));
@@ -691,8 +663,7 @@ pub extern "C" fn proved_judge(mode: u8, frame: &[u8]) -> ProvedVerdict
 }
 
 // Whether a collector's stream keeps the rules of the choice screen.
-#[unsafe(no_mangle)]
-pub extern "C" fn proved_check_choice(bytes: &[u8]) -> ProvedChoice
+pub fn proved_check_choice(bytes: &[u8]) -> ProvedChoice
     ensures same { result ≡ choice_in (choice_of bytes.now) }
 {
     let c = choice::check(bytes);
@@ -704,8 +675,7 @@ pub extern "C" fn proved_check_choice(bytes: &[u8]) -> ProvedChoice
 }
 
 // The part of a stream that stands at a place.
-#[unsafe(no_mangle)]
-pub extern "C" fn proved_part_at(bytes: &[u8], place: usize) -> HandsetPart
+pub fn proved_part_at(bytes: &[u8], place: usize) -> HandsetPart
     ensures same { result ≡ part_in (part_at bytes.now place) }
 {
     let p = parts::part_at(bytes, place);
