@@ -23,13 +23,11 @@ says() { # TEST TEXT: standard input is this text, apart from line feeds at its 
 
 # The built programs, called as ./run calls them but without the look whether they are up to date.
 rt=$(readlink -f "$(command -v rt)")
-tools=${RATTLE_HOME:-$(dirname "$(dirname "$rt")")}/on/$(uname -m)/toolchain
-emulator=$tools/bin/qemu-x86_64
-[ -x "$emulator" ] || emulator=''
+tools=$(dirname "$(dirname "$rt")")/toolchain
 program() { # NAME [WORDS...]
     local name=$1
     shift
-    ${emulator:+"$emulator"} "$tools/lib/ld-linux-x86-64.so.2" --library-path "$tools/lib" "target/bin/$name" "$@"
+    "$tools/lib/ld-linux-x86-64.so.2" --library-path "$tools/lib" "target/bin/$name" "$@"
 }
 
 stream=examples/meter.stream
