@@ -1,5 +1,5 @@
 #!/usr/bin/env bash
-# Holds include/handset.h, door/handset.c and crates/handset together, and tries the archive from C: c-build's words, the listing and the
+# Holds include/handset.h, door/handset.c and crates/handset_c together, and tries the archive from C: c-build's words, the listing and the
 # places of every field, what each call does, the examples, and streams cut by chance. A line for each test; the last line has the counts.
 #
 # Header and door on one side and the crate on the other could part in what they say, and in where a field lies. So there are three tests.
@@ -21,7 +21,7 @@ work=$(mktemp -d) || exit 2
 trap 'rm -rf "$work"' EXIT
 export LC_ALL=C
 # the record's first, which has the names of sizes and arrays
-sources="crates/record/src/lib.rt $(grep -l '^#\[repr(C)\]' crates/*/src/lib.rt | grep -v '^crates/record/')"
+sources="crates/record/src/lib.rt $(grep -lE '^#\[(repr\(C\)|unsafe\(no_mangle\))\]' crates/*/src/lib.rt | grep -v '^crates/record/')"
 
 # A test may end in a part of a pipe, so its verdict goes to a file.
 verdict() { # ok|FAILED TEST
@@ -56,11 +56,9 @@ finish() {
 
 rt=$(command -v rt) || { verdict FAILED 'the Rattle kit is missing: its command rt is not on the PATH'; finish; }
 rt=$(readlink -f "$rt")
-tools=${RATTLE_HOME:-$(dirname "$(dirname "$rt")")}/on/$(uname -m)/toolchain
-emulator=$tools/bin/qemu-x86_64
-[ -x "$emulator" ] || emulator=''
+tools=$(dirname "$(dirname "$rt")")/toolchain
 program() { # FILE [WORDS...]: under the kit's own loader and C library, as ./run does it
-    ${emulator:+"$emulator"} "$tools/lib/ld-linux-x86-64.so.2" --library-path "$tools/lib" "$@"
+    "$tools/lib/ld-linux-x86-64.so.2" --library-path "$tools/lib" "$@"
 }
 
 # ./c-build: its own words
@@ -129,17 +127,17 @@ succeeds "the door as c99, by the kit's clang" "${kit_clang[@]}" -std=c99 -Wall 
 
 # 2. where each field lies
 mkdir -p "$work/layout/crates/layout/src"
-echo 'layout:' >"$work/layout/crates.txt"
+echo 'layout staticlib:' >"$work/layout/crates.txt"
 # shellcheck disable=SC2086
 awk -v crate=1 -f tests/c/rattle.awk $sources >"$work/layout/crates/layout/src/lib.rt"
 # shellcheck disable=SC2086
 awk -v asking=1 -f tests/c/rattle.awk $sources >"$work/asked_of_rattle.h"
 awk -v asking=1 -f tests/c/header.awk include/handset.h door/handset.c >"$work/asked_of_c.h"
 places() { # the two programs that tell where fields lie
-    (cd "$work/layout" && rt staticlib layout) &&
-        CFLAGS="-DASKED=\"$work/asked_of_rattle.h\"" ./c-build --archive "$work/layout/target/staticlib/liblayout.a" tests/c/where.c \
+    (cd "$work/layout/crates/layout" && rt lib) &&
+        CFLAGS="-DASKED=\"$work/asked_of_rattle.h\"" ./c-build --archive "$work/layout/crates/layout/out/liblayout.a" tests/c/where.c \
             -o "$work/where_in_rattle" &&
-        CFLAGS="-DHEADER -DASKED=\"$work/asked_of_c.h\"" ./c-build --archive "$work/layout/target/staticlib/liblayout.a" tests/c/where.c \
+        CFLAGS="-DHEADER -DASKED=\"$work/asked_of_c.h\"" ./c-build --archive "$work/layout/crates/layout/out/liblayout.a" tests/c/where.c \
             -o "$work/where_in_c"
 }
 if succeeds "both compilers can be asked where a field lies" places; then
@@ -273,7 +271,7 @@ answered() { # some of the streams are answered, or they would show little
     done | grep -qv 'REPLIES 0'
 }
 if built feed -Werror tests/c/feed.c; then
-    [ -f target/bin/list_screen ] || succeeds "list_screen is built" rt check list_screen
+    [ -f target/bin/list_screen ] || succeeds "list_screen is built" ./run list_screen /dev/null
     succeeds "the examples' streams, cut by chance, are listed as list_screen lists them" examples
     succeeds "$streams streams by chance, cut by chance, are listed as list_screen lists them" chosen
     succeeds "streams by chance are answered" answered

@@ -39,11 +39,9 @@ else
     give_up "differ: the model's own tests did not run"
 fi
 
-# Programs are for x86-64 and run under the kit's own loader and C library, on another processor in its emulator, as ./run does it.
-tools=${RATTLE_HOME:-$(dirname "$(dirname "$(readlink -f "$rt")")")}/on/$(uname -m)/toolchain
+# Programs run under the kit's own loader and C library, as ./run does it.
+tools=$(dirname "$(dirname "$(readlink -f "$rt")")")/toolchain
 program=("$tools/lib/ld-linux-x86-64.so.2" --library-path "$tools/lib")
-[ ! -x "$tools/bin/qemu-x86_64" ] || program=("$tools/bin/qemu-x86_64" "${program[@]}")
-for word in $(env | sed -n 's/^\(QEMU_[A-Za-z0-9_]*\)=.*/\1/p'); do unset "$word"; done
 
 same() { # TEST EXPECTED COMMAND...: what the command writes is byte for byte what the file EXPECTED has, and its status is 0
     local test=$1 expected=$2
@@ -98,7 +96,7 @@ if has_sanitizers; then
 fi
 
 # Streams of all kinds, for each edition: the bytes of the stream calls of a random script, one after the other.
-[ -f target/bin/explain ] || rt check explain || give_up "differ: explain was not built"
+[ -f target/bin/explain ] || ./run explain /dev/null >/dev/null || give_up "differ: explain was not built"
 counted() { # STREAM [--sister]: the last line of explain, put together from the model's lists; refused frames are the sister's alone
     "$model" parts <"$1" >"$work/parts"
     "$model" verdicts ${2:+"$2"} <"$1" >"$work/verdicts"

@@ -23,13 +23,11 @@ says() { # TEST TEXT: standard input is this text, apart from line feeds at its 
 
 # The built programs, called as ./run calls them but without the look whether they are up to date.
 rt=$(readlink -f "$(command -v rt)")
-tools=${RATTLE_HOME:-$(dirname "$(dirname "$rt")")}/on/$(uname -m)/toolchain
-emulator=$tools/bin/qemu-x86_64
-[ -x "$emulator" ] || emulator=''
+tools=$(dirname "$(dirname "$rt")")/toolchain
 program() { # NAME [WORDS...]
     local name=$1
     shift
-    ${emulator:+"$emulator"} "$tools/lib/ld-linux-x86-64.so.2" --library-path "$tools/lib" "target/bin/$name" "$@"
+    "$tools/lib/ld-linux-x86-64.so.2" --library-path "$tools/lib" "target/bin/$name" "$@"
 }
 
 stream=examples/meter.stream
@@ -37,6 +35,7 @@ length=$(wc -c <$stream)
 
 # ./run: its own words
 names=$(cd crates && printf '%s\n' */src/main.rt | cut -d / -f 1)
+for name in $names; do [ -f "target/bin/$name" ] || ./run "$name" </dev/null >/dev/null 2>&1; done
 readers='check_choice count_room explain list_screen show_screen write_frame'
 without_progress() { # what was said on standard error, but for how far the proofs are, which a slow machine is told
     grep -Ev '^run: (proving|waiting)' "$work/err"
@@ -161,12 +160,18 @@ grep -c '^write_frame: line 1' "$work/err" | says "./run write_frame complains w
 exec 8>&-
 wait
 
-# ./run in other places: a fresh copy, in a path with a blank, of which a small program is proved from nothing
+# ./run in other places: a fresh copy, in a path with a blank, of which a small program is proved from nothing. What rt keeps on this machine
+# of the same sources serves every checkout, so the copy's record is another.
 copy="$work/a fresh copy"
 mkdir -p "$copy/crates/tiny/src"
-tar -cf - --exclude=./target --exclude=./.git . | tar -xf - -C "$copy"
-echo 'tiny: record io libc' >>"$copy/crates.txt"
-printf 'fn main() {\n    io::write_all(1, b"tiny\\n");\n}\n' >"$copy/crates/tiny/src/main.rt"
+tar -cf - --exclude=./target --exclude=./.git --exclude='./crates/*/out' . | tar -xf - -C "$copy"
+echo 'tiny: record' >>"$copy/crates.txt"
+echo '// The copy has its own.' >>"$copy/crates/record/src/lib.rt"
+tiny() { # EXPRESSION: the program that is proved
+    printf '#![tactic(auto)]\nuse std::io;\n\nfn main(rt: HostRuntime) -> io::Result<()> {\n    %s;\n    Ok(())\n}\n' "$1" \
+        >"$copy/crates/tiny/src/main.rt"
+}
+tiny 'println!(rt; "tiny")?'
 echo 'something else' >"$copy/crates/tiny/stdout"
 "$copy/run" tiny >"$work/out" 2>"$work/err"
 echo $? | says "a fresh copy, its path with blanks: status 0" 0
@@ -183,7 +188,7 @@ ln -s "$copy/run" "$work/link"
 ln -s link "$work/link to a link"
 ends "./run through a symbolic link" 0 '' "$work/link to a link" tiny
 says "./run through a symbolic link: the program runs" tiny <"$work/out"
-echo 'fn main() { io::write_all(1, b"tiny\n")[3]; }' >"$copy/crates/tiny/src/main.rt"
+tiny 'println!(rt; "tiny")?[3]'
 "$copy/run" tiny >"$work/out" 2>"$work/err"
 echo $? | says "a program that can't be built: status 1" 1
 tail -n 1 "$work/err" | says "a program that can't be built is said not to be" 'run: tiny was not built'

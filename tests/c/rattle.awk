@@ -1,5 +1,5 @@
 # The structs and calls that cross to C, as the Rattle sources have them. Sources: those that declare `#[repr(C)]` structs and
-# `#[no_mangle] pub extern "C"` functions, in the layout of rt fmt.
+# `#[unsafe(no_mangle)] pub extern "C"` functions, in the layout of rt fmt.
 #   awk -f rattle.awk SOURCES              "STRUCT PLACE FIELD TYPE" for each field, where the first place is 1, and "RESULT
 #                                          NAME(PARAMETERS);" for each call, in C's words
 #   awk -v crate=1 -f rattle.awk SOURCES   a crate that tells where each field lies: the structs as they stand, and for each field an
@@ -121,7 +121,7 @@ marked && /^pub struct [A-Za-z]*\(pub [a-z0-9]*\);/ {
     field_name[struct, 1] = "0"
     c_called[struct, 1] = tolower(struct)
     field_type[struct, 1] = type
-    declared = declared "#[repr(C)]\n" $0 "\n\n"
+    declared = declared "#[repr(C)]\n#[derive(Clone, Copy)]\n" $0 "\n\n"
     marked = 0
     next
 }
@@ -129,7 +129,7 @@ marked && /^pub struct / {
     struct = $3
     structs[++struct_count] = struct
     count[struct] = 0
-    declared = declared "#[repr(C)]\n" $0 "\n"
+    declared = declared "#[repr(C)]\n#[derive(Clone, Copy)]\n" $0 "\n"
     marked = 0
     inside_struct = 1
     next
@@ -159,25 +159,25 @@ reading {
 }
 END {
     for (k = 1; k <= signature_count; k++) call(signatures[k])
-    if (crate) printf "%s", declared
+    if (crate) printf "#![tactic(auto)]\n\n%s", declared
     for (s = 1; s <= struct_count; s++) {
         struct = structs[s]
         if (!(struct in crossing)) continue
         short = c_name(struct)
-        if (crate) printf "#[repr(C)]\npub struct With%s {\n    pub it: %s,\n    pub behind: [u8; 256],\n}\n\n", struct, struct
+        if (crate) printf "#[repr(C)]\n#[derive(Clone, Copy)]\npub struct With%s {\n    pub it: %s,\n    pub behind: [u8; 256],\n}\n\n", struct, struct
         for (k = 1; k <= count[struct]; k++) {
             type = field_type[struct, k]
             leaf = first_type(type)
             at = "at_" short "_" c_called[struct, k]
             if (crate) {
-                printf "#[no_mangle]\npub extern \"C\" fn %s(with: With%s) -> %s {\n", at, struct, leaf
+                printf "#[unsafe(no_mangle)]\npub extern \"C\" fn %s(with: With%s) -> %s {\n", at, struct, leaf
                 read_first(field_name[struct, k], type)
                 printf "}\n\n"
             } else if (asking) printf "ASK_%s(%s, %s, %s, \"%s\")\n", toupper(leaf), at, short, c_called[struct, k], listed(type)
             else print "struct " short, k, c_called[struct, k], listed(type)
         }
         at = "size_of_" short
-        if (crate) printf "#[no_mangle]\npub extern \"C\" fn %s(with: With%s) -> u8 {\n    with.behind[0]\n}\n\n", at, struct
+        if (crate) printf "#[unsafe(no_mangle)]\npub extern \"C\" fn %s(with: With%s) -> u8 {\n    with.behind[0]\n}\n\n", at, struct
         else if (asking) printf "ASK_U8(%s, %s, size, \"\")\n", at, short
     }
     if (!crate && !asking) for (k = 1; k <= call_count; k++) print calls[k]
