@@ -2,7 +2,8 @@
 // there no frame is open, so it is a byte for each ESC. Of an input that fails nothing is printed: what came before is not the
 // stream.
 #![tactic(auto)]
-use program::Input;
+
+use program::{Host, Input};
 
 // Nothing says that the input ends, so its pieces are counted down.
 const MOST_PIECES: u64 = 0xFFFF_FFFF_FFFF_FFFF;
@@ -16,18 +17,18 @@ fn more(room: u64, escapes: usize) -> u64 {
     room + n
 }
 
-fn say(room: u64) {
-    program::write(b"count_room", b"ROOM ");
-    program::write_number(b"count_room", room);
-    program::write(b"count_room", b"\n");
+fn say(host: &Host, room: u64) {
+    program::write(host, b"count_room", b"ROOM ");
+    program::write_number(host, b"count_room", room);
+    program::write(host, b"count_room", b"\n");
 }
 
-fn count(input: Input) {
-    let mut piece = io::buffer();
+fn count(host: &Host, input: &mut Input) {
+    let mut piece = [0u8; 4096];
     let mut room: u64 = 0;
     let mut left = MOST_PIECES;
     while 0 < left {
-        let read = program::read_piece(b"count_room", input, &mut piece);
+        let read = program::read_piece(host, b"count_room", input, &mut piece);
         let n = read.length;
         if read.failed {
             return;
@@ -38,11 +39,12 @@ fn count(input: Input) {
         room = more(room, answer_room::escapes_in(&piece[..n]));
         left -= 1;
     }
-    say(room);
+    say(host, room);
 }
 
-fn accepted() -> bool {
+fn accepted(host: &Host) -> bool {
     program::accepts(
+        host,
         b"count_room",
         b"usage: ./run count_room [FILE]\n\
         Reads a stream from FILE, or from standard input without one, and prints ROOM and how many bytes its answers are at most.\n\
@@ -52,11 +54,11 @@ fn accepted() -> bool {
     )
 }
 
-fn main() {
-    if accepted() {
-        let input = program::open_input(b"count_room");
-        if 0 <= input.descriptor {
-            count(input);
+fn main(rt: HostRuntime) {
+    let host = Host::new(rt);
+    if accepted(&host) {
+        if let Some(mut input) = program::open_input(&host, b"count_room") {
+            count(&host, &mut input);
         }
     }
 }

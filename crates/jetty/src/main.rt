@@ -2,32 +2,34 @@
 // pieces, cut at every place in turn. For each cut it prints the label between the two calls and after them. The verdict is
 // computed from the labels that were shown.
 #![tactic(auto)]
+
+use program::Host;
 use record::{Label, Record};
 
-fn say(words: &[u8]) {
-    program::write(b"jetty", words);
+fn say(host: &Host, words: &[u8]) {
+    program::write(host, b"jetty", words);
 }
 
-fn say_codes(codes: &[u8], n: usize) {
+fn say_codes(host: &Host, codes: &[u8], n: usize) {
     for i in 0..n {
         if i < codes.len() {
             let one = [codes[i]];
-            say(&one);
+            say(host, &one);
         }
     }
 }
 
-fn say_label(label: Label) {
-    say(b"[");
-    say_codes(&label.codes, label.len as usize);
-    say(b"]");
+fn say_label(host: &Host, label: Label) {
+    say(host, b"[");
+    say_codes(host, &label.codes, label.len as usize);
+    say(host, b"]");
 }
 
-fn say_number(n: usize) {
+fn say_number(host: &Host, n: usize) {
     if n < 10 {
-        say(b" ");
+        say(host, b" ");
     }
-    program::write_number(b"jetty", n as u64);
+    program::write_number(host, b"jetty", n as u64);
 }
 
 #[derive(Clone, Copy)]
@@ -67,7 +69,7 @@ struct Cut {
     right_after: bool,
 }
 
-fn cut_at(start: Record, frame: &[u8], k: usize, old: Label, new: Label) -> Cut {
+fn cut_at(host: &Host, start: Record, frame: &[u8], k: usize, old: Label, new: Label) -> Cut {
     let mut cut = Cut {
         wrong_between: true,
         right_after: false,
@@ -79,13 +81,13 @@ fn cut_at(start: Record, frame: &[u8], k: usize, old: Label, new: Label) -> Cut 
         let second = send(half, &frame[k..]);
         let whole = second.record;
         let after = left_label(whole);
-        say(b"cut after ");
-        say_number(k);
-        say(b" bytes: between ");
-        say_label(between);
-        say(b", after ");
-        say_label(after);
-        say(b"\n");
+        say(host, b"cut after ");
+        say_number(host, k);
+        say(host, b" bytes: between ");
+        say_label(host, between);
+        say(host, b", after ");
+        say_label(host, after);
+        say(host, b"\n");
         let known = same_label(between, old) | same_label(between, new);
         cut = Cut {
             wrong_between: !known,
@@ -95,24 +97,28 @@ fn cut_at(start: Record, frame: &[u8], k: usize, old: Label, new: Label) -> Cut 
     cut
 }
 
-fn replay(start: Record, frame: &[u8], old: Label, new: Label) {
+fn replay(host: &Host, start: Record, frame: &[u8], old: Label, new: Label) {
     let mut wrong = false;
     let mut right = true;
     for k in 0..frame.len() {
-        let cut = cut_at(start, frame, k, old, new);
+        let cut = cut_at(host, start, frame, k, old, new);
         wrong = wrong | cut.wrong_between;
         right = right & cut.right_after;
     }
     if !wrong & right {
         say(
+            host,
             b"verdict: no cut shows a label other than the old or the new one, and every cut ends in the new one\n",
         );
         return;
     }
-    say(b"verdict: WRONG, a cut shows another label or does not end in the new one\n");
+    say(
+        host,
+        b"verdict: WRONG, a cut shows another label or does not end in the new one\n",
+    );
 }
 
-fn show() {
+fn show(host: &Host) {
     let was = send(Record::power_on(), b"\x1BIK1Mine\r\n");
     let start = was.record;
     let old = left_label(start);
@@ -120,29 +126,34 @@ fn show() {
     let uncut = send(start, frame);
     let after = uncut.record;
     let new = left_label(after);
-    say(b"old label ");
-    say_label(old);
-    say(b", new label ");
-    say_label(new);
-    say(b"\n");
-    replay(start, frame, old, new);
+    say(host, b"old label ");
+    say_label(host, old);
+    say(host, b", new label ");
+    say_label(host, new);
+    say(host, b"\n");
+    replay(host, start, frame, old, new);
     let long = send(start, b"\x1BIK1Keep mine\r\n");
     let kept = long.record;
-    say(b"Keep mine has nine codes and is no label: question marks");
-    say_number(long.marks);
-    say(b", label still ");
-    say_label(left_label(kept));
-    say(b"\n");
+    say(
+        host,
+        b"Keep mine has nine codes and is no label: question marks",
+    );
+    say_number(host, long.marks);
+    say(host, b", label still ");
+    say_label(host, left_label(kept));
+    say(host, b"\n");
 }
 
-fn main() {
+fn main(rt: HostRuntime) {
+    let host = Host::new(rt);
     if program::accepts(
+        &host,
         b"jetty",
         b"usage: ./run jetty\n\
         Replays the day that led to the letter: a label's frame is cut at every place into two calls.\n",
         b"",
         false,
     ) {
-        show();
+        show(&host);
     }
 }

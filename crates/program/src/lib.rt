@@ -43,8 +43,12 @@ impl Host {
 // Complaints, on standard error.
 
 // Where standard error fails nobody is left to be told.
-fn tell(host: &Host, words: &[u8]) {
+pub fn tell(host: &Host, words: &[u8]) {
     let _ = host.rt.stderr().write_all(words);
+}
+
+pub fn tell_number(host: &Host, n: u64) {
+    let _ = host.rt.eprint(n);
 }
 
 // The words for an error, without its number.

@@ -14,9 +14,10 @@
 // places wide and two rows high: a digit in strokes, any other as two by two of its sign.
 // With the display off the frame is empty. The cursor is no part of what is seen. Of an input that fails nothing is drawn.
 #![tactic(auto)]
+
 ghost use Rattle.std.specs.Prelude.{◌≤◌};
 
-use program::Input;
+use program::{Host, Input};
 use record::{Label, Record};
 use seen::{Bar, Labels, Owner, Phase, SmsPanel, VolumePanel};
 
@@ -27,50 +28,50 @@ const ROCKER: usize = 21;
 
 const RIGHT_LABEL: usize = 27;
 
-fn say(words: &[u8]) {
-    program::write(b"show_screen", words);
+fn say(host: &Host, words: &[u8]) {
+    program::write(host, b"show_screen", words);
 }
 
 // Either side of the frame.
-fn side() {
-    say(b"\xE2\x94\x82");
+fn side(host: &Host) {
+    say(host, b"\xE2\x94\x82");
 }
 
-fn end_of_line() {
-    say(b"\xE2\x94\x82\n");
+fn end_of_line(host: &Host) {
+    say(host, b"\xE2\x94\x82\n");
 }
 
-fn repeated(sign: &[u8], times: usize) {
+fn repeated(host: &Host, sign: &[u8], times: usize) {
     for i in 0..times {
-        say(sign);
+        say(host, sign);
     }
 }
 
-fn blanks(n: usize) {
-    repeated(b" ", n);
+fn blanks(host: &Host, n: usize) {
+    repeated(host, b" ", n);
 }
 
-fn empty_line() {
-    side();
-    blanks(PLACES);
-    end_of_line();
+fn empty_line(host: &Host) {
+    side(host);
+    blanks(host, PLACES);
+    end_of_line(host);
 }
 
 // The line between two corners of the frame.
-fn edge() {
-    repeated(b"\xE2\x94\x80", PLACES);
+fn edge(host: &Host) {
+    repeated(host, b"\xE2\x94\x80", PLACES);
 }
 
-fn top_edge() {
-    say(b"\xE2\x95\xAD");
-    edge();
-    say(b"\xE2\x95\xAE\n");
+fn top_edge(host: &Host) {
+    say(host, b"\xE2\x95\xAD");
+    edge(host);
+    say(host, b"\xE2\x95\xAE\n");
 }
 
-fn bottom_edge() {
-    say(b"\xE2\x95\xB0");
-    edge();
-    say(b"\xE2\x95\xAF\n");
+fn bottom_edge(host: &Host) {
+    say(host, b"\xE2\x95\xB0");
+    edge(host);
+    say(host, b"\xE2\x95\xAF\n");
 }
 
 fn printable(code: u8) -> u8 {
@@ -84,99 +85,105 @@ fn printable(code: u8) -> u8 {
 }
 
 // The first n codes, three places each: the code and what stands at its sides.
-fn say_codes(codes: &[u8], n: usize, left: u8, right: u8) {
+fn say_codes(host: &Host, codes: &[u8], n: usize, left: u8, right: u8) {
     for i in 0..n {
         if i < codes.len() {
             let places = [left, printable(codes[i]), right];
-            say(&places);
+            say(host, &places);
         }
     }
 }
 
-fn draw_text(codes: [u8; 16], inverse: bool) {
-    side();
+fn draw_text(host: &Host, codes: [u8; 16], inverse: bool) {
+    side(host);
     if inverse {
-        say_codes(&codes, 16, b'[', b']');
+        say_codes(host, &codes, 16, b'[', b']');
     } else {
-        say_codes(&codes, 16, b' ', b' ');
+        say_codes(host, &codes, 16, b' ', b' ');
     }
-    end_of_line();
-    empty_line();
+    end_of_line(host);
+    empty_line(host);
 }
 
 // A number of one or two digits in two places.
-fn say_number(n: u8) {
+fn say_number(host: &Host, n: u8) {
     if n < 10 {
-        say(b" ");
+        say(host, b" ");
     }
-    program::write_number(b"show_screen", n as u64);
+    program::write_number(host, b"show_screen", n as u64);
 }
 
 // Strength 1 is the icon without bars, 6 that with five.
-fn say_signal(f: u8) {
+fn say_signal(host: &Host, f: u8) {
     match f {
-        1 => say(b" Y      "),
-        2 => say(b" Y\xE2\x96\x81     "),
-        3 => say(b" Y\xE2\x96\x81\xE2\x96\x82    "),
-        4 => say(b" Y\xE2\x96\x81\xE2\x96\x82\xE2\x96\x84   "),
-        5 => say(b" Y\xE2\x96\x81\xE2\x96\x82\xE2\x96\x84\xE2\x96\x86  "),
-        6 => say(b" Y\xE2\x96\x81\xE2\x96\x82\xE2\x96\x84\xE2\x96\x86\xE2\x96\x88 "),
-        _ => blanks(8),
+        1 => say(host, b" Y      "),
+        2 => say(host, b" Y\xE2\x96\x81     "),
+        3 => say(host, b" Y\xE2\x96\x81\xE2\x96\x82    "),
+        4 => say(host, b" Y\xE2\x96\x81\xE2\x96\x82\xE2\x96\x84   "),
+        5 => say(
+            host,
+            b" Y\xE2\x96\x81\xE2\x96\x82\xE2\x96\x84\xE2\x96\x86  ",
+        ),
+        6 => say(
+            host,
+            b" Y\xE2\x96\x81\xE2\x96\x82\xE2\x96\x84\xE2\x96\x86\xE2\x96\x88 ",
+        ),
+        _ => blanks(host, 8),
     }
 }
 
-fn say_missed(p: u8) {
+fn say_missed(host: &Host, p: u8) {
     if p == 0 {
-        blanks(10);
+        blanks(host, 10);
         return;
     }
-    say(b"missed ");
-    say_number(p);
-    say(b" ");
+    say(host, b"missed ");
+    say_number(host, p);
+    say(host, b" ");
 }
 
-fn say_roaming(r: u8) {
+fn say_roaming(host: &Host, r: u8) {
     if r == 0 {
-        blanks(6);
+        blanks(host, 6);
         return;
     }
-    say(b"roam  ");
+    say(host, b"roam  ");
 }
 
-fn say_sms(panel: SmsPanel) {
+fn say_sms(host: &Host, panel: SmsPanel) {
     match panel {
-        SmsPanel::Nothing => blanks(11),
-        SmsPanel::Read => say(b"SMS read   "),
-        SmsPanel::Unread => say(b"SMS unread "),
+        SmsPanel::Nothing => blanks(host, 11),
+        SmsPanel::Read => say(host, b"SMS read   "),
+        SmsPanel::Unread => say(host, b"SMS unread "),
     }
 }
 
-fn say_level(words: &[u8], level: u8) {
-    say(words);
-    say_number(level);
-    say(b" ");
+fn say_level(host: &Host, words: &[u8], level: u8) {
+    say(host, words);
+    say_number(host, level);
+    say(host, b" ");
 }
 
-fn say_volume(panel: VolumePanel) {
+fn say_volume(host: &Host, panel: VolumePanel) {
     match panel {
-        VolumePanel::Nothing => blanks(13),
-        VolumePanel::Mute => say(b"        mute "),
-        VolumePanel::Private(level) => say_level(b"  private ", level),
-        VolumePanel::Handsfree(level) => say_level(b"handsfree ", level),
+        VolumePanel::Nothing => blanks(host, 13),
+        VolumePanel::Mute => say(host, b"        mute "),
+        VolumePanel::Private(level) => say_level(host, b"  private ", level),
+        VolumePanel::Handsfree(level) => say_level(host, b"handsfree ", level),
     }
 }
 
-fn draw_bar(bar: Bar) {
+fn draw_bar(host: &Host, bar: Bar) {
     let sms = bar.sms;
     let volume = bar.volume;
-    side();
-    say_signal(bar.f);
-    say_missed(bar.p);
-    say_roaming(bar.r);
-    say_sms(sms);
-    say_volume(volume);
-    end_of_line();
-    empty_line();
+    side(host);
+    say_signal(host, bar.f);
+    say_missed(host, bar.p);
+    say_roaming(host, bar.r);
+    say_sms(host, sms);
+    say_volume(host, volume);
+    end_of_line(host);
+    empty_line(host);
 }
 
 // The places that a label leaves of the room for seven codes.
@@ -188,39 +195,39 @@ fn places_left(len: u8) -> usize {
     0
 }
 
-fn say_label(label: Label) {
-    say_codes(&label.codes, label.len as usize, b' ', b' ');
-    blanks(places_left(label.len));
+fn say_label(host: &Host, label: Label) {
+    say_codes(host, &label.codes, label.len as usize, b' ', b' ');
+    blanks(host, places_left(label.len));
 }
 
 // 1 is down, 2 up, 3 both.
-fn say_rocker(w: u8) {
+fn say_rocker(host: &Host, w: u8) {
     match w {
-        1 => say(b"   \xE2\x96\xBC  "),
-        2 => say(b"  \xE2\x96\xB2   "),
-        3 => say(b"  \xE2\x96\xB2\xE2\x96\xBC  "),
-        _ => blanks(6),
+        1 => say(host, b"   \xE2\x96\xBC  "),
+        2 => say(host, b"  \xE2\x96\xB2   "),
+        3 => say(host, b"  \xE2\x96\xB2\xE2\x96\xBC  "),
+        _ => blanks(host, 6),
     }
 }
 
-fn draw_labels(labels: Labels) {
+fn draw_labels(host: &Host, labels: Labels) {
     let left = labels.left;
     let right = labels.right;
-    side();
-    say_label(left);
-    say_rocker(labels.w);
-    say_label(right);
-    end_of_line();
-    empty_line();
+    side(host);
+    say_label(host, left);
+    say_rocker(host, labels.w);
+    say_label(host, right);
+    end_of_line(host);
+    empty_line(host);
 }
 
 // The low four dots of two columns as one braille sign, U+2800 and up. The sign counts the upper three dots of its left
 // column, then those of its right one, then the lowest of each.
-fn say_dots(left: u8, right: u8) {
+fn say_dots(host: &Host, left: u8, right: u8) {
     let upper = left % 8 + right % 8 * 8;
     let lowest = left / 8 % 2 + right / 8 % 2 * 2;
     let sign = [0xE2, 0xA0 + lowest, 0x80 + upper];
-    say(&sign);
+    say(host, &sign);
 }
 
 // The upper four dots of a column are its low four bits.
@@ -232,39 +239,39 @@ fn half(column: u8, lower: bool) -> u8 {
 }
 
 // Some places of one of the two lines of a picture row.
-fn dots(columns: &[u8; 96], from: usize, to: usize, lower: bool)
+fn dots(host: &Host, columns: &[u8; 96], from: usize, to: usize, lower: bool)
     requires { (from ≤ to) × (to ≤ 48) }
 {
     for i in from..to {
         let left = half(columns[2 * i], lower);
         let right = half(columns[2 * i + 1], lower);
-        say_dots(left, right);
+        say_dots(host, left, right);
     }
 }
 
-fn dots_line(columns: &[u8; 96], lower: bool) {
-    side();
-    dots(columns, 0, PLACES, lower);
-    end_of_line();
+fn dots_line(host: &Host, columns: &[u8; 96], lower: bool) {
+    side(host);
+    dots(host, columns, 0, PLACES, lower);
+    end_of_line(host);
 }
 
-fn draw_picture(columns: [u8; 96]) {
-    dots_line(&columns, false);
-    dots_line(&columns, true);
+fn draw_picture(host: &Host, columns: [u8; 96]) {
+    dots_line(host, &columns, false);
+    dots_line(host, &columns, true);
 }
 
 // The same around the rocker's places; it stands in the first line.
-fn dots_around(columns: &[u8; 96], w: u8, lower: bool) {
-    side();
-    dots(columns, 0, ROCKER, lower);
-    say_rocker(w);
-    dots(columns, RIGHT_LABEL, PLACES, lower);
-    end_of_line();
+fn dots_around(host: &Host, columns: &[u8; 96], w: u8, lower: bool) {
+    side(host);
+    dots(host, columns, 0, ROCKER, lower);
+    say_rocker(host, w);
+    dots(host, columns, RIGHT_LABEL, PLACES, lower);
+    end_of_line(host);
 }
 
-fn draw_picture_with_rocker(columns: [u8; 96], w: u8) {
-    dots_around(&columns, w, false);
-    dots_around(&columns, 0, true);
+fn draw_picture_with_rocker(host: &Host, columns: [u8; 96], w: u8) {
+    dots_around(host, &columns, w, false);
+    dots_around(host, &columns, 0, true);
 }
 
 // The strokes of a digit, as on a meter: 1 the top, 2 and 4 the upper left and right, 8 the middle, 16 and 32 the lower left and
@@ -285,33 +292,35 @@ fn strokes(code: u8) -> u8 {
     }
 }
 
-fn say_if(there: bool, sign: &[u8], none: &[u8]) {
+fn say_if(host: &Host, there: bool, sign: &[u8], none: &[u8]) {
     if there {
-        say(sign);
+        say(host, sign);
         return;
     }
-    say(none);
+    say(host, none);
 }
 
 // Three strokes of a digit: left, level and right.
-fn say_strokes(left: bool, level: bool, right: bool) {
-    say_if(left, b"|", b" ");
-    say_if(level, b"___", b"   ");
-    say_if(right, b"|", b" ");
-    say(b" ");
+fn say_strokes(host: &Host, left: bool, level: bool, right: bool) {
+    say_if(host, left, b"|", b" ");
+    say_if(host, level, b"___", b"   ");
+    say_if(host, right, b"|", b" ");
+    say(host, b" ");
 }
 
 // Of the four lines of a big digit, from the top.
-fn say_digit(strokes: u8, line: u8) {
+fn say_digit(host: &Host, strokes: u8, line: u8) {
     match line {
-        0 => say_strokes(false, strokes % 2 == 1, false),
+        0 => say_strokes(host, false, strokes % 2 == 1, false),
         1 => say_strokes(
+            host,
             strokes / 2 % 2 == 1,
             strokes / 8 % 2 == 1,
             strokes / 4 % 2 == 1,
         ),
-        2 => say_strokes(strokes / 16 % 2 == 1, false, strokes / 32 % 2 == 1),
+        2 => say_strokes(host, strokes / 16 % 2 == 1, false, strokes / 32 % 2 == 1),
         _ => say_strokes(
+            host,
             strokes / 16 % 2 == 1,
             strokes / 64 % 2 == 1,
             strokes / 32 % 2 == 1,
@@ -320,49 +329,49 @@ fn say_digit(strokes: u8, line: u8) {
 }
 
 // Of the four lines of another code.
-fn say_sign(code: u8, line: u8) {
+fn say_sign(host: &Host, code: u8, line: u8) {
     let sign = printable(code);
     match line {
-        1 => say(&[b' ', b' ', sign, sign, b' ', b' ']),
-        2 => say(&[b' ', b' ', sign, sign, b' ', b' ']),
-        _ => blanks(6),
+        1 => say(host, &[b' ', b' ', sign, sign, b' ', b' ']),
+        2 => say(host, &[b' ', b' ', sign, sign, b' ', b' ']),
+        _ => blanks(host, 6),
     }
 }
 
-fn say_big(code: u8, line: u8) {
+fn say_big(host: &Host, code: u8, line: u8) {
     let strokes = strokes(code);
     if strokes == 0 {
-        say_sign(code, line);
+        say_sign(host, code, line);
         return;
     }
-    say_digit(strokes, line);
+    say_digit(host, strokes, line);
 }
 
-fn big_line(codes: &[u8; 16], line: u8) {
-    side();
+fn big_line(host: &Host, codes: &[u8; 16], line: u8) {
+    side(host);
     for i in 0..8 {
-        say_big(codes[i], line);
+        say_big(host, codes[i], line);
     }
-    end_of_line();
+    end_of_line(host);
 }
 
 // A half of the big codes is two of their four lines.
-fn draw_big(codes: [u8; 16], half: u8) {
+fn draw_big(host: &Host, codes: [u8; 16], half: u8) {
     if half == 0 {
-        big_line(&codes, 0);
-        big_line(&codes, 1);
+        big_line(host, &codes, 0);
+        big_line(host, &codes, 1);
         return;
     }
-    big_line(&codes, 2);
-    big_line(&codes, 3);
+    big_line(host, &codes, 2);
+    big_line(host, &codes, 3);
 }
 
-fn draw_nothing() {
-    empty_line();
-    empty_line();
+fn draw_nothing(host: &Host) {
+    empty_line(host);
+    empty_line(host);
 }
 
-fn draw_row(r: Record, row: u8, phase: Phase) {
+fn draw_row(host: &Host, r: Record, row: u8, phase: Phase) {
     let seen = seen::row_seen(r, row, phase);
     let owner = seen.owner;
     let codes = seen.codes;
@@ -371,42 +380,43 @@ fn draw_row(r: Record, row: u8, phase: Phase) {
     let labels = seen.labels;
     let inverse = seen.inverse;
     match owner {
-        Owner::Nothing => draw_nothing(),
-        Owner::IconBar => draw_bar(bar),
-        Owner::TextRow(_) => draw_text(codes, inverse),
-        Owner::PictureRow(_) => draw_picture(columns),
-        Owner::SoftKeys => draw_labels(labels),
-        Owner::SmallLine => draw_text(codes, inverse),
-        Owner::BigLine(half) => draw_big(codes, half),
-        Owner::PictureWithRocker(_) => draw_picture_with_rocker(columns, labels.w),
+        Owner::Nothing => draw_nothing(host),
+        Owner::IconBar => draw_bar(host, bar),
+        Owner::TextRow(_) => draw_text(host, codes, inverse),
+        Owner::PictureRow(_) => draw_picture(host, columns),
+        Owner::SoftKeys => draw_labels(host, labels),
+        Owner::SmallLine => draw_text(host, codes, inverse),
+        Owner::BigLine(half) => draw_big(host, codes, half),
+        Owner::PictureWithRocker(_) => draw_picture_with_rocker(host, columns, labels.w),
     }
 }
 
-fn draw(r: Record, phase: Phase) {
-    top_edge();
+fn draw(host: &Host, r: Record, phase: Phase) {
+    top_edge(host);
     for row in 0..7 {
-        draw_row(r, row, phase);
+        draw_row(host, r, row, phase);
     }
-    bottom_edge();
+    bottom_edge(host);
 }
 
-fn phase_given() -> Phase {
-    if program::is_given(b"--pause\n") {
+fn phase_given(host: &Host) -> Phase {
+    if program::is_given(host, b"--pause\n") {
         return Phase::Pause;
     }
     Phase::Lit
 }
 
 // The record's own edition decides which frames are read.
-fn power_on_given() -> Record {
-    if program::is_given(b"--sister\n") {
+fn power_on_given(host: &Host) -> Record {
+    if program::is_given(host, b"--sister\n") {
         return Record::sister_power_on();
     }
     Record::power_on()
 }
 
-fn accepted() -> bool {
+fn accepted(host: &Host) -> bool {
     program::accepts(
+        host,
         b"show_screen",
         b"usage: ./run show_screen [--pause] [--sister] [FILE]\n\
         Reads a stream from FILE, or from standard input without one, and draws what a person then sees.\n\
@@ -417,20 +427,20 @@ fn accepted() -> bool {
     )
 }
 
-fn show(input: Input) {
-    let heard = stream_input::hear(input.descriptor, power_on_given());
+fn show(host: &Host, input: &mut Input) {
+    let heard = stream_input::hear(input, power_on_given(host));
     if heard.failed {
-        program::complain_of(b"show_screen", input);
+        program::complain_of(host, b"show_screen", input);
         return;
     }
-    draw(heard.record, phase_given());
+    draw(host, heard.record, phase_given(host));
 }
 
-fn main() {
-    if accepted() {
-        let input = program::open_input(b"show_screen");
-        if 0 <= input.descriptor {
-            show(input);
+fn main(rt: HostRuntime) {
+    let host = Host::new(rt);
+    if accepted(&host) {
+        if let Some(mut input) = program::open_input(&host, b"show_screen") {
+            show(&host, &mut input);
         }
     }
 }

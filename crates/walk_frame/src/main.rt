@@ -6,7 +6,9 @@
 // is not, what could have stood there. Each line asks the proved reader how far the bytes up to here lead. With --table the table itself
 // is printed, as it stands in docs/RULES.md.
 #![tactic(auto)]
+
 use command::{CLASSES, ENTRIES, FIRST_GOOD, NEXT_STATES, STATES};
+use program::Host;
 
 const LAST_CLASS: u8 = 16;
 
@@ -20,29 +22,30 @@ const NONE: u8 = b'@';
 
 const LETTERS: u8 = 64;
 
-fn say(words: &[u8]) {
-    program::write(b"walk_frame", words);
+fn say(host: &Host, words: &[u8]) {
+    program::write(host, b"walk_frame", words);
 }
 
 // A code that can't be printed is a dot.
-fn say_code(code: u8) {
+fn say_code(host: &Host, code: u8) {
     let shown = [match code {
         0x20..=0x7E => code,
         _ => b'.',
     }];
-    say(&shown);
+    say(host, &shown);
 }
 
-fn say_letter(n: u8) {
-    say_code(n % LETTERS + NONE);
-    say(b"  ");
+fn say_letter(host: &Host, n: u8) {
+    say_code(host, n % LETTERS + NONE);
+    say(host, b"  ");
 }
 
 // Names. RULES.md has the same.
 
-fn say_state(state: u8) {
-    say_letter(state);
+fn say_state(host: &Host, state: u8) {
+    say_letter(host, state);
     program::write_entry(
+        host,
         b"walk_frame",
         b"refused\n\
         start\n\
@@ -70,11 +73,12 @@ fn say_state(state: u8) {
         the end\n",
         state,
     );
-    say(b"\n");
+    say(host, b"\n");
 }
 
-fn say_class(class: u8) {
+fn say_class(host: &Host, class: u8) {
     program::write_entry(
+        host,
         b"walk_frame",
         b"any other byte\n\
         0\n\
@@ -95,7 +99,7 @@ fn say_class(class: u8) {
         B, F, J, L, M, P, U, W or Z\n",
         class,
     );
-    say(b"\n");
+    say(host, b"\n");
 }
 
 // The table.
@@ -108,41 +112,41 @@ fn next_of(class: u8, state: u8) -> u8 {
     REFUSED
 }
 
-fn say_row(class: u8) {
-    say_letter(class);
+fn say_row(host: &Host, class: u8) {
+    say_letter(host, class);
     for state in 0..STATES {
-        say_code(next_of(class, state) % LETTERS + NONE);
+        say_code(host, next_of(class, state) % LETTERS + NONE);
     }
-    say(b"  ");
-    say_class(class);
+    say(host, b"  ");
+    say_class(host, class);
 }
 
-fn say_states() {
+fn say_states(host: &Host) {
     for state in 0..STATES {
-        say_state(state);
+        say_state(host, state);
     }
 }
 
 // The states' letters, above their columns.
-fn say_columns() {
+fn say_columns(host: &Host) {
     for state in 0..STATES {
-        say_code(state % LETTERS + NONE);
+        say_code(host, state % LETTERS + NONE);
     }
 }
 
-fn say_rows() {
+fn say_rows(host: &Host) {
     for class in 0..=LAST_CLASS {
-        say_row(class);
+        say_row(host, class);
     }
 }
 
-fn say_table() {
-    say(b"States; a frame may end in those from T on\n");
-    say_states();
-    say(b"\nClasses, and the next state from each state\n   ");
-    say_columns();
-    say(b"\n");
-    say_rows();
+fn say_table(host: &Host) {
+    say(host, b"States; a frame may end in those from T on\n");
+    say_states(host);
+    say(host, b"\nClasses, and the next state from each state\n   ");
+    say_columns(host);
+    say(host, b"\n");
+    say_rows(host);
 }
 
 // The walk.
@@ -160,49 +164,49 @@ fn state_behind(frame: &[u8]) -> u8 {
     (found.state % LETTERS as usize) as u8
 }
 
-fn say_step(code: u8, state: u8) {
+fn say_step(host: &Host, code: u8, state: u8) {
     let class = CLASSES[code as usize];
-    say_code(code);
-    say(b"  ");
-    say_letter(class % LETTERS);
-    say_state(state);
+    say_code(host, code);
+    say(host, b"  ");
+    say_letter(host, class % LETTERS);
+    say_state(host, state);
 }
 
 // What could have stood behind these bytes, which lead to a state.
-fn say_choices(frame: &[u8], state: u8) {
-    say(b"behind '");
-    say(frame);
-    say(b"' could have stood:\n");
+fn say_choices(host: &Host, frame: &[u8], state: u8) {
+    say(host, b"behind '");
+    say(host, frame);
+    say(host, b"' could have stood:\n");
     for class in 1..=LAST_CLASS {
         if next_of(class, state) != REFUSED {
-            say(b"  ");
-            say_class(class);
+            say(host, b"  ");
+            say_class(host, class);
         }
     }
     if FIRST_GOOD <= state as usize {
-        say(b"  the end of the frame\n");
+        say(host, b"  the end of the frame\n");
     }
 }
 
-fn walk(frame: &[u8]) {
-    say(b"      ");
-    say_state(START);
+fn walk(host: &Host, frame: &[u8]) {
+    say(host, b"      ");
+    say_state(host, START);
     for i in 0..frame.len() {
         let state = state_behind(first(frame, i + 1));
-        say_step(frame[i], state);
+        say_step(host, frame[i], state);
         if state == REFUSED {
-            say(b"bad: ");
-            say_choices(first(frame, i), state_behind(first(frame, i)));
+            say(host, b"bad: ");
+            say_choices(host, first(frame, i), state_behind(first(frame, i)));
             return;
         }
     }
     let state = state_behind(frame);
     if (state as usize) < FIRST_GOOD {
-        say(b"bad, it ends too soon: ");
-        say_choices(frame, state);
+        say(host, b"bad, it ends too soon: ");
+        say_choices(host, frame, state);
         return;
     }
-    say(b"good: a frame may end here\n");
+    say(host, b"good: a frame may end here\n");
 }
 
 // Labels and pictures are known by how they open; the table has no state for them.
@@ -216,16 +220,20 @@ fn is_other(frame: &[u8]) -> bool {
     (frame[0] == b'I') & (frame[1] == b'K') & ((frame[2] == b'1') | (frame[2] == b'2'))
 }
 
-fn tell(frame: &[u8]) {
+fn tell(host: &Host, frame: &[u8]) {
     if is_other(frame) {
-        say(b"no frame of the table: IK1 and IK2 open a label, Gr opens a picture\n");
+        say(
+            host,
+            b"no frame of the table: IK1 and IK2 open a label, Gr opens a picture\n",
+        );
         return;
     }
-    walk(frame);
+    walk(host, frame);
 }
 
-fn accepted() -> bool {
+fn accepted(host: &Host) -> bool {
     program::accepts(
+        host,
         b"walk_frame",
         b"usage: ./run walk_frame [--table] [FRAME]\n\
         Walks FRAME, the bytes between ESC and CR, through the table of the frames that carry numbers, and says state by state where it is.\n\
@@ -235,14 +243,15 @@ fn accepted() -> bool {
     )
 }
 
-fn main() {
-    if accepted() {
-        if program::is_given(b"--table\n") {
-            say_table();
+fn main(rt: HostRuntime) {
+    let host = Host::new(rt);
+    if accepted(&host) {
+        if program::is_given(&host, b"--table\n") {
+            say_table(&host);
             return;
         }
-        let mut frame = io::buffer();
-        let n = program::read_word(&mut frame);
-        tell(&frame[..n]);
+        let mut frame = [0u8; 4096];
+        let n = program::read_word(&host, &mut frame);
+        tell(&host, &frame[..n]);
     }
 }

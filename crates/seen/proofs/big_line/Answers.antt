@@ -1,5 +1,4 @@
 -- `seen::big_line` keeps its promise. Assumes nothing.
--- Eight codes of the line from the first big one on, and zeros after them.
 use Rattle.std.proofs.Common.{rules, arith, ap, ◌∙◌}
 use Rattle.std.proofs.Math.Seq.{slice}
 use Rattle.std.specs.Prelude.{ℕ, ◌+◌, ◌≡◌, List, ◌≤◌, ◌++◌, length, replicate}

@@ -1,5 +1,4 @@
 -- `seen::codes_in` keeps its promise. The loop goes from the end of the line: what is left of it has the same last code. Assumes nothing.
--- the code before place i of the line, as the text has it
 use Rattle.std.proofs.Common.{arith, sym, ap, ◌∙◌, subst, take_all, get_or-drop, length-take}
 use Rattle.std.proofs.Math.Nat.{max-eq_left, max-eq_right}
 use Rattle.std.specs.Prelude.{ℕ, suc, ◌+◌, ◌-◌, ◌<◌, ◌≡◌, List, get_or, ◌≤◌, length, take}

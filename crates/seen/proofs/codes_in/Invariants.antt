@@ -1,5 +1,4 @@
 -- `seen::codes_in` keeps its promise. The loop goes from the end of the line: what is left of it has the same last code. Assumes nothing.
--- the code before place i of the line, as the text has it
 use Rattle.std.specs.Prelude.{◌≡◌, ◌≤◌, take}
 use Rattle.record.specs.Range.{line_of}
 use Rattle.seen.specs.Line.{after_last}

@@ -1,5 +1,4 @@
 -- `seen::column_seen_lent` keeps its promise. Assumes nothing.
--- A place that is not refused is one of the display's.
 use Rattle.std.proofs.Common.{sym, ◌∙◌, ltb-false, true≢false}
 use Rattle.std.specs.Prelude.{ℕ, false, ◌||◌, ◌≡◌, ltb, ◌≤◌}
 use Rattle.lists.specs.Tests.{by_test}

@@ -1,5 +1,4 @@
 -- `seen::fill` keeps its promise. Assumes nothing.
--- One place more is filled.
 use Rattle.std.specs.Prelude.{◌-◌, ◌≡◌, ◌≤◌, length, take, drop}
 use Rattle.seen.proofs.fill.Given as goal
 

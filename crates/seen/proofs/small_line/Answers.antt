@@ -1,5 +1,4 @@
 -- `seen::small_line` keeps its promise. Assumes nothing.
--- as many of 16 blanks as codes are small
 use Rattle.std.proofs.Common.{rules, arith, sym, ◌∙◌, length-take-le}
 use Rattle.std.proofs.Math.Seq.{slice}
 use Rattle.std.specs.Prelude.{ℕ, ◌+◌, ◌≡◌, List, ◌≤◌, ◌++◌, length, take, replicate, drop}
