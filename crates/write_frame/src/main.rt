@@ -4,15 +4,15 @@
 // An empty line says nothing, and so does one that begins with #. A line has at most 1024 bytes, and may end with CR LF. With
 // --sister the frames are those of the sister handset. The usage below has the lines.
 #![tactic(auto)]
+
 ghost use Rattle.std.specs.Prelude.{◌≤◌, length};
 
 use command::{Command, Side};
 use handset_numbers::{command_of, sister_command_of};
-use libc::STDERR_FILENO;
 use lists::{BLANK, CARRIAGE_RETURN, LINE_FEED};
 use numeral::{Numeral, read_number};
 use picture::MOST_COLUMNS;
-use program::Input;
+use program::{Host, Input};
 use record::Number;
 use sister_command::SisterCommand;
 use writer::Written;
@@ -110,82 +110,82 @@ struct Reading {
 
 // Standard error.
 
-fn tell(words: &[u8]) {
-    io::write_all(STDERR_FILENO, words);
+fn tell(host: &Host, words: &[u8]) {
+    program::tell(host, words);
 }
 
 // A reason comes with its colon and its line feed, so that it is told in one piece.
-fn refuse(number: u64, reason: &[u8]) {
-    tell(b"write_frame: line ");
-    io::print_decimal(STDERR_FILENO, number);
-    tell(reason);
+fn refuse(host: &Host, number: u64, reason: &[u8]) {
+    tell(host, b"write_frame: line ");
+    program::tell_number(host, number);
+    tell(host, reason);
 }
 
 // Standard output.
 
-fn say(bytes: &[u8]) {
-    program::write(b"write_frame", bytes);
+fn say(host: &Host, bytes: &[u8]) {
+    program::write(host, b"write_frame", bytes);
 }
 
 // What a writer wrote.
-fn send(room: &[u8], w: Written) -> Outcome {
+fn send(host: &Host, room: &[u8], w: Written) -> Outcome {
     let number = w.number;
     let n = w.count;
     let Number::Done = number else {
         return Outcome::OutOfRange;
     };
     if n <= room.len() {
-        say(&room[..n]);
+        say(host, &room[..n]);
     }
     Outcome::Taken
 }
 
-fn send_command(c: Command) -> Outcome {
+fn send_command(host: &Host, c: Command) -> Outcome {
     let mut room = [0u8; 200];
     let w = writer::write_command(c, &mut room);
-    send(&room, w)
+    send(host, &room, w)
 }
 
-fn send_own(c: SisterCommand) -> Outcome {
+fn send_own(host: &Host, c: SisterCommand) -> Outcome {
     let mut room = [0u8; 200];
     let w = writer::write_own(c, &mut room);
-    send(&room, w)
+    send(host, &room, w)
 }
 
-fn send_shared(c: Command) -> Outcome {
+fn send_shared(host: &Host, c: Command) -> Outcome {
     let mut room = [0u8; 200];
     let w = writer::write_shared(c, &mut room);
-    send(&room, w)
+    send(host, &room, w)
 }
 
-fn send_label(side: Side, codes: &[u8]) -> Outcome {
+fn send_label(host: &Host, side: Side, codes: &[u8]) -> Outcome {
     let mut room = [0u8; 200];
     let w = writer::write_label(side, codes, &mut room);
-    send(&room, w)
+    send(host, &room, w)
 }
 
-fn send_row(row: u8, columns: &[u8]) -> Outcome {
+fn send_row(host: &Host, row: u8, columns: &[u8]) -> Outcome {
     let mut room = [0u8; 200];
     let w = writer::write_picture_row(row, columns, &mut room);
-    send(&room, w)
+    send(host, &room, w)
 }
 
 // A text goes out as it is.
-fn send_text(s: &[u8]) -> Outcome {
+fn send_text(host: &Host, s: &[u8]) -> Outcome {
     for i in 0..s.len() {
         if s[i] < BLANK {
             return Outcome::BadText;
         }
     }
-    say(s);
+    say(host, s);
     Outcome::Taken
 }
 
 // A frame goes out as it is typed.
-fn send_frame(body: &[u8]) -> Outcome {
-    say(b"\x1B");
-    say(body);
-    say(b"\r\n");
+fn send_frame(host: &Host, body: &[u8]) -> Outcome {
+    say(host, b"\x1B");
+    say(host, body);
+    say(host, b"\r\n");
     Outcome::Taken
 }
 
@@ -322,19 +322,19 @@ fn wanted(behind: &[u8]) -> usize
     seek(behind, 0, NUMBER_SIGN, false)
 }
 
-fn send_numbered(kind: u8, a: u16, b: u16, sister: bool) -> Outcome {
+fn send_numbered(host: &Host, kind: u8, a: u16, b: u16, sister: bool) -> Outcome {
     if FIRST_OWN <= kind {
         let own = std::num::wrapping_add_u8(kind, OWN_ABOVE);
-        return send_own(sister_command_of(own, a, b));
+        return send_own(host, sister_command_of(own, a, b));
     }
     if sister {
-        return send_shared(command_of(kind, a, b));
+        return send_shared(host, command_of(kind, a, b));
     }
-    send_command(command_of(kind, a, b))
+    send_command(host, command_of(kind, a, b))
 }
 
 // A command by its number, and the words behind its phrase: as many numbers as are wanted, and nothing else.
-fn obey_command(kind: u8, most: usize, words: &[u8], sister: bool) -> Outcome {
+fn obey_command(host: &Host, kind: u8, most: usize, words: &[u8], sister: bool) -> Outcome {
     let first = next_number(words, 0, 0 < most);
     let second = next_number(words, first.end, 1 < most);
     let n = first.number;
@@ -345,7 +345,7 @@ fn obey_command(kind: u8, most: usize, words: &[u8], sister: bool) -> Outcome {
     if (n == NO_NUMBER) | (m == NO_NUMBER) {
         return Outcome::BadNumbers;
     }
-    send_numbered(kind, n, m, sister)
+    send_numbered(host, kind, n, m, sister)
 }
 
 // Picture rows.
@@ -387,20 +387,20 @@ fn read_digits(text: &[u8], columns: &mut [u8]) -> usize {
     digits
 }
 
-fn obey_columns(row: u8, text: &[u8]) -> Outcome {
+fn obey_columns(host: &Host, row: u8, text: &[u8]) -> Outcome {
     let mut columns = [0u8; 96];
     let digits = read_digits(text, &mut columns);
     let count = digits / 2;
     if (0 < digits) & (digits % 2 == 0) {
         if count <= MOST_COLUMNS {
-            return send_row(row, &columns[..count]);
+            return send_row(host, row, &columns[..count]);
         }
     }
     Outcome::BadColumns
 }
 
 // A picture row: its number, and the text of its columns.
-fn obey_picture(words: &[u8]) -> Outcome {
+fn obey_picture(host: &Host, words: &[u8]) -> Outcome {
     let row = next_number(words, 0, true);
     let n = row.number;
     let end = row.end;
@@ -410,13 +410,13 @@ fn obey_picture(words: &[u8]) -> Outcome {
     if LAST_ROW < n {
         return Outcome::OutOfRange;
     }
-    obey_columns(n as u8, &words[end..])
+    obey_columns(host, n as u8, &words[end..])
 }
 
 // Lines.
 
 // The usage, which --help asks for; its lines, which a line help asks for. Tells whether the program goes on.
-fn usage(asked_by_line: bool) -> bool {
+fn usage(host: &Host, asked_by_line: bool) -> bool {
     let text = b"usage: ./run write_frame [--sister] [FILE]\n\
         Reads lines from FILE, or from standard input without one, and writes the bytes of their frames. The lines:\n\
         display on | display off\n\
@@ -460,14 +460,14 @@ fn usage(asked_by_line: bool) -> bool {
         restart                   as at power-on, but for what is stored\n\
         ask position | ask ptt | ask mode | ask light | ask brightness | ask times | ask speaker\n";
     if asked_by_line {
-        program::tell_help(text);
+        program::tell_help(host, text);
         return true;
     }
-    program::accepts(b"write_frame", text, b"--sister\n", true)
+    program::accepts(host, b"write_frame", text, b"--sister\n", true)
 }
 
-fn help() -> Outcome {
-    usage(true);
+fn help(host: &Host) -> Outcome {
+    usage(host, true);
     Outcome::Taken
 }
 
@@ -479,75 +479,86 @@ fn light_of(sister: bool) -> u8 {
 }
 
 // A phrase of the table, how many numbers it wants, and all that stands behind it.
-fn obey_phrase(phrase: u8, most: usize, rest: &[u8], sister: bool) -> Outcome {
+fn obey_phrase(host: &Host, phrase: u8, most: usize, rest: &[u8], sister: bool) -> Outcome {
     if FIRST_COMMAND <= phrase {
-        return obey_command(phrase - FIRST_COMMAND, most, rest, sister);
+        return obey_command(host, phrase - FIRST_COMMAND, most, rest, sister);
     }
     match phrase {
-        LEFT => send_label(Side::Left, rest),
-        RIGHT => send_label(Side::Right, rest),
-        TEXT => send_text(rest),
-        FRAME => send_frame(rest),
-        PICTURE => obey_picture(rest),
-        HELP => help(),
+        LEFT => send_label(host, Side::Left, rest),
+        RIGHT => send_label(host, Side::Right, rest),
+        TEXT => send_text(host, rest),
+        FRAME => send_frame(host, rest),
+        PICTURE => obey_picture(host, rest),
+        HELP => help(host),
         ICON => Outcome::NoSuchIcon,
-        LIGHT_OFF => obey_command(light_of(sister), most, rest, sister),
+        LIGHT_OFF => obey_command(host, light_of(sister), most, rest, sister),
         _ => Outcome::NoSuchCommand,
     }
 }
 
 // The table has the range behind the words of a phrase, with a colon before it.
-fn refuse_range(behind: &[u8], number: u64) {
+fn refuse_range(host: &Host, behind: &[u8], number: u64) {
     let start = wanted(behind);
     let end = seek(behind, start, LINE_FEED, true);
-    refuse(number, b": out of range");
-    tell(&behind[start..end]);
-    tell(b"\n");
+    refuse(host, number, b": out of range");
+    tell(host, &behind[start..end]);
+    tell(host, b"\n");
 }
 
 // A phrase that wants no number wants no word at all behind it.
-fn refuse_numbers(most: usize, number: u64) {
+fn refuse_numbers(host: &Host, most: usize, number: u64) {
     match most {
         1 => refuse(
+            host,
             number,
             b": one number of one to three digits is wanted, and no leading zero\n",
         ),
         2 => refuse(
+            host,
             number,
             b": two numbers of one to three digits are wanted, and no leading zero\n",
         ),
-        _ => refuse(number, b": nothing is wanted behind these words\n"),
+        _ => refuse(host, number, b": nothing is wanted behind these words\n"),
     }
 }
 
-fn tell_outcome(outcome: Outcome, behind: &[u8], number: u64) {
+fn tell_outcome(host: &Host, outcome: Outcome, behind: &[u8], number: u64) {
     match outcome {
         Outcome::Taken => {}
-        Outcome::NoSuchCommand => refuse(number, b": no such command; the line help lists them\n"),
-        Outcome::NoSuchIcon => refuse(number, b": icons are S U F R P W, in capital letters\n"),
-        Outcome::BadNumbers => refuse_numbers(wanted(behind), number),
-        Outcome::OutOfRange => refuse_range(behind, number),
+        Outcome::NoSuchCommand => refuse(
+            host,
+            number,
+            b": no such command; the line help lists them\n",
+        ),
+        Outcome::NoSuchIcon => refuse(
+            host,
+            number,
+            b": icons are S U F R P W, in capital letters\n",
+        ),
+        Outcome::BadNumbers => refuse_numbers(host, wanted(behind), number),
+        Outcome::OutOfRange => refuse_range(host, behind, number),
         Outcome::BadColumns => refuse(
+            host,
             number,
             b": wanted are a row and 1 to 96 columns, two digits 0-9 A-F each\n",
         ),
-        Outcome::BadText => refuse(number, b": a text has no code below 0x20\n"),
+        Outcome::BadText => refuse(host, number, b": a text has no code below 0x20\n"),
     }
 }
 
-fn obey_words(phrases: &[u8], line: &[u8], start: usize, number: u64, sister: bool) {
+fn obey_words(host: &Host, phrases: &[u8], line: &[u8], start: usize, number: u64, sister: bool) {
     let found = find(phrases, line, start, sister);
     let at = found.at;
     let from = found.behind;
     let behind = &phrases[from..];
-    let outcome = obey_phrase(found.phrase, wanted(behind), &line[at..], sister);
-    tell_outcome(outcome, behind, number);
+    let outcome = obey_phrase(host, found.phrase, wanted(behind), &line[at..], sister);
+    tell_outcome(host, outcome, behind, number);
 }
 
 // The table of phrases. Behind a phrase stand a # for each number that is wanted and, where something can be out of range, a colon and
 // what is in range. The commands come in the order of their numbers. Of phrases that begin with the same words the longest is meant.
 // Before a phrase that one edition alone has stands its mark.
-fn obey(line: &[u8], number: u64, sister: bool) {
+fn obey(host: &Host, line: &[u8], number: u64, sister: bool) {
     let start = seek(line, 0, BLANK, false);
     if line.len() <= start {
         return;
@@ -556,6 +567,7 @@ fn obey(line: &[u8], number: u64, sister: bool) {
         return;
     }
     obey_words(
+        host,
         b"left: a label has at most 7 codes, none below 0x20\n\
         right: a label has at most 7 codes, none below 0x20\n\
         text\n\
@@ -651,23 +663,23 @@ fn without_return(line: &[u8], held: usize) -> usize
     held
 }
 
-fn take_line(line: &[u8], reading: Reading) {
+fn take_line(host: &Host, line: &[u8], reading: Reading) {
     let held = reading.held;
     let number = reading.number;
     if line.len() < held {
-        refuse(number, b": longer than 1024 bytes\n");
+        refuse(host, number, b": longer than 1024 bytes\n");
         return;
     }
     let end = without_return(line, held);
-    obey(&line[..end], number, reading.sister);
+    obey(host, &line[..end], number, reading.sister);
 }
 
-fn take_byte(reading: Reading, b: u8, line: &mut [u8]) -> Reading {
+fn take_byte(host: &Host, reading: Reading, b: u8, line: &mut [u8]) -> Reading {
     let number = reading.number;
     let held = reading.held;
     let sister = reading.sister;
     if b == LINE_FEED {
-        take_line(line, reading);
+        take_line(host, line, reading);
         return Reading {
             sister: sister,
             number: std::num::wrapping_add_u64(number, 1),
@@ -689,26 +701,26 @@ fn take_byte(reading: Reading, b: u8, line: &mut [u8]) -> Reading {
     }
 }
 
-fn take_piece(reading: Reading, piece: &[u8], line: &mut [u8]) -> Reading {
+fn take_piece(host: &Host, reading: Reading, piece: &[u8], line: &mut [u8]) -> Reading {
     let mut now = reading;
     for i in 0..piece.len() {
-        now = take_byte(now, piece[i], line);
+        now = take_byte(host, now, piece[i], line);
     }
     now
 }
 
 // Of an input that fails the line that is not whole is not taken.
-fn take_input(input: Input) {
+fn take_input(host: &Host, input: &mut Input) {
     let mut line = [0u8; 1024];
-    let mut piece = io::buffer();
+    let mut piece = [0u8; 4096];
     let mut reading = Reading {
-        sister: program::is_given(b"--sister\n"),
+        sister: program::is_given(host, b"--sister\n"),
         number: 1,
         held: 0,
     };
     let mut left = MOST_PIECES;
     while 0 < left {
-        let read = program::read_piece(b"write_frame", input, &mut piece);
+        let read = program::read_piece(host, b"write_frame", input, &mut piece);
         let n = read.length;
         if read.failed {
             return;
@@ -716,18 +728,18 @@ fn take_input(input: Input) {
         if n == 0 {
             break;
         }
-        reading = take_piece(reading, &piece[..n], &mut line);
+        reading = take_piece(host, reading, &piece[..n], &mut line);
         left -= 1;
     }
     // The last line may lack its LF.
-    take_line(&line, reading);
+    take_line(host, &line, reading);
 }
 
-fn main() {
-    if usage(false) {
-        let input = program::open_input(b"write_frame");
-        if 0 <= input.descriptor {
-            take_input(input);
+fn main(rt: HostRuntime) {
+    let host = Host::new(rt);
+    if usage(&host, false) {
+        if let Some(mut input) = program::open_input(&host, b"write_frame") {
+            take_input(&host, &mut input);
         }
     }
 }
