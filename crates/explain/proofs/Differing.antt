@@ -1,5 +1,5 @@
 -- A loop that counts changes, place by place. Assumes nothing.
-use Rattle.std.proofs.Common.{◌≡◌, ℕ, ◌+◌, ◌<◌, ◌≤◌, cond, eqb, List, [], ◌∷◌, length, get_or, take, drop, refl, ap, ◌∙◌, add-one, arith, drop_of_length-le, length-take, drop-cons, get_or-take}
+use Rattle.std.proofs.Common.{◌≡◌, ℕ, ◌+◌, ◌<◌, ◌≤◌, cond, eqb, List, [], ◌∷◌, length, get_or, take, refl, add-one, arith, drop_of_length-le, length-take, drop-cons, get_or-take}
 use lib.Seq.{slice}
 use Rattle.explain.specs.Changes.{differing, changes_in}
 

@@ -9,7 +9,6 @@ use Rattle.command.specs.declared.Side.TheVariants.{Left, Right}
 use Rattle.sister_command.specs.declared.SisterCommand.{SisterCommand}
 use Rattle.sister_command.specs.declared.SisterCommand.TheVariants as Hers
 use Rattle.explain.specs.declared.fields.Field.{Field}
-use Rattle.explain.specs.declared.fields.Field.TheVariants as Field
 use Rattle.explain.specs.declared.fields.Fields.{Fields}
 
 -- the fields from a first to a last one

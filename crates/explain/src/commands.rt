@@ -6,6 +6,7 @@ ghost use Rattle.explain.specs.Commands.{fields_of, label_of, field_out, own_fie
 use crate::fields::{Field, Fields, say_takes};
 use crate::words::{IN_MODE, say_count};
 use command::{Command, Side};
+use program::Host;
 use sister_command::SisterCommand;
 
 // The overlays that a frame can name.
@@ -154,23 +155,23 @@ pub fn own_field_out(c: SisterCommand, out: u16) -> Field
 }
 
 // Where a mode has no row that a frame can name there is nothing to take. Rows are counted from 0, marks from 1.
-fn say_rows(some: Field, none: Field, from: u8, mode: u8)
+fn say_rows(host: &Host, some: Field, none: Field, from: u8, mode: u8)
     requires { from ≤ 1 }
 {
     let rows = command_form::rows_named(mode);
     if rows == 0 {
-        say_takes(none, 0);
+        say_takes(host, none, 0);
     } else {
-        say_takes(some, (rows - from) as u64);
+        say_takes(host, some, (rows - from) as u64);
     }
-    say_count(IN_MODE, mode as u64);
+    say_count(host, IN_MODE, mode as u64);
 }
 
 // What a number takes, in a text mode.
-pub fn say_range(field: Field, mode: u8) {
+pub fn say_range(host: &Host, field: Field, mode: u8) {
     match field {
-        Field::Row => say_rows(Field::Row, Field::NoRow, 1, mode),
-        Field::Mark => say_rows(Field::Mark, Field::NoMark, 0, mode),
-        _ => say_takes(field, 0),
+        Field::Row => say_rows(host, Field::Row, Field::NoRow, 1, mode),
+        Field::Mark => say_rows(host, Field::Mark, Field::NoMark, 0, mode),
+        _ => say_takes(host, field, 0),
     }
 }

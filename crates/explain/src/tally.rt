@@ -2,10 +2,11 @@
 ghost use Rattle.std.specs.Prelude.{◌≡◌, ◌-◌};
 ghost use Rattle.explain.specs.Tally.{length_of, more_if, tail_place_after, tally_after};
 
-use crate::line::say_place;
+use crate::explain_line::say_place;
 use crate::words;
 use crate::words::{say_count, say_words};
 use parts::PartAt;
+use program::Host;
 use std::num::wrapping_add_u64 as more;
 
 // What becomes of a part: its line in the tables of words.
@@ -129,25 +130,25 @@ pub fn counted(tally: Tally, fate: usize, at: usize, front: PartAt, written: usi
 }
 
 // The line that sums up. Only the sister's record refuses frames, so only her line counts them.
-pub fn say_tally(t: Tally, sister: bool) {
+pub fn say_tally(host: &Host, t: Tally, sister: bool) {
     let judged = more(t.passed_over, more(t.refused, t.bad));
-    say_place(t.place);
-    say_words(words::END);
-    say_count(words::TEXT_BYTES, t.text);
-    say_count(words::SKIPPED_BYTES, t.skipped);
-    say_count(words::CLOSED_FRAMES, more(t.obeyed, judged));
-    say_count(words::OBEYED, t.obeyed);
-    say_count(words::PASSED_OVER, t.passed_over);
+    say_place(host, t.place);
+    say_words(host, words::END);
+    say_count(host, words::TEXT_BYTES, t.text);
+    say_count(host, words::SKIPPED_BYTES, t.skipped);
+    say_count(host, words::CLOSED_FRAMES, more(t.obeyed, judged));
+    say_count(host, words::OBEYED, t.obeyed);
+    say_count(host, words::PASSED_OVER, t.passed_over);
     if sister {
-        say_count(words::REFUSED, t.refused);
+        say_count(host, words::REFUSED, t.refused);
     }
-    say_count(words::BAD, t.bad);
-    say_count(words::ABANDONED_FRAMES, t.abandoned);
-    say_count(words::ANSWERS, t.answers);
+    say_count(host, words::BAD, t.bad);
+    say_count(host, words::ABANDONED_FRAMES, t.abandoned);
+    say_count(host, words::ANSWERS, t.answers);
     if t.tail {
-        say_count(words::TAIL_AT, t.tail_place);
+        say_count(host, words::TAIL_AT, t.tail_place);
     } else {
-        say_words(words::NO_TAIL);
+        say_words(host, words::NO_TAIL);
     }
-    say_words(words::LINE_END);
+    say_words(host, words::LINE_END);
 }

@@ -4,8 +4,8 @@ ghost use Rattle.explain.specs.Changes.{has_others};
 
 use crate::commands::{field_out, own_field_out, say_range};
 use crate::doings::say_obeyed;
+use crate::explain_line::{ROOM, begin_line, changes, say_if_overlong};
 use crate::fields::{Field, Sheet, say_takes, sheet_of};
-use crate::line::{ROOM, begin_line, changes, say_if_overlong};
 use crate::tally::{
     ABANDONED, BAD, OBEYED, OPEN, PASSED_OVER, REFUSED, SKIPPED, STORED, Tally, counted, length_of,
 };
@@ -14,6 +14,7 @@ use crate::words::{CR, FATES, FATES_ENDS, LF, LINE_END, NOTHING_CHANGED, say_cou
 use command::Reading;
 use lists::{CARRIAGE_RETURN, LINE_FEED};
 use parts::{Kind, PartAt};
+use program::Host;
 use record::{Edition, Small};
 use sister_command::SisterReading;
 use std::num::wrapping_add_u64 as more;
@@ -44,52 +45,52 @@ fn reading_in(edition: Edition, frame: &[u8]) -> Reading {
 }
 
 // A label has no number, so it is a picture or the sister's own.
-fn say_takes_else(frame: &[u8], out: u16) {
+fn say_takes_else(host: &Host, frame: &[u8], out: u16) {
     match sister_command::read_sister(frame) {
-        SisterReading::Own(c) => say_takes(own_field_out(c, out), 0),
-        _ => say_takes(Field::PictureRow, 0),
+        SisterReading::Own(c) => say_takes(host, own_field_out(c, out), 0),
+        _ => say_takes(host, Field::PictureRow, 0),
     }
 }
 
-fn say_passed_over(small: Small, frame: &[u8]) {
+fn say_passed_over(host: &Host, small: Small, frame: &[u8]) {
     let verdict = verdict::judge_in(small.settings, small.edition, frame);
     let Verdict::PassedOver(out) = verdict else {
         return;
     };
     match reading_in(small.edition, frame) {
-        Reading::Plain(c) => say_range(field_out(c, out), small.settings.screen.mode),
-        _ => say_takes_else(frame, out),
+        Reading::Plain(c) => say_range(host, field_out(c, out), small.settings.screen.mode),
+        _ => say_takes_else(host, frame, out),
     }
 }
 
 // An abandoned frame is answered at the ESC that stands behind it. The sister's question mark has a line end behind it.
-fn say_undone(fate: usize, place: u64, length: u64, sister: bool)
+fn say_undone(host: &Host, fate: usize, place: u64, length: u64, sister: bool)
     requires { fate < 8 }
 {
-    say_count(FATES + fate, more(more(place, 1), length));
+    say_count(host, FATES + fate, more(more(place, 1), length));
     if (fate == ABANDONED) | (fate == OPEN) | (fate == BAD) {
-        say_if_overlong(length);
+        say_if_overlong(host, length);
     }
-    say_words(FATES_ENDS + fate);
+    say_words(host, FATES_ENDS + fate);
     if sister & ((fate == ABANDONED) | (fate == BAD) | (fate == REFUSED)) {
-        say_words(CR);
-        say_words(LF);
+        say_words(host, CR);
+        say_words(host, LF);
     }
 }
 
 // Says what stands at a place and, of a part that changes nothing, what became of it.
-fn say_part(fate: usize, place: u64, length: u64, small: Small, body: &[u8])
+fn say_part(host: &Host, fate: usize, place: u64, length: u64, small: Small, body: &[u8])
     requires { fate < 8 }
 {
-    begin_line(place, fate, body);
+    begin_line(host, place, fate, body);
     if (fate == STORED) | (fate == OBEYED) {
         return;
     }
-    say_undone(fate, place, length, small.edition.sister);
+    say_undone(host, fate, place, length, small.edition.sister);
     if fate == PASSED_OVER {
-        say_passed_over(small, body);
+        say_passed_over(host, small, body);
     }
-    say_words(LINE_END);
+    say_words(host, LINE_END);
 }
 
 // Whether any of these codes is no line end.
@@ -106,7 +107,14 @@ pub fn has_others(codes: &[u8]) -> bool
 }
 
 // Says what stands at a place, and what becomes of it. Line ends alone have no line, unless all are to have one.
-fn say_front(window: &[u8], front: PartAt, small: Small, tally: Tally, all: bool) -> usize
+fn say_front(
+    host: &Host,
+    window: &[u8],
+    front: PartAt,
+    small: Small,
+    tally: Tally,
+    all: bool,
+) -> usize
     requires { (front.body ≤ front.body_end) × (front.body_end ≤ length window.now) }
 {
     let start = front.body;
@@ -116,6 +124,7 @@ fn say_front(window: &[u8], front: PartAt, small: Small, tally: Tally, all: bool
     let fate = fate_of(kind, small, body);
     if all | tally.others | (fate != SKIPPED) | has_others(body) {
         say_part(
+            host,
             fate,
             tally.place,
             length_of(front, tally.dropped),
@@ -157,6 +166,7 @@ fn changed_columns(before: &[u8; PICTURE], after: &[u8; PICTURE]) -> u64 {
 
 // What a part changed.
 fn say_done(
+    host: &Host,
     fate: usize,
     window: &[u8],
     front: PartAt,
@@ -173,14 +183,15 @@ fn say_done(
     requires { (front.body ≤ front.body_end) × (front.body_end ≤ length window.now) }
 {
     if fate == STORED {
-        say_stored(was, is, length_of(front, dropped));
-        say_words(LINE_END);
+        say_stored(host, was, is, length_of(front, dropped));
+        say_words(host, LINE_END);
     }
     if fate == OBEYED {
         let start = front.body;
         let end = front.body_end;
         let frame = &window[start..end];
         let done = say_obeyed(
+            host,
             reading_in(edition, frame),
             frame,
             was,
@@ -192,9 +203,9 @@ fn say_done(
             written,
         );
         if !done {
-            say_words(NOTHING_CHANGED);
+            say_words(host, NOTHING_CHANGED);
         }
-        say_words(LINE_END);
+        say_words(host, LINE_END);
     }
 }
 
@@ -226,6 +237,7 @@ fn fate_of(kind: Kind, small: Small, body: &[u8]) -> usize
 
 // Does, tells and counts the part that begins at a place of the window.
 pub fn tell_front(
+    host: &Host,
     before: Progress,
     text: &mut [u8; TEXT],
     picture: &mut [u8; PICTURE],
@@ -239,13 +251,14 @@ pub fn tell_front(
     let mut answers = [0u8; ROOM];
     let old_text = *text;
     let old_picture = *picture;
-    let fate = say_front(window, front, before.small, before.tally, all);
+    let fate = say_front(host, window, front, before.small, before.tally, all);
     let was = sheet_of(before.small);
     let end = fed_end(fate, at, front.end);
     let fed = feed(before.small, text, picture, &window[at..end], &mut answers);
     let is = sheet_of(fed.small);
     let columns = changed_columns(&old_picture, picture);
     say_done(
+        host,
         fate,
         window,
         front,

@@ -1,6 +1,7 @@
 // What is said, but for the words of fields, by name: the words themselves stand in the table below, in the same order. The first
 // ones are for parts, by what becomes of them: what stands there, what was done, and how that ends.
-use crate::line::say_entry;
+use crate::explain_line::say_entry;
+use program::Host;
 
 pub const FATES: usize = 8;
 
@@ -97,8 +98,9 @@ pub const NO_TAIL: usize = 67;
 pub const END: usize = 68;
 
 // Words with a number behind them.
-pub fn say_count(words: usize, n: u64) {
+pub fn say_count(host: &Host, words: usize, n: u64) {
     say_entry(
+        host,
         b"text     |\
         skipped  |\
         frame    |\
@@ -173,6 +175,6 @@ pub fn say_count(words: usize, n: u64) {
     );
 }
 
-pub fn say_words(words: usize) {
-    say_count(words, 0);
+pub fn say_words(host: &Host, words: usize) {
+    say_count(host, words, 0);
 }
