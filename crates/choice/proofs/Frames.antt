@@ -9,7 +9,7 @@ use lib.ListN.{length, drop, length-drop}
 use borrow.Author.Tests.{ltb-true, ltb-false, lt-ltb, le-ltb}
 use Rattle.lists.specs.Tests.{by_test}
 use Rattle.command.specs.Reading.{order_drawn, order_of}
-use Rattle.command.specs.Agree.{bad_frame}
+use Rattle.command.proofs.Agree.{bad_frame}
 use Rattle.command.specs.Plain.{spells_within}
 use Rattle.command.specs.declared.PictureFrame.{PictureFrame}
 use Rattle.choice.specs.Signs.{has_codes, picture_sign, frame_sign}

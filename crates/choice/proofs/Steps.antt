@@ -8,7 +8,8 @@ use lib.ListN.{length, take, drop, drop_of_length-le}
 use lib.Seq.{slice, drop_at, take-add, length-take-le}
 use Rattle.command.specs.Reading.{order_of}
 use Rattle.parting.specs.Rules.{Part, text, skipped, closed, abandoned, bytes_of, Parted, done, unfinished, then, Parting}
-use Rattle.parting.specs.Cut.{outside, cut, exists, only_cut}
+use Rattle.parting.specs.Cut.{outside, cut}
+use Rattle.parting.proofs.Cut.{exists, only_cut}
 use Rattle.parts.specs.declared.Kind.{Kind}
 use Rattle.parts.specs.declared.Kind.TheVariants as Kinds
 use Rattle.parts.specs.declared.PartAt.{PartAt}

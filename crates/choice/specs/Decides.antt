@@ -17,7 +17,8 @@ use Rattle.command.specs.declared.Command.TheVariants.{Mode, LabelsEmpty}
 use Rattle.command.specs.declared.Side.{Side}
 use Rattle.command.specs.declared.Side.TheVariants.{Left, Right}
 use Rattle.parting.specs.Rules.{Part, text, skipped, closed, abandoned, bytes_of, Parted, done, unfinished, then, Parting, ends, waits, goes_on, Placed, places, tail_place}
-use Rattle.parting.specs.Cut.{outside, cut, exists, only_cut}
+use Rattle.parting.specs.Cut.{outside, cut}
+use Rattle.parting.proofs.Cut.{exists, only_cut}
 use Rattle.parts.specs.Laws.{some_bytes, tail_of}
 use Rattle.choice.specs.declared.Since.{Since}
 use Rattle.choice.specs.declared.Sign.{Sign}

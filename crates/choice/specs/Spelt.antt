@@ -4,7 +4,7 @@ use Rattle.std.specs.Prelude.{ℕ, List, ◌≡◌}
 use Rattle.std.proofs.Common.{ap}
 use Rattle.command.specs.Order.{Order}
 use Rattle.command.specs.Grammar.{Spells}
-use Rattle.command.specs.Agree.{agree, bad_frame}
+use Rattle.command.proofs.Agree.{agree, bad_frame}
 use Rattle.parting.specs.Rules.{closed}
 use Rattle.choice.specs.declared.Sign.TheVariants.{Asked}
 use Rattle.choice.specs.Signs.{order_sign, frame_sign, part_sign}

@@ -1,17 +1,16 @@
 -- The first edition's commands, their table and how their letters pick them, with the tests. Assumes nothing.
-use Rattle.std.specs.Prelude.{ℕ, Bool, true, false, ◌&&◌, ◌||◌, List, [], ◌∷◌, map, ◌≡◌, refl, eqb, get_or}
+-- The theorems are in proofs/First.antt.
+use Rattle.std.specs.Prelude.{ℕ, Bool, false, ◌&&◌, ◌||◌, List, [], ◌∷◌, ◌≡◌, refl, eqb, get_or}
 use Rattle.std.proofs.Common.{arith}
 use Prim.Native.Char.{code}
 use Rattle.std.proofs.Math.Option.{some}
 use Rattle.frame_table.specs.declared.Numbers.{Numbers}
-use Rattle.frame_table.specs.Numbers.{numbers_after, numbers_told, begins_each}
-use Rattle.frame_table.specs.Table.{right, state_right, targets_valid}
 use Rattle.frame_table.specs.Kinds.{made, Kind}
-use Rattle.frame_table.specs.Reader.{Reader, forms_of, test, passed, Tested}
+use Rattle.frame_table.specs.Reader.{Reader}
 use Rattle.command.specs.Grammar.{form}
 use Rattle.command.specs.Order.{plain}
-use Rattle.command.specs.Pick.{with_number, display_of, light_of, contrast_of, after_i, cursor_sign, after_bracket, command_of}
-use Rattle.command.specs.Table.{classes, next_states, table, examples}
+use Rattle.command.specs.Pick.{command_of}
+use Rattle.command.specs.Table.{table, examples}
 use Rattle.command.specs.declared.Command.{Command}
 use Rattle.command.specs.declared.Command.TheVariants.{DisplayOff, DisplayOn, Mode, CursorShown, CursorHidden, Clear, Position, LabelsEmpty, IconS, IconU, IconF, IconR, IconP, IconW, Private, Handsfree, HandsfreeOfNote, Mute, KeyTimes, Buzzer, Light, LightOn, LightAutoStart, LightAuto, DefaultDuration, KeypadSet, KeypadCleared, Contrast, ContrastAsked, HookAsked, VersionAsked, ClearLine, Inverse}
 use Rattle.command.specs.declared.Reading.{Reading}
@@ -135,16 +134,3 @@ first =
       table = table;
       examples = examples;
     }
-
--- THE TEST OF THE WHOLE TABLE: every target is a state, and every entry leads to what may come next.
-pub table_right : right (forms_of first) examples table ≡ true
-unfolding right state_right targets_valid classes next_states
-table_right = refl
-
--- THE TEST OF EVERY KIND: its form is in the table, and its first bytes pick it.
-kinds_right : (m n : ℕ) → map (test first m n) kinds ≡ map (passed first m n) kinds
-unfolding numbers_after numbers_told begins_each with_number display_of light_of contrast_of after_i cursor_sign after_bracket command_of
-kinds_right m n = refl
-
-pub tested : Tested first
-tested = record { table_right = table_right; kinds_right = kinds_right; kind = λ c f s. kind c }

@@ -1,67 +1,11 @@
 -- What a caller knows of the reader's answers: which order they are, and that their sizes fit. Assumes nothing.
-use Rattle.std.specs.Prelude.{ℕ, ◌-◌, ◌<◌, ◌≤◌, Bool, true, false, cond, List, [], ◌∷◌, ◌≡◌, refl, eqb, leb, length, drop}
-use Prim.Native.Char.{code}
-use Rattle.std.proofs.Common.{arith, true≢false, sym, ap, ◌∙◌, eqb-true, leb-true}
-use Rattle.std.proofs.Math.Option.{Option, none, some}
-use Rattle.lists.specs.Both.{both}
-use Rattle.lists.specs.Tests.{by_test}
-use Rattle.numeral.specs.Numeral.{is_digit}
-use Rattle.lists.specs.Padded.{length_padded}
-use Rattle.picture.specs.Reading.{items, few, columns_of, columns_in}
+-- The theorems are in proofs/Found.antt.
+use Rattle.std.specs.Prelude.{ℕ, ◌<◌, ◌≤◌, List, ◌≡◌, length, drop}
 use Rattle.command.specs.Order.{label}
 use Rattle.command.specs.Grammar.{Spells}
-use Rattle.command.specs.Facts.{LabelText, read_label, label_length}
-use Rattle.command.specs.Reading.{ends_with, but_last, read_with, read_of, opens_picture, row_with, no_picture, row_and_data, drawn_row, picture_of, order_read, order_drawn, order_found, order_by, order_of}
-use Rattle.frame_table.specs.Reader.{by_reading}
-use Rattle.frame_table.specs.Reader as reader
-use Rattle.frame_table.specs.Opens.{heads}
-use Rattle.frame_table.specs.Table.{state_from}
-use Rattle.frame_table.specs.declared.Numbers.{Numbers}
-use Rattle.frame_table.specs.Numbers.{pair, numbers_from}
-use Rattle.command.specs.Pick.{with_number, display_of, light_of, contrast_of, after_i, cursor_sign, after_bracket, command_of}
-use Rattle.command.specs.Table.{classes, next_states}
-use Rattle.command.specs.First.{opens_label, pick, first, tested}
-use Rattle.command.specs.Complete.{plain_opens}
-use Rattle.command.specs.Sound.{cond_if, by_picture, sound}
+use Rattle.command.specs.Facts.{LabelText}
 use Rattle.command.specs.declared.Side.{Side}
-use Rattle.command.specs.declared.Reading.{Reading}
-use Rattle.command.specs.declared.Reading.TheVariants.{Bad, Plain, Label}
 use Rattle.command.specs.declared.PictureFrame.{PictureFrame}
-
--- The order by what a caller was told: whether the frame opens as a picture, and what was read, by whatever tables.
-module _ (f : List ℕ) {opens : Bool} (o : opens ≡ opens_picture f) where
-  pub drawn_found : (read : Reading) {drawn : PictureFrame} → opens ≡ true → drawn ≡ picture_of f → order_found read f ≡ order_drawn drawn
-  drawn_found read t e = rw (sym o ∙ t) (ap order_drawn (sym e))
-
-  pub read_found : {read reading r : Reading} → opens ≡ false → reading ≡ read → reading ≡ r → order_found read f ≡ order_read r (drop 3 f)
-  read_found t q e = rw (sym o ∙ t) (ap (λ (x : Reading). order_read x (drop 3 f)) (sym q ∙ e))
-
-  pub drawn_order : {drawn : PictureFrame} → opens ≡ true → drawn ≡ picture_of f → order_of f ≡ order_drawn drawn
-  unfolding order_of
-  drawn_order t e = drawn_found (read_of f) t e
-
-  pub read_order : {reading r : Reading} → opens ≡ false → reading ≡ read_of f → reading ≡ r → order_of f ≡ order_read r (drop 3 f)
-  unfolding order_of
-  read_order t q e = read_found t q e
-
--- The first edition's tables find the first edition's order.
-pub order_by_lem : {class next : List ℕ} (f : List ℕ) → class ≡ classes → next ≡ next_states → order_by class next f ≡ order_of f
-unfolding order_of read_of
-order_by_lem f p q = rw (p, q)
-
-picture_no_label : (f : List ℕ) → opens_picture f ≡ true → opens_label f ≡ false
-unfolding opens_picture
-picture_no_label [] e = refl
-picture_no_label (a ∷ []) e = refl
-picture_no_label (a ∷ b ∷ []) e = refl
-picture_no_label (a ∷ b ∷ c ∷ rest) e = rw (eqb-true a (code "G") (both {a = eqb a (code "G")} e).0)
-
--- A frame that opens as a picture is bad to read_command.
-pub picture_no_command : (f : List ℕ) → opens_picture f ≡ true → read_of f ≡ Bad
-unfolding read_of read_with
-picture_no_command f e =
-    rw (picture_no_label f e)
-    (by_reading first tested (λ (x : Reading). x ≡ Bad) f refl (λ c s. absurd (true≢false (sym e ∙ (plain_opens c f s).1))))
 
 -- A label's codes are the frame's own, from its fourth byte on.
 pub record LabelFound (side : Side) (f : List ℕ) : Type 0 where
@@ -69,80 +13,8 @@ pub record LabelFound (side : Side) (f : List ℕ) : Type 0 where
   pub codes : LabelText (drop 3 f)
   pub spelt : Spells (label side (drop 3 f)) f
 
-pub label_found : (f : List ℕ) {side : Side} → read_of f ≡ Label side → LabelFound side f
-label_found f {side} e = cases (opens_picture f) refl
-  where
-    found : Spells (label side (drop 3 f)) f → LabelFound side f
-    found s = record { long = omega (arith, label_length side (drop 3 f) s); codes = read_label side s; spelt = s }
-
-    cases : (b : Bool) → opens_picture f ≡ b → LabelFound side f
-    cases true p = let q = picture_no_command f p in let z : ◌≡◌ {A = ℕ} 0 1 = cc in absurd (omega arith)
-    cases false p = found (sound {o = label side (drop 3 f)} f (read_order f refl p refl e))
-
--- No table picks a label: whatever tables are lent, a label that is read is one of the first edition's.
-abbrev is_label : Reading → Bool
-is_label Bad = false
-is_label (Plain c) = false
-is_label (Label side) = true
-
-label_in : (b : Bool) (x y : Reading) → is_label (cond b x y) ≡ cond b (is_label x) (is_label y)
-label_in true x y = refl
-label_in false x y = refl
-
-never : (b : Bool) → cond b false false ≡ false
-never true = refl
-never false = refl
-
-picks_none : (w : List ℕ) (r : Numbers) → is_label (pick w r) ≡ false
-unfolding with_number display_of light_of contrast_of after_i cursor_sign after_bracket command_of
-picks_none [] r = refl
-picks_none (a ∷ []) r = refl
-picks_none (a ∷ b ∷ []) r = refl
-picks_none (a ∷ b ∷ c ∷ more) r = simp (label_in, never)
-
-pub label_by : (class next f : List ℕ) {side : Side} → read_with class next f ≡ Label side → read_of f ≡ Label side
-unfolding read_of read_with reader.read_with
-label_by class next f {side} e =
-    by_test (opens_label f) (λ l. rw l (rw l at e))
-    (λ l. absurd (true≢false (sym (ap is_label (rw l at e)) ∙ picks (leb first.table.good (state_from class next first.table.states 1 f)))))
-  where
-    picks : (b : Bool) → is_label (cond b (pick (heads 3 f) (numbers_from (pair 0 0) f)) Bad) ≡ false
-    picks true = picks_none (heads 3 f) (numbers_from (pair 0 0) f)
-    picks false = refl
-
-at_most : (codes : List ℕ) → length (columns_of codes) ≤ 96
-unfolding columns_of
-at_most codes = cases (items codes)
-  where
-    cases : (found : Option (List ℕ)) → length (few found) ≤ 96
-    cases none = omega arith
-    cases (some columns) = cond_if (λ (x : List ℕ). length x ≤ 96) (leb (length columns) 96) (λ e. leb-true (length columns) 96 e) (λ e. omega arith)
-
 -- A picture frame's row is 0 to 9, and its columns stand in 96 places.
 pub record Fits (p : PictureFrame) : Type 0 where
   pub row_digit : p.row < 10
   pub few_columns : p.columns.len ≤ 96
   pub places : length p.columns.bytes ≡ 96
-
-row_fits : (row : ℕ) (columns : List ℕ) → row < 10 → length columns ≤ 96 → Fits (row_with row (columns_in columns))
-row_fits row columns h l =
-    record {
-      row_digit = cond_if (λ (n : ℕ). n < 10) (eqb (length columns) 0) (λ e. omega arith) (λ e. h);
-      few_columns = l;
-      places = length_padded 96 columns l;
-    }
-
-none_fits : Fits no_picture
-none_fits = row_fits 0 [] (omega arith) (omega arith)
-
-drawn_fits : (digit : ℕ) (rest : List ℕ) → Fits (drawn_row digit rest)
-unfolding drawn_row row_and_data
-drawn_fits digit rest =
-    cond_if Fits (ends_with (code "z") rest)
-    (λ z. cond_if Fits (is_digit digit)
-    (λ e. row_fits (digit - code "0") (columns_of (but_last rest)) (omega (arith, leb-true digit (code "9") (both {a = leb (code "0") digit} e).1)) (at_most (but_last rest)))
-    (λ e. none_fits))
-    (λ z. none_fits)
-
-pub picture_fits : (f : List ℕ) → Fits (picture_of f)
-picture_fits f = by_picture Fits f none_fits (λ digit rest e. drawn_fits digit rest)

@@ -8,9 +8,6 @@ pub mod Table
 pub mod First
 pub mod Kind
 pub mod Reading
-pub mod Complete
-pub mod Sound
-pub mod Agree
 pub mod OneSpelling
 pub mod Spell
 pub mod Facts

@@ -1,15 +1,13 @@
 -- ONE SPELLING FOR A COMMAND (request T-02): two frames that spell the same order, where it carries no picture data, are the same frame.
 -- Assumes nothing.
+-- The theorems are in proofs/OneSpelling.antt.
 use Rattle.std.specs.Prelude.{ℕ, List, [], ◌∷◌, ◌++◌, true, ◌≡◌, refl}
 use Rattle.std.proofs.Common.{true≢false, sym, ap, ap₂}
 use Rattle.numeral.specs.Spelt.{digit_code}
 use Rattle.numeral.specs.Laws.{one_spelling}
-use Rattle.command.specs.Order.{Order, plain}
+use Rattle.command.specs.Order.{Order}
 use Rattle.command.specs.Grammar.{Piece, sign, number, digit, text, columns, Matches, end, signs, digits, one_digit, codes, form, Spells}
-use Rattle.command.specs.declared.Command.{Command}
 use Rattle.frame_table.specs.Spelling.{is_plain}
-use Rattle.frame_table.specs.Reader as commands
-use Rattle.command.specs.First.{first, kind, tested}
 
 -- no piece is the data of a picture, which may be cut into items in several ways
 abbrev pub NoData : List Piece → Type 0
@@ -38,7 +36,3 @@ plain_no_data (number r n ∷ ps) h = plain_no_data ps h
 plain_no_data (digit r n ∷ ps) h = absurd (true≢false (sym h))
 plain_no_data (text t ∷ ps) h = absurd (true≢false (sym h))
 plain_no_data (columns cs ∷ ps) h = absurd (true≢false (sym h))
-
--- A command carries none.
-pub no_data : (c : Command) → NoData (form (plain c))
-no_data c = plain_no_data (form (plain c)) (commands.kind_plain first tested (kind c))

@@ -17,11 +17,12 @@ use Rattle.command.specs.Order.{Order, plain, label, draw}
 use Rattle.command.specs.Grammar.{form, Spells}
 use Rattle.command.specs.Spell.{spell, spelling}
 use Rattle.command.specs.InRange.{command_in_range, most_rows}
-use Rattle.command.specs.OneSpelling.{NoData, one_frame, no_data}
+use Rattle.command.specs.OneSpelling.{NoData, one_frame}
+use Rattle.command.proofs.OneSpelling.{no_data}
 use Rattle.record.specs.Core.{Core, core_of}
 use Rattle.effect.specs.Effect.{carry_out, store_text}
 use Rattle.record.specs.Fields.{Field, text, large_line, read, fields_are_all}
-use Rattle.effect.specs.Untouched.{other_rows_stay, past_data_stays, rows_stay, line_stays}
+use Rattle.effect.proofs.Untouched.{other_rows_stay, past_data_stays, rows_stay, line_stays}
 use Rattle.parting.specs.Rules.{closed}
 use Rattle.parting.specs.Meaning.{act}
 use Rattle.stream.specs.Stream.{handset}
@@ -54,7 +55,7 @@ use Rattle.demands.specs.Sister.{HerAnswers, her_answers_are, asked_changes_noth
 use Rattle.sister_command.specs.Order.{AnyOrder, first, own}
 use Rattle.sister_command.specs.Grammar.{sister_form, form_in, never_spelt, SpellsIn}
 use Rattle.sister_command.specs.InRange.{own_in_range}
-use Rattle.sister_command.specs.Agree.{one_order_in, one_frame_in}
+use Rattle.sister_command.proofs.Agree.{one_order_in, one_frame_in}
 use Rattle.sister_command.specs.declared.Question.{Question}
 use Rattle.sister_command.specs.declared.SisterCommand.{SisterCommand}
 use Rattle.sister_command.specs.declared.SisterCommand.TheVariants.{Asked}

@@ -9,7 +9,8 @@ use Rattle.record.specs.declared.Record.{Record}
 use Rattle.record.specs.Range.{in_range}
 use Rattle.parting.specs.Rules.{Stands}
 use Rattle.stream.specs.Stream.{state_of, fed_of}
-use Rattle.stream.specs.Demand.{Calling, fed_back, FeedDemand3, feed_demand3, feed_demand3_fixes, fed_in_range, stands_for_bytes}
+use Rattle.stream.specs.Demand.{Calling, fed_back, FeedDemand3}
+use Rattle.stream.proofs.Demand.{feed_demand3, feed_demand3_fixes, fed_in_range, stands_for_bytes}
 
 -- `FeedDemand3 call r before` has the letter's sentences one by one, of anything that takes stream calls.
 pub record Demand3 : Type 0 where

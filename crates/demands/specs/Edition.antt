@@ -6,7 +6,8 @@ use Rattle.record.specs.declared.Record.{Record}
 use Rattle.record.specs.Range.{in_range}
 use Rattle.stream.specs.Stream.{fed_of}
 use Rattle.stream.specs.declared.Fed.{Fed}
-use Rattle.stream.specs.Demand.{fed_back, run_stays}
+use Rattle.stream.specs.Demand.{fed_back}
+use Rattle.stream.proofs.Demand.{run_stays}
 use Rattle.key_log.specs.Log.{outcome, handed_back}
 use Rattle.key_log.specs.Laws.{log_stays}
 use Rattle.seconds.specs.Seconds.{passed}

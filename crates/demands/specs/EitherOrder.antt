@@ -15,14 +15,15 @@ use Rattle.command.specs.Order.{plain, label, draw}
 use Rattle.sister_command.specs.Order.{AnyOrder, first, own}
 use Rattle.sister_command.specs.Grammar.{SpellsIn}
 use Rattle.sister_command.specs.Reading.{order_in}
-use Rattle.sister_command.specs.Agree.{agree_in, within_in, row_in}
+use Rattle.sister_command.proofs.Agree.{agree_in, within_in, row_in}
 use Rattle.effect.specs.Keeps.{CoreInRange, core_of_record}
 use Rattle.sister_effect.specs.Obey.{carry_out_any}
 use Rattle.sister_effect.specs.Keeps.{frame_keeps}
 use Rattle.sister_effect.specs.Untouched.{edition_stays_any, read_of_edition}
 use Rattle.groups.specs.Groups.{none_in_common}
 use Rattle.groups.specs.Putting.{Whole}
-use Rattle.groups.specs.Laws.{Fits, order_does_not_matter}
+use Rattle.groups.specs.Laws.{Fits}
+use Rattle.groups.proofs.Laws.{order_does_not_matter}
 use Rattle.parting.specs.Rules.{closed, Parting, ends, goes_on, done, then, no_frame}
 use Rattle.turns.specs.Taking.{Taken, answering}
 use Rattle.parting.specs.Meaning.{Answered, State, with, taking}

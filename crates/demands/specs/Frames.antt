@@ -17,20 +17,22 @@ use Rattle.sister_answer.specs.Told.{told_bytes}
 use Rattle.sister_command.specs.Order.{AnyOrder, first, own}
 use Rattle.sister_command.specs.Grammar.{SpellsIn, never_spelt}
 use Rattle.sister_command.specs.InRange.{any_in_range}
-use Rattle.sister_command.specs.Agree.{agree_in, bad_frame_in, within_in}
+use Rattle.sister_command.proofs.Agree.{agree_in, bad_frame_in, within_in}
 use Rattle.sister_effect.specs.Effect.{own_told}
 use Rattle.sister_effect.specs.Obey.{effect_any, refused_any, carry_out_any, obey_any, mark_of, answers_to}
 use Rattle.sister_effect.specs.Questions.{own_obeyed, own_refused, own_passed_over, passed_over_untold}
 use Rattle.std.proofs.Math.Option.{some}
 use Rattle.turns.specs.Taking.{Taken, silently}
-use Rattle.turns.specs.Room.{Ran, Stops, run_stops, only_one, room_for_all}
+use Rattle.turns.specs.Room.{Ran, Stops}
+use Rattle.turns.proofs.Room.{run_stops, only_one, room_for_all}
 use Rattle.parting.specs.Rules.{Body, closed, Parted, done, then, Parting, ends, waits, goes_on, Frame, no_frame, keep, limit, in_limit, Stands, none_stands}
 use Rattle.parting.specs.Meaning.{Answered, State, with, close, act, taking}
 use Rattle.parting.specs.Reading.{step, reading}
-use Rattle.parting.specs.Stream.{stream}
+use Rattle.parting.proofs.Stream.{stream}
 use Rattle.stream.specs.Stream.{handset, kept_frame, frame_in, state_of, record_of, written_over}
 use Rattle.stream.specs.Frames.{body_of}
-use Rattle.stream.specs.Demand.{HandedBack, fed_back, parts_taken, ran_back, back_is_run, record_same}
+use Rattle.stream.specs.Demand.{HandedBack, fed_back, parts_taken, ran_back}
+use Rattle.stream.proofs.Demand.{back_is_run, record_same}
 
 -- THE PART ------------------------------------------------------------------------------------------------------------
 

@@ -13,12 +13,12 @@ use Rattle.command.specs.Order.{Order}
 use Rattle.command.specs.Grammar.{Spells}
 use Rattle.command.specs.InRange.{in_range_in_mode}
 use Rattle.command.specs.Reading.{order_of}
-use Rattle.command.specs.Agree.{agree}
+use Rattle.command.proofs.Agree.{agree}
 use Rattle.record.specs.Core.{Core, core_of}
 use Rattle.record.specs.Fields.{time2, put}
 use Rattle.effect.specs.Effect.{carry_out, store_text}
 use Rattle.effect.specs.Touched.{touches}
-use Rattle.effect.specs.Untouched.{apart}
+use Rattle.effect.proofs.Untouched.{apart}
 use Rattle.answer.specs.Answers.{answer_bytes}
 use Rattle.effect.specs.Obey.{answer_to}
 use Rattle.sister_command.specs.Order.{AnyOrder}
@@ -28,9 +28,11 @@ use Rattle.sister_effect.specs.Untouched.{frame_keeps_edition}
 use Rattle.parting.specs.Rules.{Parted, Parting, Stands}
 use Rattle.parting.specs.Meaning.{Answered, with, taking}
 use Rattle.parting.specs.Frames.{EachClosed}
-use Rattle.parting.specs.Alike.{KeepsAgreeing, TakenAlike, alike}
+use Rattle.parting.specs.Alike.{KeepsAgreeing, TakenAlike}
+use Rattle.parting.proofs.Alike.{alike}
 use Rattle.stream.specs.Stream.{handset, obey_frame, frame_in, state_of}
-use Rattle.stream.specs.Demand.{stored_stays, HandedBack, fed_back, taken_from, parts_taken, ran_back}
+use Rattle.stream.specs.Demand.{HandedBack, fed_back, taken_from, parts_taken, ran_back}
+use Rattle.stream.proofs.Demand.{stored_stays}
 use Rattle.demands.specs.Frames.{all_taken}
 
 -- a record, and what a stream can change of it, with another Time2 and nothing else changed

@@ -27,7 +27,7 @@ use Rattle.command.specs.Grammar.{Spells}
 use Rattle.frame_table.specs.Reader as reader
 use Rattle.command.specs.Table.{classes, next_states}
 use Rattle.command.specs.Reading.{read_with, read_of, opens_picture, order_of}
-use Rattle.command.specs.Agree.{agree, bad_frame}
+use Rattle.command.proofs.Agree.{agree, bad_frame}
 use Rattle.command.specs.declared.Command.TheVariants.{ContrastAsked, HookAsked, VersionAsked}
 use Rattle.record.specs.Core.{Core, core_of}
 use Rattle.effect.specs.Effect.{store_text}
@@ -38,16 +38,18 @@ use Rattle.sister_effect.specs.Obey.{obey_any, answers_to, mark_of}
 use Rattle.sister_effect.specs.Questions.{obeys_first, answers_first}
 use Rattle.sister_effect.specs.Untouched.{frame_keeps_edition}
 use Rattle.turns.specs.Taking.{Taken, answering}
-use Rattle.turns.specs.Room.{answers_begin}
+use Rattle.turns.proofs.Room.{answers_begin}
 use Rattle.parting.specs.Rules.{Body, empty, Part, text, skipped, closed, abandoned, opens, Lawful, Parted, done, unfinished, then, Parting, ends, waits, goes_on, Frame, no_frame, open_frame, in_limit, Stands, none_stands, open_stands, overlong_stands}
 use Rattle.parting.specs.Meaning.{Answered, Meaning, State, with, refuse, close, act, taking}
 use Rattle.parting.specs.Reading.{step, reading}
-use Rattle.parting.specs.Stream.{stream}
+use Rattle.parting.proofs.Stream.{stream}
 use Rattle.parting.specs.Room.{Ran, run}
 use Rattle.parting.specs.Frames.{OfThese, EachClosed}
-use Rattle.parting.specs.Count.{escapes, waiting, OneAnswer, answers_at_most}
+use Rattle.parting.specs.Count.{escapes, waiting, OneAnswer}
+use Rattle.parting.proofs.Count.{answers_at_most}
 use Rattle.stream.specs.Stream.{handset, obey_frame, kept_frame, frame_in, state_of, record_of}
-use Rattle.stream.specs.Demand.{HandedBack, fed_back, ran_back, back_is_run, edition_kept}
+use Rattle.stream.specs.Demand.{HandedBack, fed_back, ran_back}
+use Rattle.stream.proofs.Demand.{back_is_run, edition_kept}
 use Rattle.answer_room.specs.Needed.{room_needed}
 use Rattle.answer_room.specs.Laws.{room_of_first}
 use Rattle.demands.specs.Frames.{all_taken}

@@ -1,3 +1,4 @@
 pub mod Small
 pub mod Stores
 pub mod Orders
+pub mod Untouched

@@ -11,7 +11,7 @@ use Rattle.command.specs.InRange.{is_picture_row, rows_named, command_in_range}
 use Rattle.command.specs.declared.Command.{Command}
 use Rattle.command.specs.Reading.{opens_picture, picture_of, order_found}
 use Rattle.command.specs.declared.Reading.{Reading}
-use Rattle.command.specs.Found.{drawn_found}
+use Rattle.command.proofs.Found.{drawn_found}
 use Rattle.command.specs.declared.PictureFrame.{PictureFrame}
 use Rattle.effect.specs.declared.Obeyed.{Obeyed}
 use Rattle.record.specs.Core.{Core, on_picture}

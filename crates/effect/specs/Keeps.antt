@@ -28,7 +28,7 @@ use Rattle.command.specs.declared.Command.{Command}
 use Rattle.command.specs.InRange.{is_overlay, is_column, rows_named, in_range_in_mode}
 use Rattle.command.specs.Grammar.{Spells}
 use Rattle.command.specs.Reading.{order_of}
-use Rattle.command.specs.Sound.{sound}
+use Rattle.command.proofs.Sound.{sound}
 use Rattle.command.specs.Facts.{LabelText, PictureRow, read_label, read_row}
 use Rattle.command.specs.declared.Command.TheVariants.{DisplayOff, DisplayOn, Mode, CursorShown, CursorHidden, Clear, Position, LabelsEmpty, IconS, IconU, IconF, IconR, IconP, IconW, Private, Handsfree, HandsfreeOfNote, Mute, KeyTimes, Buzzer, Light, LightOn, LightAutoStart, LightAuto, DefaultDuration, KeypadSet, KeypadCleared, Contrast, ContrastAsked, HookAsked, VersionAsked, ClearLine, Inverse}
 use Rattle.command.specs.declared.Side.TheVariants.{Left, Right}

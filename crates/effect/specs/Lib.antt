@@ -6,4 +6,3 @@ pub mod Keeps
 pub mod Cases
 pub mod Touched
 pub mod Beside
-pub mod Untouched

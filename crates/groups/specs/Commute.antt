@@ -7,7 +7,7 @@ use Rattle.lists.specs.Tests.{by_test}
 use Rattle.record.specs.Core.{Core}
 use Rattle.record.specs.Fields.{Field, number, read, put, among, fields_are_all}
 use Rattle.effect.specs.Touched.{set_by}
-use Rattle.effect.specs.Untouched.{said_apart}
+use Rattle.effect.proofs.Untouched.{said_apart}
 use Rattle.sister_answer.specs.Told.{told_bytes}
 use Rattle.sister_command.specs.Order.{AnyOrder, first, own}
 use Rattle.sister_effect.specs.Obey.{carry_out_any, answers_to}

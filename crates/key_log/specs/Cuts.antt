@@ -9,8 +9,10 @@ use Rattle.record.specs.declared.Record.{Record}
 use Rattle.record.specs.Number.{numbered}
 use Rattle.record.specs.Range.{in_range}
 use Rattle.turns.specs.Taking.{reading}
-use Rattle.turns.specs.Room.{Ran, run, run_keeps}
-use Rattle.turns.specs.Calls.{Call, offered, offered_append, Session, session, taken_in, sessions_alike, calls_end_as_one}
+use Rattle.turns.specs.Room.{Ran, run}
+use Rattle.turns.proofs.Room.{run_keeps}
+use Rattle.turns.specs.Calls.{Call, offered, Session, session, taken_in, sessions_alike}
+use Rattle.turns.proofs.Calls.{offered_append, calls_end_as_one}
 use Rattle.key_entry.specs.Rules.{Entry}
 use Rattle.key_log.specs.Steps.{listed_in, step_in}
 use Rattle.key_log.specs.Log.{entries, Outcome, outcome}

@@ -12,7 +12,8 @@ use Rattle.record.specs.Range.{in_range}
 use Rattle.record.specs.With.{with_settings, with_held, with_edition, with_seconds_left}
 use Rattle.record.specs.Parts.{together, small_of}
 use Rattle.turns.specs.Taking.{Taken, reading}
-use Rattle.turns.specs.Room.{Ran, run, run_keeps, Stops, run_stops, only_one, stops_exactly}
+use Rattle.turns.specs.Room.{Ran, run, Stops}
+use Rattle.turns.proofs.Room.{run_keeps, run_stops, only_one, stops_exactly}
 use Rattle.turns.specs.Loop.{holding}
 use Rattle.key_log.specs.declared.Logged.{Logged}
 use Rattle.key_log.specs.declared.LoggedLent.{LoggedLent}

@@ -10,7 +10,8 @@ use Rattle.record.specs.Number.{numbered}
 use Rattle.record.specs.Parts.{together, small_of}
 use Rattle.turns.specs.Taking.{silently}
 use Rattle.turns.specs.Room.{run}
-use Rattle.turns.specs.Loop.{Account, Going, still, go_quiet, go_one, go_on, go_stop, go_end}
+use Rattle.turns.specs.Loop.{Account, Going, still}
+use Rattle.turns.proofs.Loop.{go_quiet, go_one, go_on, go_stop, go_end}
 use Rattle.turns.specs.Begins.{as_many, both_begin_with}
 use Rattle.key_entry.specs.declared.Keyed.{Keyed}
 use Rattle.key_log.specs.declared.LoggedLent.{LoggedLent}

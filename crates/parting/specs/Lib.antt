@@ -4,7 +4,6 @@ pub mod Cut
 pub mod Exactly
 pub mod Meaning
 pub mod Reading
-pub mod Stream
 pub mod Room
 pub mod Calls
 pub mod Kept

@@ -8,7 +8,8 @@ use lib.ListN.{length, take, drop, get_or, length-append, drop_of_length-le}
 use lib.Seq.{slice, slice_empty, length-slice, drop-cons, take-suc, drop-append-le, length-take-le}
 use Rattle.lists.specs.Codes.{escape, carriage_return, blank}
 use Rattle.parting.specs.Rules.{Plain, Parted}
-use Rattle.parting.specs.Cut.{outside, inside, cut, cut_opening, cut_letter, cut_skipping, cut_abandoning, cut_closing, cut_collecting}
+use Rattle.parting.specs.Cut.{outside, inside, cut}
+use Rattle.parting.proofs.Cut.{cut_opening, cut_letter, cut_skipping, cut_abandoning, cut_closing, cut_collecting}
 use Rattle.parts.specs.declared.Kind.{Kind}
 use Rattle.parts.specs.declared.Kind.TheVariants as Kinds
 use Rattle.parts.specs.declared.PartAt.{PartAt}

@@ -8,7 +8,8 @@ use Rattle.std.proofs.Math.Seq.{slice, drop-append_seam, take-append_seam}
 use Rattle.lists.specs.Codes.{escape, carriage_return}
 use Rattle.lists.specs.Tests.{by_test}
 use Rattle.parting.specs.Rules.{Part, text, skipped, closed, abandoned, bytes_of, Parted, done, unfinished, then, Parting, ends, waits, goes_on, Placed, places, tail_place}
-use Rattle.parting.specs.Cut.{outside, cut, exists, only_cut}
+use Rattle.parting.specs.Cut.{outside, cut}
+use Rattle.parting.proofs.Cut.{exists, only_cut}
 use Rattle.parts.specs.declared.Kind.{Kind}
 use Rattle.parts.specs.declared.Kind.TheVariants as Kinds
 use Rattle.parts.specs.declared.PartAt.{PartAt}

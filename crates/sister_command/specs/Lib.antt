@@ -7,5 +7,4 @@ pub mod Table
 pub mod Sister
 pub mod Reading
 pub mod Agree
-pub mod Own
 pub mod Cases

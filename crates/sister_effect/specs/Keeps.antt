@@ -30,7 +30,7 @@ use Rattle.sister_command.specs.Order.{AnyOrder, first}
 use Rattle.sister_command.specs.Order as order
 use Rattle.sister_command.specs.Grammar.{SpellsIn}
 use Rattle.sister_command.specs.Reading.{order_in, as_first}
-use Rattle.sister_command.specs.Agree.{agree_in, label_in, row_in, shared_test}
+use Rattle.sister_command.proofs.Agree.{agree_in, label_in, row_in, shared_test}
 use Rattle.sister_command.specs.InRange.{own_in_range}
 use Rattle.sister_command.specs.Ranges.{is_time1_before}
 use Rattle.sister_effect.specs.Effect.{not_normal_auto, light_refused, mode_named, icon_u_named, lit_by, started_anew, light_effect, step_effect, step_refused, stored_of, own_effect, refused_now}

@@ -15,7 +15,7 @@ use Rattle.effect.specs.Obey.{obey_order, answer_for, answer_to}
 use Rattle.effect.specs.Questions.{silence_of}
 use Rattle.sister_command.specs.Grammar.{SpellsIn}
 use Rattle.sister_command.specs.Reading.{sister_order_of, as_first}
-use Rattle.sister_command.specs.Agree.{agree_in, shared_test}
+use Rattle.sister_command.proofs.Agree.{agree_in, shared_test}
 use Rattle.sister_command.specs.Order.{AnyOrder, first, own}
 use Rattle.sister_command.specs.InRange.{own_in_range, letter_numbers, question_numbers, step_numbers}
 use Rattle.sister_command.specs.declared.SisterCommand.{SisterCommand}

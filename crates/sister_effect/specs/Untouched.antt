@@ -10,7 +10,7 @@ use Rattle.record.specs.PowerOn.{sister_with}
 use Rattle.record.specs.Range.{auto}
 use Rattle.command.specs.InRange.{is_overlay}
 use Rattle.effect.specs.Beside.{Deed, carried, put_before, put_after, at_field, field_stays, field_apart}
-use Rattle.effect.specs.Untouched.{stays, apart, edition_stays}
+use Rattle.effect.proofs.Untouched.{stays, apart, edition_stays}
 use Rattle.sister_answer.specs.declared.Told.{Told}
 use Rattle.sister_answer.specs.declared.Told.TheVariants.{Silence}
 use Rattle.sister_command.specs.Order.{AnyOrder, first, own}
@@ -19,7 +19,7 @@ use Rattle.sister_command.specs.declared.SisterCommand.{SisterCommand}
 use Rattle.sister_command.specs.declared.SisterCommand.TheVariants.{Cursor, Restart, Mode, Light, LightTo, IconU, Brightness, KeyTimes, Speaker, Asked, Step}
 use Rattle.sister_command.specs.Grammar.{never_spelt}
 use Rattle.sister_command.specs.Reading.{order_in}
-use Rattle.sister_command.specs.Agree.{agree_in}
+use Rattle.sister_command.proofs.Agree.{agree_in}
 use Rattle.sister_command.specs.declared.Question.TheVariants as Ask
 use Rattle.sister_command.specs.declared.Step.{Step as Stepping}
 use Rattle.sister_command.specs.declared.LightChange.{LightChange}

@@ -19,6 +19,7 @@ use Rattle.parting.specs.Meaning.{State}
 use Rattle.parting.specs.Reading.{step, step_opens, step_stores, step_skips, step_abandons, step_closes, step_ends_overlong, step_collects, step_overflows, step_waits}
 use Rattle.parting.specs.Room.{Ran, run}
 use Rattle.turns.specs.Loop
+use Rattle.turns.proofs.Loop as LoopLaws
 use Rattle.turns.specs.Loop.{Account, still}
 use Rattle.turns.specs.Begins.{begins_with}
 use Rattle.effect.specs.declared.Obeyed.{Obeyed}
@@ -27,7 +28,7 @@ use Rattle.effect.specs.Effect.{store_text}
 use Rattle.command.specs.Order.{Order}
 use Rattle.command.specs.Reading.{order_found}
 use Rattle.command.specs.Table.{classes, next_states}
-use Rattle.command.specs.Found.{order_by_lem}
+use Rattle.command.proofs.Found.{order_by_lem}
 use Rattle.answer.specs.Answers.{is_silence, fits, count_after, buffer_after}
 use Rattle.answer.specs.Laws.{answer_not_empty}
 use Rattle.answer.specs.declared.Answer.{Answer}
@@ -40,8 +41,8 @@ use Rattle.sister_answer.specs.Laws as told
 use Rattle.sister_command.specs.Order.{AnyOrder}
 use Rattle.sister_command.specs.Order as order
 use Rattle.sister_command.specs.Reading.{as_first, order_in, read_in, own_found, is_own}
-use Rattle.sister_command.specs.Own.{own_found_lem, shared_found}
-use Rattle.sister_command.specs.Agree.{agree_in}
+use Rattle.sister_command.proofs.Own.{own_found_lem, shared_found}
+use Rattle.sister_command.proofs.Agree.{agree_in}
 use Rattle.sister_effect.specs.declared.SisterObeyed.{SisterObeyed}
 use Rattle.sister_effect.specs.Obey.{obey_any, answers_to, told_to, mark_of, SisterObeys}
 use Rattle.sister_effect.specs.Questions.{told_same, answers_told, shared_silent, obeys_first, answers_first}
@@ -311,7 +312,7 @@ pub record Going (bytes before : List ℕ) (s : State Core) (answers : List ℕ)
 module _ {bytes before : List ℕ} {s : State Core} {answers : List ℕ} {p : Settings} {t g : List ℕ} {ed : Edition} {state len : ℕ} {fr : List ℕ} {i w : ℕ} (k : Going bytes before s answers p t g ed state len fr i w) (h : i < length bytes) where
   pub go_quiet : {p' : Settings} {t' g' : List ℕ} {ed' : Edition} {state' len' : ℕ} {fr' : List ℕ} → CoreInRange (core p' t' g' ed') → Fits state' len' fr' → step handset (standing p t g ed state len fr) (get_or bytes i 0) ≡ quietly (standing p' t' g' ed' state' len' fr')
       → Going bytes before s answers p' t' g' ed' state' len' fr' (i + 1) w
-  go_quiet x y e = record { account = Loop.go_quiet (step handset) k.account (begins_with bytes i 0 h) _ e; range = x; fits = y }
+  go_quiet x y e = record { account = LoopLaws.go_quiet (step handset) k.account (begins_with bytes i 0 h) _ e; range = x; fits = y }
 
   -- an answer is written whole, and the count says so,
   pub go_loud : {p' : Settings} {t' g' : List ℕ} {ed' : Edition} {state' len' : ℕ} {fr' : List ℕ} {w' : ℕ} {answers' answer : List ℕ} → CoreInRange (core p' t' g' ed') → Fits state' len' fr' → step handset (standing p t g ed state len fr) (get_or bytes i 0) ≡ saying answer (standing p' t' g' ed' state' len' fr')
@@ -320,7 +321,7 @@ module _ {bytes before : List ℕ} {s : State Core} {answers : List ℕ} {p : Se
       by_test (fits answers w answer)
       (λ room.
       let there : w + length answer ≤ length answers = leb-true (w + length answer) (length answers) room in
-      rw (m, n, room) (record { account = Loop.go_on (step handset) k.account (begins_with bytes i 0 h) _ e (omega arith); range = x; fits = y }))
+      rw (m, n, room) (record { account = LoopLaws.go_on (step handset) k.account (begins_with bytes i 0 h) _ e (omega arith); range = x; fits = y }))
       (λ full. let same : w' ≡ w = m ∙ rw full in absurd (omega arith))
 
   -- or not at all, and the call stops
@@ -331,7 +332,7 @@ module _ {bytes before : List ℕ} {s : State Core} {answers : List ℕ} {p : Se
       (λ room. let more : w' ≡ w + length answer = m ∙ rw room in absurd (omega arith))
       (λ full.
       let short : length answers < w + length answer = leb-false (w + length answer) (length answers) full in
-      rw (n, full) (Loop.go_stop (step handset) k.account (begins_with bytes i 0 h) (saying answer v) e (omega (arith, k.account.room))))
+      rw (n, full) (LoopLaws.go_stop (step handset) k.account (begins_with bytes i 0 h) (saying answer v) e (omega (arith, k.account.room))))
 
 -- the same account, of a core that other locals hold
 pub same_core : {ran : Ran Core} {before : List ℕ} {x y : Core} {f : Frame} {i w : ℕ} {after : List ℕ} → x ≡ y

@@ -14,7 +14,8 @@ use Rattle.picture.specs.Data.{Bytes}
 use Rattle.turns.specs.Taking
 use Rattle.turns.specs.Taking.{cut_anywhere}
 use Rattle.turns.specs.Room
-use Rattle.turns.specs.Room.{Ran, Stops, run_stops, room_for_all}
+use Rattle.turns.specs.Room.{Ran, Stops}
+use Rattle.turns.proofs.Room.{run_stops, room_for_all}
 use Rattle.parting.specs.Rules.{Frame, no_frame, open_frame, overlong}
 use Rattle.parting.specs.Meaning.{State, Taken}
 use Rattle.parting.specs.Reading.{step, step_from, reading, step_closes}
@@ -30,7 +31,7 @@ use Rattle.sister_command.specs.Order as any
 use Rattle.sister_command.specs.Order.{AnyOrder, own}
 use Rattle.sister_command.specs.Grammar.{SpellsIn}
 use Rattle.sister_command.specs.Reading.{sister_order_of, order_in}
-use Rattle.sister_command.specs.Agree.{agree_in}
+use Rattle.sister_command.proofs.Agree.{agree_in}
 use Rattle.sister_effect.specs.Obey.{mark_of, answers_to, told_to}
 use Rattle.sister_effect.specs.Questions.{answers_told, answers_first}
 use Rattle.sister_answer.specs.Laws.{told_at_most}
@@ -38,7 +39,7 @@ use Rattle.answer.specs.Answers.{heads}
 use Rattle.answer.specs.Laws.{answer_at_most, heads_append}
 use Rattle.stream.specs.Stream.{handset, state_of, record_of, fed_of, answers_after}
 use Rattle.stream.specs.declared.Fed.{Fed}
-use Rattle.stream.specs.Demand.{record_same, state_same, fed_in_range}
+use Rattle.stream.proofs.Demand.{record_same, state_same, fed_in_range}
 use Rattle.stream_input.specs.declared.Call.{Call}
 use Rattle.stream_input.specs.declared.Heard.{Heard}
 use Rattle.stream_input.specs.Heard.{greatest, capped, record_after, replies_to, answered, call_of, counted, heard_after, Hears}

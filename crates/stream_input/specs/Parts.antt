@@ -16,7 +16,7 @@ use Rattle.sister_effect.specs.Effect.{own_told}
 use Rattle.sister_effect.specs.Obey.{mark_of, answers_to}
 use Rattle.parting.specs.Rules.{Part, text, skipped, closed, abandoned, Parted, done, unfinished, then, Parting, Stands, in_limit}
 use Rattle.parting.specs.Meaning.{Taken, close, act, taking}
-use Rattle.parting.specs.Stream.{stream}
+use Rattle.parting.proofs.Stream.{stream}
 use Rattle.stream.specs.Stream.{handset, state_of}
 use Rattle.stream_input.specs.Heard.{replies_to}
 

@@ -10,7 +10,7 @@ use Rattle.command.specs.Grammar.{Spells}
 use Rattle.command.specs.InRange.{Judged, rows_named, all_in, first_out, order_numbers, in_range_in_mode}
 use Rattle.command.specs.Judged.{none_out, one_out}
 use Rattle.command.specs.Reading.{order_of}
-use Rattle.command.specs.Agree.{agree, bad_frame}
+use Rattle.command.proofs.Agree.{agree, bad_frame}
 use Rattle.lists.specs.Tests.{by_test}
 use Rattle.record.specs.Core.{Core}
 use Rattle.answer.specs.declared.Answer.{Answer}
@@ -22,7 +22,7 @@ use Rattle.sister_command.specs.Order.{AnyOrder, first, own}
 use Rattle.sister_command.specs.Grammar.{SpellsIn}
 use Rattle.sister_command.specs.InRange.{any_in_range}
 use Rattle.sister_command.specs.Reading.{as_first, order_in}
-use Rattle.sister_command.specs.Agree.{agree_in, bad_frame_in}
+use Rattle.sister_command.proofs.Agree.{agree_in, bad_frame_in}
 use Rattle.sister_effect.specs.Effect.{own_effect, refused_now}
 use Rattle.sister_effect.specs.Obey.{carry_out_any, obey_any, mark_of, answers_to}
 use Rattle.sister_effect.specs.Questions.{own_obeyed, own_refused, own_passed_over, passed_over_untold}

@@ -18,6 +18,7 @@ use Rattle.command.specs.Grammar.{form, Spells}
 use Rattle.command.specs.Spell.{spell, spelling, spelt, in_range_can}
 use Rattle.command.specs.First.{kinds, kind}
 use Rattle.command.specs.First as table
+use Rattle.command.proofs.First as tableLaws
 use Rattle.command.specs.InRange.{command_in_range, most_rows, numbers_of, judged_in}
 use Rattle.command.specs.Plain.{first_and_others}
 use Rattle.command.specs.declared.Command.{Command}
@@ -26,7 +27,7 @@ use Rattle.command.specs.declared.Side.TheVariants.{Left, Right}
 use Rattle.sister_command.specs.Order.{AnyOrder, first, own}
 use Rattle.sister_command.specs.Grammar.{sister_form, is_shared, SpellsIn}
 use Rattle.sister_command.specs.InRange.{own_numbers, own_in_range}
-use Rattle.sister_command.specs.Agree.{one_frame_in, said_no_data, within_in}
+use Rattle.sister_command.proofs.Agree.{one_frame_in, said_no_data, within_in}
 use Rattle.sister_command.specs.Sister as said
 use Rattle.sister_command.specs.declared.SisterCommand.{SisterCommand}
 use Rattle.sister_command.specs.declared.SisterCommand.TheVariants.{Cursor, Restart, Mode, Light, LightTo, IconU, Brightness, KeyTimes, Speaker, Asked, Step}
@@ -122,7 +123,7 @@ simple (Step step) = step_simple step
 
 -- A command in range: what write_command writes reads back as that command;
 pub command_reads_back : (c : Command) → command_in_range most_rows c ≡ true → ReadsBack false (first (plain c)) (spelling (plain c))
-command_reads_back c h = reads_back false (first (plain c)) (spelling (plain c)) (spelt (form (plain c)) (in_range_can (form (plain c)) (commands.kind_plain table.first table.tested (kind c)) h))
+command_reads_back c h = reads_back false (first (plain c)) (spelling (plain c)) (spelt (form (plain c)) (in_range_can (form (plain c)) (commands.kind_plain table.first tableLaws.tested (kind c)) h))
 
 -- what write_own and write_shared write, in the sister's edition.
 pub own_reads_back : (c : SisterCommand) → own_in_range c ≡ true → ReadsBack true (own c) (spell (sister_form (own c)))

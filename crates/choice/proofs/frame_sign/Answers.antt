@@ -1,6 +1,6 @@
 -- Each reading of the frame gives its order, and the order its sign. Assumes nothing.
 use Rattle.std.proofs.Common.{sym, ap, ◌∙◌}
-use Rattle.command.specs.Found.{drawn_order, read_order}
+use Rattle.command.proofs.Found.{drawn_order, read_order}
 use Rattle.choice.specs.Signs.{frame_sign}
 use Rattle.choice.proofs.Frames.{too_long, drawn_sign, codes_behind}
 use Rattle.choice.proofs.frame_sign.Goals as goal

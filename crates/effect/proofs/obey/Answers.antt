@@ -2,8 +2,8 @@
 use Rattle.std.proofs.Common.{sym, ◌∙◌}
 use Rattle.std.specs.Prelude.{refl}
 use Rattle.effect.specs.Effect.{carry_out}
-use Rattle.command.specs.Found.{read_found, label_found, picture_fits}
-use Rattle.sister_command.specs.Own.{label_in_edition}
+use Rattle.command.proofs.Found.{read_found, label_found, picture_fits}
+use Rattle.sister_command.proofs.Own.{label_in_edition}
 use Rattle.sister_command.specs.Reading.{read_in}
 use Rattle.effect.specs.Obey.{core}
 use Rattle.effect.proofs.Orders.{obeys, a_drawing, row_drawn}

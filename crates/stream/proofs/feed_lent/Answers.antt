@@ -5,7 +5,7 @@ use Rattle.record.specs.Range.{in_range}
 use Rattle.command.specs.Table.{classes, next_states}
 use Rattle.stream.specs.declared.Fed.{Fed}
 use Rattle.stream.specs.Stream.{lent_of, fed_of, answers_after}
-use Rattle.stream.specs.Demand.{ready, feeds, answers_fed}
+use Rattle.stream.proofs.Demand.{ready, feeds, answers_fed}
 use Rattle.stream.proofs.feed_lent.Goals as goal
 
 pub read-d-requires : goal.read-d-requires

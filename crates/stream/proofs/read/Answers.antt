@@ -2,7 +2,7 @@
 use Rattle.std.proofs.Common.{arith, sym, ◌∙◌}
 use Rattle.std.specs.Prelude.{◌≡◌, refl}
 use Rattle.parting.specs.Reading.{step}
-use Rattle.turns.specs.Loop.{go_end}
+use Rattle.turns.proofs.Loop.{go_end}
 use Rattle.sister_answer.specs.Laws.{told_not_empty}
 use Rattle.stream.specs.Stream.{handset}
 use Rattle.stream.specs.Turns.{mark_not_empty, reply_not_empty, own_closes, go_quiet, go_loud, go_halt, same_core, fits_none, fits_open, turn_open, turn_skip, loud_esc, turn_quiet, loud_return, turn_over, turn_lost, in_place}

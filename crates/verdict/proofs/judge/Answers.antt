@@ -3,7 +3,7 @@ use Rattle.std.proofs.Common.{◌≡◌, refl, sym, ap, ◌∙◌, List, ℕ}
 use Rattle.std.proofs.Math.Option.{Option}
 use Rattle.command.specs.Order.{Order}
 use Rattle.command.specs.Reading.{order_of}
-use Rattle.command.specs.Found.{drawn_order, read_order}
+use Rattle.command.proofs.Found.{drawn_order, read_order}
 use Rattle.verdict.specs.declared.Verdict.{Verdict}
 use Rattle.verdict.specs.Verdict.{by_order, verdict_of}
 use Rattle.verdict.proofs.judge.Goals as goal

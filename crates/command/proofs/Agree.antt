@@ -5,8 +5,8 @@ use Rattle.std.proofs.Math.Option.{Option, none, some}
 use Rattle.command.specs.Order.{Order}
 use Rattle.command.specs.Grammar.{Spells}
 use Rattle.command.specs.Reading.{order_of}
-use Rattle.command.specs.Complete.{complete}
-use Rattle.command.specs.Sound.{sound}
+use Rattle.command.proofs.Complete.{complete}
+use Rattle.command.proofs.Sound.{sound}
 
 -- The reader finds an order exactly where the frame spells it.
 pub agree : (o : Order) (f : List ℕ) → (order_of f ≡ some o) ↔ Spells o f

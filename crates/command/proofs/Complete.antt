@@ -18,7 +18,8 @@ use Rattle.frame_table.specs.Opens.{heads}
 use Rattle.frame_table.specs.Reader.{no_other}
 use Rattle.frame_table.specs.Reader as commands
 use Rattle.lists.specs.Tests.{by_test}
-use Rattle.command.specs.First.{opens_label, is_other_frame, first, tested}
+use Rattle.command.specs.First.{opens_label, is_other_frame, first}
+use Rattle.command.proofs.First.{tested}
 use Rattle.command.specs.Reading.{but_last, is_text, label_read, read_with, read_of, opens_picture, row_with, row_and_data, drawn_row, picture_of, order_drawn, order_of}
 use Rattle.command.specs.declared.Command.{Command}
 use Rattle.command.specs.declared.Side.{Side}

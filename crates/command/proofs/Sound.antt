@@ -16,7 +16,8 @@ use Rattle.command.specs.Order.{Order, draw}
 use Rattle.command.specs.Grammar.{text, Matches, end, signs, one_digit, codes, data_of, Spells}
 use Rattle.frame_table.specs.Spelling.{either}
 use Rattle.frame_table.specs.Reader.{by_reading}
-use Rattle.command.specs.First.{opens_label, first, tested}
+use Rattle.command.specs.First.{opens_label, first}
+use Rattle.command.proofs.First.{tested}
 use Rattle.command.specs.Reading.{ends_with, but_last, is_text, label_read, read_with, read_of, opens_picture, row_with, no_picture, row_and_data, drawn_row, picture_of, order_read, order_drawn, order_of}
 use Rattle.command.specs.declared.Reading.{Reading}
 use Rattle.command.specs.declared.PictureFrame.{PictureFrame}

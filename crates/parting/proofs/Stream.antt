@@ -12,7 +12,8 @@ use Rattle.turns.specs.Taking
 use Rattle.turns.specs.Taking.{answering}
 use Rattle.parting.specs.Meaning.{Meaning, State, with, close, act, taking}
 use Rattle.parting.specs.Reading.{step_inside, step, reading, step_opens, step_stores, step_skips}
-use Rattle.parting.specs.Cut.{Side, outside, inside, Fine, front, cut, Outside, opening, letter, skipping, outside_of, Inside, abandoning, closing, collecting, inside_of, cut_opening, cut_letter, cut_skipping, cut_abandoning, cut_closing, cut_collecting, exists, only_cut}
+use Rattle.parting.specs.Cut.{Side, outside, inside, Fine, front, cut, Outside, opening, letter, skipping, Inside, abandoning, closing, collecting}
+use Rattle.parting.proofs.Cut.{outside_of, inside_of, cut_opening, cut_letter, cut_skipping, cut_abandoning, cut_closing, cut_collecting, exists, only_cut}
 
 module _ (M : Meaning) where
   -- the frame kept of an open body, of whatever length

@@ -4,12 +4,13 @@ use Rattle.std.proofs.Common.{arith, true≢false, sym}
 use Rattle.lists.specs.Tests.{by_test}
 use Rattle.frame_table.specs.Reader as commands
 use Rattle.command.specs.First.{opens_label}
-use Rattle.command.specs.Complete.{opens_neither}
-use Rattle.command.specs.Found.{label_by}
+use Rattle.command.proofs.Complete.{opens_neither}
+use Rattle.command.proofs.Found.{label_by}
 use Rattle.command.specs.Reading.{read_of, opens_picture, order_read, order_found, order_of}
 use Rattle.command.specs.declared.Side.{Side}
 use Rattle.command.specs.declared.Reading.TheVariants.{Label}
-use Rattle.sister_command.specs.Sister.{sister, tested}
+use Rattle.sister_command.specs.Sister.{sister}
+use Rattle.sister_command.proofs.Sister.{tested}
 use Rattle.sister_command.specs.Sister as said
 use Rattle.sister_command.specs.Reading.{sister_read, order_said, as_first, sister_order_of, as_reading, shared_read, read_in, own_found, is_own_reading, is_own}
 use Rattle.sister_command.specs.declared.SisterCommand.{SisterCommand}

@@ -1,0 +1,9 @@
+pub mod Cut
+pub mod Exactly
+pub mod Stream
+pub mod Kept
+pub mod Joined
+pub mod Last
+pub mod Count
+pub mod Alike
+pub mod Demand

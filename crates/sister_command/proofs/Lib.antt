@@ -1,0 +1,3 @@
+pub mod Sister
+pub mod Agree
+pub mod Own
