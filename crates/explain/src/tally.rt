@@ -2,7 +2,7 @@
 ghost use Rattle.std.specs.Prelude.{◌≡◌, ◌-◌};
 ghost use Rattle.explain.specs.Tally.{length_of, more_if, tail_place_after, tally_after};
 
-use crate::explain_line::say_place;
+use crate::part_line::say_place;
 use crate::words;
 use crate::words::{say_count, say_words};
 use parts::PartAt;

@@ -4,8 +4,8 @@ ghost use Rattle.explain.specs.Changes.{has_others};
 
 use crate::commands::{field_out, own_field_out, say_range};
 use crate::doings::say_obeyed;
-use crate::explain_line::{ROOM, begin_line, changes, say_if_overlong};
 use crate::fields::{Field, Sheet, say_takes, sheet_of};
+use crate::part_line::{ROOM, begin_line, changes, say_if_overlong};
 use crate::tally::{
     ABANDONED, BAD, OBEYED, OPEN, PASSED_OVER, REFUSED, SKIPPED, STORED, Tally, counted, length_of,
 };

@@ -1,6 +1,6 @@
 // What became of the text: codes that were stored in a line, and lines that were cleared.
-use crate::explain_line::{changes, say_columns, say_comma, say_number, wide};
 use crate::fields::{COLUMN_AT, MODE_AT, ROW_AT, Sheet};
+use crate::part_line::{changes, say_columns, say_comma, say_number, wide};
 use crate::words;
 use crate::words::{say_count, say_words};
 use program::Host;

@@ -1,6 +1,6 @@
 // What is said, but for the words of fields, by name: the words themselves stand in the table below, in the same order. The first
 // ones are for parts, by what becomes of them: what stands there, what was done, and how that ends.
-use crate::explain_line::say_entry;
+use crate::part_line::say_entry;
 use program::Host;
 
 pub const FATES: usize = 8;

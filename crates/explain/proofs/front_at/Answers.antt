@@ -20,4 +20,5 @@ run_end-end-requires c = (lying c.args.window.now c.args.at c.part_at-part.resul
 pub returns : goal.returns
 returns c =
     let l = lying c.args.window.now c.args.at c.part_at-part.result c.part_at-part.ensures.same c.requires in
-    (omega (arith, l.0, c.run_end-end.ensures.0), c.run_end-end.ensures.1, omega (arith, l.0, c.run_end-end.ensures.0), omega arith)
+    let run = c.run_end-end.ensures in
+    (omega (arith, l.0, run.0), run.1, omega (arith, l.0, run.0), omega arith)

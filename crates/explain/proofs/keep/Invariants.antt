@@ -1,5 +1,5 @@
 -- What moves lies within the window, and no more moves than is kept. Assumes nothing.
-use Rattle.std.proofs.Common.{◌≡◌, ◌+◌, ◌-◌, ◌≤◌, length}
+use Rattle.std.proofs.Common.{◌-◌, ◌≡◌, ◌+◌, ◌≤◌, length}
 use Rattle.explain.proofs.keep.Given as goal
 
 abbrev pub invariant-loop-n : goal.invariant-loop-n

@@ -13,6 +13,9 @@ use std::num::wrapping_add_u64 as more;
 // A place and the bytes behind it take so much of a line, each with two blanks behind it.
 const WIDTH: usize = 9;
 
+// No number of 64 bits has more.
+const MOST_DIGITS: u64 = 20;
+
 // What is longer is shown by its first bytes.
 const LONGEST: usize = record::LONGEST_FRAME;
 
@@ -121,14 +124,14 @@ fn pad(host: &Host, width: u64) {
 
 // How many digits a number has.
 fn digits_of(n: u64) -> u64 {
-    let mut rest = n / 10;
-    for i in 1..20 {
-        if rest == 0 {
-            return i;
-        }
+    let mut rest = n;
+    for count in 1..MOST_DIGITS {
         rest = rest / 10;
+        if rest == 0 {
+            return count;
+        }
     }
-    20
+    MOST_DIGITS
 }
 
 // Where a line begins: a place.
