@@ -11,7 +11,7 @@ ghost use Rattle.program.specs.Counts.{IsPrefixLen};
 use std::cell::Cell;
 use std::env::{Env, FillError};
 use std::fs::File;
-use std::io::{Error, Read, Stdin};
+use std::io::{Error, ErrorKind, Read, Stdin};
 use std::{io, str};
 
 const LINE_FEED: u8 = b'\n';
@@ -24,11 +24,12 @@ const NOWHERE: usize = 0xFFFF_FFFF_FFFF_FFFF;
 // The system's number for a text that is not what it should be.
 const NO_TEXT: i32 = 84;
 
-// What a program runs on: the runtime, and whether standard output has failed.
+// What a program runs on: the runtime; whether standard output has failed, and whether that is because nobody reads it any more.
 #[derive(Drop)]
 pub struct Host {
     rt: HostRuntime,
     silent: Cell<bool>,
+    unread: Cell<bool>,
 }
 
 impl Host {
@@ -36,6 +37,7 @@ impl Host {
         Host {
             rt: rt,
             silent: Cell::new(false),
+            unread: Cell::new(false),
         }
     }
 }
@@ -83,6 +85,7 @@ fn settle(host: &Host, name: &[u8], written: io::Result<()>) {
     if let Err(error) = written {
         complain(host, name, b"standard output", &error);
         host.silent.set(true);
+        host.unread.set(error.kind() == ErrorKind::BrokenPipe);
     }
 }
 
@@ -407,10 +410,17 @@ pub struct Piece {
     pub failed: bool,
 }
 
-// Reads a piece of an input, and complains if that fails.
+// Reads a piece of an input, and complains if that fails. Where nobody reads standard output any more nothing is read either: no
+// signal ends a program then, and its input may have no end.
 pub fn read_piece(host: &Host, name: &[u8], input: &mut Input, piece: &mut [u8]) -> Piece
     ensures { IsPrefixLen result.length piece.new }
 {
+    if host.unread.get() {
+        return Piece {
+            length: 0,
+            failed: true,
+        };
+    }
     match input.read(piece) {
         Ok(n) => Piece {
             length: n,
