@@ -104,7 +104,9 @@ pub fn write_number(host: &Host, name: &[u8], n: u64) {
     settle(host, name, host.rt.print(n));
 }
 
-// Writes the words of a number, from 0: each has a line of the table. A number past the last one has none.
+// Writes the words of a number, from 0: each has a line of the table. A number past the last one has none. It is put in line nowhere:
+// there the compiler would go through each table's bytes itself, one by one, and with long ones take minutes.
+#[inline(never)]
 pub fn write_entry<'a>(host: &Host, name: &'a [u8], table: &'a [u8], n: u8) {
     let mut line = 0;
     let mut start = 0;
