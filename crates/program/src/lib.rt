@@ -24,7 +24,7 @@ const NOWHERE: usize = 0xFFFF_FFFF_FFFF_FFFF;
 // The system's number for a text that is not what it should be.
 const NO_TEXT: i32 = 84;
 
-// What a program runs on: the runtime; whether standard output has failed, and whether that is because nobody reads it any more.
+// What a program runs on: the runtime; whether standard output has failed, and whether what it says has no reader any more.
 #[derive(Drop)]
 pub struct Host {
     rt: HostRuntime,
@@ -44,13 +44,28 @@ impl Host {
 
 // Complaints, on standard error.
 
+// Nobody reads any more: no signal ends a program then, so it reads no further and says no more.
+fn heed(host: &Host, said: io::Result<()>) {
+    if let Err(error) = said {
+        if error.kind() == ErrorKind::BrokenPipe {
+            host.unread.set(true);
+        }
+    }
+}
+
 // Where standard error fails nobody is left to be told.
 pub fn tell(host: &Host, words: &[u8]) {
-    let _ = host.rt.stderr().write_all(words);
+    if host.unread.get() {
+        return;
+    }
+    heed(host, host.rt.stderr().write_all(words));
 }
 
 pub fn tell_number(host: &Host, n: u64) {
-    let _ = host.rt.eprint(n);
+    if host.unread.get() {
+        return;
+    }
+    heed(host, host.rt.eprint(n));
 }
 
 // The words for an error, without its number.
@@ -85,7 +100,7 @@ fn settle(host: &Host, name: &[u8], written: io::Result<()>) {
     if let Err(error) = written {
         complain(host, name, b"standard output", &error);
         host.silent.set(true);
-        host.unread.set(error.kind() == ErrorKind::BrokenPipe);
+        heed(host, Err(error));
     }
 }
 
@@ -412,8 +427,8 @@ pub struct Piece {
     pub failed: bool,
 }
 
-// Reads a piece of an input, and complains if that fails. Where nobody reads standard output any more nothing is read either: no
-// signal ends a program then, and its input may have no end.
+// Reads a piece of an input, and complains if that fails. Where nobody reads what is said any more nothing is read either: the input
+// may have no end.
 pub fn read_piece(host: &Host, name: &[u8], input: &mut Input, piece: &mut [u8]) -> Piece
     ensures { IsPrefixLen result.length piece.new }
 {
