@@ -19,33 +19,21 @@ pub enum Answer {
 pub fn is_silence(answer: Answer) -> bool
     ensures same { result ≡ is_silence answer }
 {
-    match answer {
-        Answer::Silence => true,
-        Answer::QuestionMark => false,
-        Answer::Contrast => false,
-        Answer::Hook => false,
-        Answer::Version => false,
-    }
+    matches!(answer, Answer::Silence)
 }
 
 // Bytes behind what is written, if all of them have room there: how much is written then.
+#[tactic(auto, using(lists::specs::Written::part_written))]
 pub fn put(answers: &mut [u8], written: usize, bytes: &[u8]) -> usize
     ensures same { result ≡ count_after answers.old written bytes.now }
     ensures buffer { answers.new ≡ buffer_after answers.old written bytes.now }
 {
-    let room = answers.len();
-    if room < written {
+    let n = bytes.len();
+    if answers.len() < written || answers.len() - written < n {
         return written;
     }
-    if room - written < bytes.len() {
-        return written;
-    }
-    let mut i = 0;
-    while i < bytes.len() {
-        answers[written + i] = bytes[i];
-        i += 1;
-    }
-    written + i
+    answers[written..written + n].copy_from_slice(bytes);
+    written + n
 }
 
 // ESC IA, the contrast's one to three digits, CR: the same on-hook and off-hook.
@@ -54,25 +42,11 @@ fn say_contrast(answers: &mut [u8], written: usize, contrast: u8) -> usize
     ensures answers_after { answers.new ≡ buffer_after answers.old written (answer_bytes Answer.Contrast contrast true) }
 {
     let digits = numeral::digits_of(contrast as u16);
-    let len = digits.len;
-    let d = digits.bytes;
-    match len {
-        1 => put(
-            answers,
-            written,
-            &[ESCAPE, b'I', b'A', d[0], CARRIAGE_RETURN],
-        ),
-        2 => put(
-            answers,
-            written,
-            &[ESCAPE, b'I', b'A', d[0], d[1], CARRIAGE_RETURN],
-        ),
-        _ => put(
-            answers,
-            written,
-            &[ESCAPE, b'I', b'A', d[0], d[1], d[2], CARRIAGE_RETURN],
-        ),
-    }
+    let n = digits.len as usize;
+    let mut bytes = *b"\x1BIA\0\0\0\0";
+    bytes[3..3 + n].copy_from_slice(&digits.bytes[..n]);
+    bytes[3 + n] = CARRIAGE_RETURN;
+    put(answers, written, &bytes[..4 + n])
 }
 
 // The answer behind what is written, if all of it has room there: how much is written then.
@@ -84,28 +58,22 @@ pub fn say(answers: &mut [u8], written: usize, answer: Answer, contrast: u8, hoo
         Answer::Silence => written,
         Answer::QuestionMark => put(answers, written, b"?"),
         Answer::Contrast => say_contrast(answers, written, contrast),
-        Answer::Hook => {
-            if hook {
-                return put(answers, written, b"\x1BIHH\r");
-            }
-            put(answers, written, b"\x1BIHh\r")
-        }
+        Answer::Hook => put(
+            answers,
+            written,
+            if hook { b"\x1BIHH\r" } else { b"\x1BIHh\r" },
+        ),
         Answer::Version => put(answers, written, b"\x1B&VHA209 V.01.01 11.07.2006\r\n"),
     }
 }
 
 // How many answers these bytes are: they are counted by their first bytes.
+#[tactic(auto, using(lists::specs::Counted::counted_by))]
 pub fn count(answers: &[u8]) -> usize
     ensures same { result ≡ heads answers.now }
 {
-    let mut n = 0;
-    let mut i = 0;
-    while i < answers.len() {
-        let b = answers[i];
-        if (b == QUESTION_MARK) | (b == ESCAPE) {
-            n += 1;
-        }
-        i += 1;
-    }
-    n
+    answers
+        .iter()
+        .filter(|b| matches!(**b, QUESTION_MARK | ESCAPE))
+        .count()
 }

@@ -4,11 +4,11 @@
 // the stream.
 #![tactic(auto)]
 
-ghost use Rattle.std.specs.Prelude.{◌+◌, ◌≤◌, ◌≡◌, length};
+ghost use Rattle.std.specs.Prelude.{◌≡◌, IfOk, length};
 ghost use Rattle.program.specs.Counts.{IsPrefixLen};
 
-use choice::{Choice, Rule};
-use program::{Host, Input, Piece};
+use choice::{BrokenRule, Rule};
+use program::{Host, Input, Unreadable};
 
 // The longest stream that is judged. The usage and the refusal say it too.
 const MOST_BYTES: usize = 1048576;
@@ -26,47 +26,33 @@ fn say_number(host: &Host, n: u64) {
     program::write_number(host, b"check_choice", n);
 }
 
-fn say_no(host: &Host, offset: usize, rule: u64, words: &[u8]) {
-    say(host, b"NO ");
-    say_number(host, offset as u64);
-    say(host, b" ");
-    say_number(host, rule);
-    say(host, b"\n");
-    say(host, words);
-}
-
 // The words are the request's, and behind them is what to look for.
-fn say_choice(host: &Host, choice: Choice) {
-    let rule = choice.rule;
-    let offset = choice.offset;
-    match rule {
-        Rule::None => say(host, b"YES\n"),
-        Rule::NoScreen => say_no(
-            host,
-            offset,
+fn say_broken(host: &Host, broken: BrokenRule) {
+    let (rule, words): (u64, &[u8]) = match broken.rule {
+        Rule::NoScreen => (
             1,
             b"The first part must be an obeyed ID0 or ID5: look at what the stream begins with.\n",
         ),
-        Rule::LabelMissing => say_no(
-            host,
-            offset,
+        Rule::LabelMissing => (
             2,
             b"After each later ID0, ID1, ID5, ID6 or ID10 both labels must be set, and neither empty, before the next text byte, \
             the next IDn or the end: look before this offset for an IK1 or IK2 that is missing, empty or undone by IK0.\n",
         ),
-        Rule::QuestionMark => say_no(
-            host,
-            offset,
+        Rule::QuestionMark => (
             3,
             b"No '?' may be given: look at this offset for a frame that is misspelt, too long or cut off by another ESC.\n",
         ),
-        Rule::FrameOpen => say_no(
-            host,
-            offset,
+        Rule::FrameOpen => (
             4,
             b"No frame may be left open: look behind the ESC at this offset for the CR that is missing.\n",
         ),
-    }
+    };
+    say(host, b"NO ");
+    say_number(host, broken.offset as u64);
+    say(host, b" ");
+    say_number(host, rule);
+    say(host, b"\n");
+    say(host, words);
 }
 
 // Reading.
@@ -77,48 +63,34 @@ fn empty_places() -> [u8; PLACES]
     [0; PLACES]
 }
 
-// Reads a piece behind what is held.
-fn read_behind(host: &Host, input: &mut Input, places: &mut [u8], held: usize) -> Piece
-    requires { held ≤ length places.old }
-    ensures { held + result.length ≤ length places.old }
-{
-    let rest = &mut places[held..];
-    program::read_piece(host, b"check_choice", input, rest)
-}
-
-// Reads to the input's end, or until no place is left: how much is held then, and whether the input failed.
-fn read_whole(host: &Host, input: &mut Input, places: &mut [u8]) -> Piece
-    ensures { IsPrefixLen result.length places.new }
+// Reads to the input's end, or until no place is left: how much is held then.
+fn read_whole(host: &Host, input: &mut Input, places: &mut [u8]) -> Result<usize, Unreadable>
+    ensures { IfOk result (λ n. IsPrefixLen n places.new) }
 {
     let mut held = 0;
     while held < places.len() {
-        let read = read_behind(host, input, places, held);
-        held += read.length;
-        if read.length == 0 {
-            return Piece {
-                length: held,
-                failed: read.failed,
-            };
+        let n = program::read_piece(host, b"check_choice", input, &mut places[held..])?;
+        if n == 0 {
+            break;
         }
+        held += n;
     }
-    Piece {
-        length: held,
-        failed: false,
-    }
+    Ok(held)
 }
 
 fn judge(host: &Host, input: &mut Input) {
     let mut places = empty_places();
-    let read = read_whole(host, input, &mut places);
-    let n = read.length;
-    if read.failed {
+    let Ok(n) = read_whole(host, input, &mut places) else {
         return;
-    }
+    };
     if MOST_BYTES < n {
         program::refuse_input(host, b"check_choice", input, b"longer than 1048576 bytes");
         return;
     }
-    say_choice(host, choice::check(&places[..n]));
+    match choice::check(&places[..n]) {
+        Ok(()) => say(host, b"YES\n"),
+        Err(broken) => say_broken(host, broken),
+    }
 }
 
 fn accepted(host: &Host) -> bool {

@@ -4,23 +4,18 @@ use native.Mathlib.Omega.{arith}
 use mathlib.Core.List.{List}
 use mathlib.Core.Option.{none}
 use mathlib.Core.Path.{◌≡◌, sym, ◌∙◌}
-use lib.Dec.{eqb, ltb}
+use lib.Dec.{ltb}
 use lib.ListN.{length, drop, length-drop}
 use borrow.Author.Tests.{ltb-true, ltb-false, lt-ltb, le-ltb}
 use Rattle.lists.specs.Tests.{by_test}
-use Rattle.command.specs.Reading.{order_drawn, order_of}
+use Rattle.command.specs.Reading.{order_of}
 use Rattle.command.proofs.Agree.{bad_frame}
 use Rattle.command.specs.Plain.{spells_within}
-use Rattle.command.specs.declared.PictureFrame.{PictureFrame}
-use Rattle.choice.specs.Signs.{has_codes, picture_sign, frame_sign}
+use Rattle.choice.specs.Signs.{has_codes}
 
 -- More than 250 bytes spell nothing.
 pub too_long : (frame : List ℕ) → 250 < length frame → order_of frame ≡ none
 too_long frame long = (bad_frame frame).1 (λ o s. omega (arith, (spells_within o s).most))
-
--- A picture by its columns.
-pub drawn_sign : (drawn : PictureFrame) → picture_sign drawn.columns.len ≡ frame_sign (order_drawn drawn)
-drawn_sign drawn = by_test (eqb drawn.columns.len 0) (λ e. rw e) (λ e. rw e)
 
 -- A label has codes where its frame goes on behind IK1 or IK2.
 pub codes_behind : (frame : List ℕ) → ltb 3 (length frame) ≡ has_codes (drop 3 frame)

@@ -1,7 +1,8 @@
 -- THE ANSWER SAYS WHAT THE RULES SAY, and no other answer does: `decides` and `only`, at the foot of this page. What is broken from a
 -- place on is described as Rules.antt describes it for the whole stream, and taken apart part by part as Choice.antt computes.
 -- Assumes nothing.
-use Rattle.std.specs.Prelude.{ℕ, zero, suc, ◌+◌, ◌≤◌, ◌<◌, ◌≡◌, Bool, true, false, not, cond, ◌&&◌, ◌||◌, ◌⊎◌, eqb, length}
+use Rattle.std.specs.Prelude.{ℕ, zero, suc, ◌+◌, ◌≤◌, ◌<◌, ◌≡◌, Bool, true, false, not, cond, ◌&&◌, ◌||◌, ◌⊎◌, eqb, length, Result, Ok, Err, ⊤}
+use Rattle.std.specs.Result.{result_and}
 use Rattle.std.proofs.Common.{zero-add, arith, sym, ap, ◌∙◌, subst, true≢false, length-append}
 use Rattle.std.proofs.Math.Path.{refl}
 use mathlib.Core.List.Memᴰ
@@ -23,12 +24,12 @@ use Rattle.parts.specs.Laws.{some_bytes, tail_of}
 use Rattle.choice.specs.declared.Since.{Since}
 use Rattle.choice.specs.declared.Sign.{Sign}
 use Rattle.choice.specs.declared.Sign.TheVariants.{Asked, Other}
-use Rattle.choice.specs.declared.Choice.{Choice}
+use Rattle.choice.specs.declared.BrokenRule.{BrokenRule}
 use Rattle.choice.specs.declared.Rule.{Rule}
-use Rattle.choice.specs.declared.Rule.TheVariants.{None, NoScreen, LabelMissing, QuestionMark, FrameOpen}
-use Rattle.choice.specs.Signs.{command_sign, label_sign, frame_sign, part_sign, first_sign, opens_choice, asks_labels, is_check, left_after, right_after}
+use Rattle.choice.specs.declared.Rule.TheVariants.{NoScreen, LabelMissing, QuestionMark, FrameOpen}
+use Rattle.choice.specs.Signs.{command_sign, label_sign, frame_sign, part_sign, first_opens, opens_choice, asks_labels, is_check, left_after, right_after}
 use Rattle.choice.specs.Rules.{sign_at, until_check, from_check, left_stands, right_stands, wanted_at, Broken, no_screen, label_missing, question_mark, frame_open, Told, rule_number, Says}
-use Rattle.choice.specs.Choice.{calm, after, wanted, broken_by, is_zero, is_fine, answer_of, judged_from, judged_all, choice_of}
+use Rattle.choice.specs.Choice.{calm, after, wanted, broken_by, answer_of, judged_from, judged_all, choice_of}
 
 -- ANSWERS, of anything that can be broken at offsets -----------------------------------------------------------------------
 
@@ -36,55 +37,47 @@ use Rattle.choice.specs.Choice.{calm, after, wanted, broken_by, is_zero, is_fine
 abbrev NotBehind : ℕ → ℕ → ℕ → ℕ → Type 0
 NotBehind offset rule other rule' = (offset < other) ⊎ ((offset ≡ other) × (rule ≤ rule'))
 
--- what an answer tells
-abbrev Tells : (ℕ → ℕ → Type 0) → Choice → Type 0
-Tells broken c = Told broken (rule_number c.rule) c.offset
-
--- the rule of this number at this place, and no other; number 0 is none
-abbrev Is : ℕ → ℕ → ℕ → ℕ → Type 0
-Is zero at offset rule = ⊥
-Is (suc n) at offset rule = (at ≡ offset) × (suc n ≡ rule)
+-- the rule of a result at this place, and no other; of one that is fine there is none
+abbrev Is : Result ⊤ Rule → ℕ → ℕ → ℕ → Type 0
+Is (Ok fine) at offset rule = ⊥
+Is (Err broken) at offset rule = (at ≡ offset) × (rule_number broken ≡ rule)
 
 -- What breaks alike is told alike.
-told_alike : {P Q : ℕ → ℕ → Type 0} → ((o r : ℕ) → P o r → Q o r) → ((o r : ℕ) → Q o r → P o r) → (n at : ℕ) → Told P n at → Told Q n at
-told_alike to from zero at t = (t.0, λ o r q. t.1 o r (from o r q))
-told_alike to from (suc n) at t = record { here = to at (suc n) t.here; least = λ o r q. t.least o r (from o r q) }
+told_alike : {P Q : ℕ → ℕ → Type 0} → ((o r : ℕ) → P o r → Q o r) → ((o r : ℕ) → Q o r → P o r) → (c : Result ⊤ BrokenRule) → Told P c → Told Q c
+told_alike to from (Ok fine) t = λ o r q. t o r (from o r q)
+told_alike to from (Err first) t = record { here = to _ _ t.here; least = λ o r q. t.least o r (from o r q) }
 
 -- Where nothing but a rule at a place is broken, that is told.
-told_itself : (n at : ℕ) → Told (Is n at) n (cond (is_zero n) 0 at)
-told_itself zero at = (refl, λ o r i. i)
-told_itself (suc n) at = record { here = (refl, refl); least = λ o r i. inr (i.0, omega arith) }
-
--- Two that both tell it are the same.
-told_once : (P : ℕ → ℕ → Type 0) (n o n' o' : ℕ) → Told P n o → Told P n' o' → (n ≡ n') × (o ≡ o')
-told_once P zero o zero o' t u = (refl, t.0 ∙ sym u.0)
-told_once P zero o (suc n') o' t u = absurd (t.1 o' (suc n') u.here)
-told_once P (suc n) o zero o' t u = absurd (u.1 o (suc n) t.here)
-told_once P (suc n) o (suc n') o' t u = same (t.least o' (suc n') u.here) (u.least o (suc n) t.here)
-  where
-    same : NotBehind o (suc n) o' (suc n') → NotBehind o' (suc n') o (suc n) → (suc n ≡ suc n') × (o ≡ o')
-    same (inl a) (inl b) = absurd (omega arith)
-    same (inl a) (inr b) = absurd (omega arith)
-    same (inr a) (inl b) = absurd (omega arith)
-    same (inr a) (inr b) = (omega arith, omega arith)
+told_itself : (broken : Result ⊤ Rule) (at : ℕ) → Told (Is broken at) (answer_of broken at)
+told_itself (Ok fine) at = λ o r i. i
+told_itself (Err rule) at = record { here = (refl, refl); least = λ o r i. inr (i.0, omega (arith, i.1)) }
 
 -- A rule is known by its number.
 abbrev rule_of : ℕ → Rule
-rule_of n = cond (eqb n 0) None (cond (eqb n 1) NoScreen (cond (eqb n 2) LabelMissing (cond (eqb n 3) QuestionMark FrameOpen)))
+rule_of n = cond (eqb n 1) NoScreen (cond (eqb n 2) LabelMissing (cond (eqb n 3) QuestionMark FrameOpen))
 
 numbered : (rule : Rule) → rule_of (rule_number rule) ≡ rule
-numbered None = refl
 numbered NoScreen = refl
 numbered LabelMissing = refl
 numbered QuestionMark = refl
 numbered FrameOpen = refl
 
--- So there is one answer.
-says_once : (stream : List ℕ) (parted : Parted) (c d : Choice) → Says stream parted c → Says stream parted d → c ≡ d
-says_once stream parted c d s t =
-    let same = told_once (Broken stream parted) (rule_number c.rule) c.offset (rule_number d.rule) d.offset s t in
-    let rule : c.rule ≡ d.rule = sym (numbered c.rule) ∙ ap rule_of same.0 ∙ numbered d.rule in
-    λ j. record { rule = rule j; offset = same.1 j }
+-- Two that both tell it are the same.
+told_once : (P : ℕ → ℕ → Type 0) (c d : Result ⊤ BrokenRule) → Told P c → Told P d → c ≡ d
+told_once P (Ok fine) (Ok fine') t u = refl
+told_once P (Ok fine) (Err first) t u = absurd (t first.offset (rule_number first.rule) u.here)
+told_once P (Err first) (Ok fine) t u = absurd (u first.offset (rule_number first.rule) t.here)
+told_once P (Err a) (Err b) t u = same (t.least b.offset (rule_number b.rule) u.here) (u.least a.offset (rule_number a.rule) t.here)
+  where
+    joined : (rule_number a.rule ≡ rule_number b.rule) → a.offset ≡ b.offset → ◌≡◌ {A = Result ⊤ BrokenRule} (Err a) (Err b)
+    joined n o = let rule : a.rule ≡ b.rule = sym (numbered a.rule) ∙ ap rule_of n ∙ numbered b.rule in λ j. Err (record { rule = rule j; offset = o j })
+
+    same : NotBehind a.offset (rule_number a.rule) b.offset (rule_number b.rule) → NotBehind b.offset (rule_number b.rule) a.offset (rule_number a.rule)
+        → ◌≡◌ {A = Result ⊤ BrokenRule} (Err a) (Err b)
+    same (inl l) (inl m) = absurd (omega arith)
+    same (inl l) (inr m) = absurd (omega arith)
+    same (inr l) (inl m) = absurd (omega arith)
+    same (inr l) (inr m) = joined (omega arith) (omega arith)
 
 -- WHAT IS BROKEN FROM A PLACE ON, behind the first part --------------------------------------------------------------------
 
@@ -118,14 +111,14 @@ data BrokenFrom (s : Since) (end at : ℕ) (parted : Parted) (offset rule : ℕ)
   tail_open : (body : List ℕ) → tail_of parted ≡ unfinished body → tail_place at parted ≡ offset → 4 ≡ rule → BrokenFrom s end at parted offset rule
 
 -- What an answer wants at a place is what is due there,
-due_is_wanted : (s : Since) (at offset rule : ℕ) → Due s at offset → 2 ≡ rule → Is (rule_number (wanted s)) at offset rule
+due_is_wanted : (s : Since) (at offset rule : ℕ) → Due s at offset → 2 ≡ rule → Is (wanted s) at offset rule
 due_is_wanted s at offset rule d e = rw (d.0, d.1) (d.2, e)
 
 -- and nothing else.
-wanted_is_due : (s : Since) (at offset rule : ℕ) → Is (rule_number (wanted s)) at offset rule → Due s at offset × (2 ≡ rule)
+wanted_is_due : (s : Since) (at offset rule : ℕ) → Is (wanted s) at offset rule → Due s at offset × (2 ≡ rule)
 wanted_is_due s at offset rule i = go s.asks (s.left && s.right) i
   where
-    go : (asks both : Bool) → Is (rule_number (cond (not asks || both) None LabelMissing)) at offset rule
+    go : (asks both : Bool) → Is (cond (not asks || both) (Ok tt) (Err LabelMissing)) at offset rule
         → ((asks ≡ true) × (both ≡ false) × (at ≡ offset)) × (2 ≡ rule)
     go true true i = absurd i
     go true false i = ((refl, refl, i.0), i.1)
@@ -141,7 +134,7 @@ relabelled s sign = record { asks = s.asks; left = left_after s.left sign; right
 data Role (sign : Sign) : Type 0 where
   checks : is_check sign ≡ true → ((s : Since) → after s sign ≡ anew (asks_labels sign)) → ((s : Since) → broken_by s sign ≡ wanted s) → Role sign
   passes : is_check sign ≡ false → asks_labels sign ≡ false → ((s : Since) → after s sign ≡ relabelled s sign)
-      → (sign ≡ Asked) ⊎ ((s : Since) → broken_by s sign ≡ None) → Role sign
+      → (sign ≡ Asked) ⊎ ((s : Since) → broken_by s sign ≡ Ok tt) → Role sign
 
 asked : Role Asked
 asked = passes refl refl (λ s. refl) (inl refl)
@@ -201,7 +194,7 @@ module _ (end offset : ℕ) (p : Placed) (ms : List Placed) where
 
   -- so rule 2 is broken at the first part, or from behind it on,
   missing_on : (s : Since) → Role (sign_at p) → Missing s end (p ∷ ms) offset
-      → Is (rule_number (broken_by s (sign_at p))) p.place offset 2 ⊎ Missing (after s (sign_at p)) end ms offset
+      → Is (broken_by s (sign_at p)) p.place offset 2 ⊎ Missing (after s (sign_at p)) end ms offset
   missing_on s (checks c a b) (inl w) = inl (rw (b s) (due_is_wanted s p.place offset 2 (owed_due s c w) refl))
   missing_on s (checks c a b) (inr w) = inr (rw (a s) (asked_on w))
   missing_on s (passes c n a m) (inl w) = inr (rw (a s) (inl (owed_on s c w)))
@@ -223,8 +216,8 @@ abbrev placed_at : ℕ → Part → Placed
 placed_at at part = record { place = at; part = part }
 
 -- what a part itself breaks
-abbrev here : Since → Part → ℕ
-here s part = rule_number (broken_by s (part_sign part))
+abbrev here : Since → Part → Result ⊤ Rule
+here s part = broken_by s (part_sign part)
 
 module _ (s : Since) (end at : ℕ) (part : Part) (parted : Parted) where
   abbrev Whole : ℕ → ℕ → Type 0
@@ -266,21 +259,19 @@ module _ (s : Since) (end at : ℕ) (part : Part) (parted : Parted) where
 -- PART BY PART ---------------------------------------------------------------------------------------------------------------
 
 -- What is broken here or behind is told by the rule that is broken here, and if there is none by what is told behind.
-told_first : {P Q : ℕ → ℕ → Type 0} (at : ℕ) (rule : Rule) (later : Choice) (n : ℕ) → rule_number rule ≡ n → ((o r : ℕ) → Is n at o r → P o r × (at ≡ o))
-    → ((o r : ℕ) → Q o r → P o r) → ((o r : ℕ) → P o r → Is n at o r ⊎ Q o r) → ((o r : ℕ) → Q o r → at < o) → Tells Q later
-    → Tells P (cond (is_fine rule) later (answer_of rule at))
-told_first at rule later zero e here behind split further t =
-    rw e (told_alike behind (λ o r p. ⊎_elim (λ i. absurd i) (λ q. q) (split o r p)) (rule_number later.rule) later.offset t)
-told_first at rule later (suc n) e here behind split further t =
-    rw (e, e)
-    (record {
-      here = (here at (suc n) (refl, refl)).0;
-      least = λ o r p. ⊎_elim (λ i. inr (i.0, omega arith)) (λ q. inl (omega (arith, further o r q))) (split o r p);
-    })
+told_first : {P Q : ℕ → ℕ → Type 0} (at : ℕ) (broken : Result ⊤ Rule) (later : Result ⊤ BrokenRule) → ((o r : ℕ) → Is broken at o r → P o r × (at ≡ o))
+    → ((o r : ℕ) → Q o r → P o r) → ((o r : ℕ) → P o r → Is broken at o r ⊎ Q o r) → ((o r : ℕ) → Q o r → at < o) → Told Q later
+    → Told P (result_and (answer_of broken at) later)
+told_first at (Ok fine) later here behind split further t = told_alike behind (λ o r p. ⊎_elim (λ i. absurd i) (λ q. q) (split o r p)) later t
+told_first at (Err rule) later here behind split further t =
+    record {
+      here = (here at (rule_number rule) (refl, refl)).0;
+      least = λ o r p. ⊎_elim (λ i. inr (i.0, omega (arith, i.1))) (λ q. inl (omega (arith, further o r q))) (split o r p);
+    }
 
 -- where the rest of the stream begins at a place: the answer that is computed tells what is broken there, and nothing is broken before it
 record Judged (s : Since) (end at : ℕ) (parted : Parted) : Type 0 where
-  told : Tells (BrokenFrom s end at parted) (judged_from s at parted)
+  told : Told (BrokenFrom s end at parted) (judged_from s at parted)
   within : (offset rule : ℕ) → BrokenFrom s end at parted offset rule → at ≤ offset
 
 -- at the stream's end, where no part comes any more: labels are missing only at the end
@@ -292,14 +283,14 @@ judged_end : (s : Since) (at : ℕ) → Judged s at at done
 unfolding places tail_place judged_from
 judged_end s at =
     record {
-      told = told_alike to from (rule_number (wanted s)) _ (told_itself (rule_number (wanted s)) at);
+      told = told_alike to from (answer_of (wanted s) at) (told_itself (wanted s) at);
       within = λ o r b. omega (arith, wanted_is_due s at o r (from o r b));
     }
   where
-    to : (offset rule : ℕ) → Is (rule_number (wanted s)) at offset rule → BrokenFrom s at at done offset rule
+    to : (offset rule : ℕ) → Is (wanted s) at offset rule → BrokenFrom s at at done offset rule
     to offset rule i = let w = wanted_is_due s at offset rule i in label_wanted (inl w.0) w.1
 
-    from : (offset rule : ℕ) → BrokenFrom s at at done offset rule → Is (rule_number (wanted s)) at offset rule
+    from : (offset rule : ℕ) → BrokenFrom s at at done offset rule → Is (wanted s) at offset rule
     from offset rule (label_wanted m e) = due_is_wanted s at offset rule (missing_at_end s at offset m) e
     from offset rule (mark_given placed m a o e) = absurd (Memᴰ.not-nil m)
     from offset rule (tail_open body t o e) = absurd (let z : ◌≡◌ {A = ℕ} 0 1 = cc in omega arith)
@@ -324,7 +315,7 @@ judged_part : (s : Since) (end at : ℕ) (part : Part) (parted : Parted) → Jud
 unfolding judged_from
 judged_part s end at part parted next =
     record {
-      told = told_first at (broken_by s (part_sign part)) _ (here s part) refl from_here (behind_whole s end at part parted) split further next.told;
+      told = told_first at (here s part) _ from_here (behind_whole s end at part parted) split further next.told;
       within = λ o r b. ⊎_elim (λ i. omega (arith, (from_here o r i).1)) (λ q. omega (arith, further o r q)) (split o r b);
     }
   where
@@ -357,7 +348,7 @@ first_of_all : (offset rule : ℕ) → 1 ≤ rule → NotBehind 0 1 offset rule
 first_of_all zero rule l = inr (refl, l)
 first_of_all (suc offset) rule l = inl (omega arith)
 
-no_screen_first : {stream : List ℕ} {parted : Parted} → opens_choice (first_sign parted) ≡ false → Says stream parted (answer_of NoScreen 0)
+no_screen_first : {stream : List ℕ} {parted : Parted} → first_opens parted ≡ false → Says stream parted (answer_of (Err NoScreen) 0)
 no_screen_first e = record { here = no_screen e; least = λ offset rule b. first_of_all offset rule (some_rule b) }
 
 -- Where the first part is ID0 or ID5, what is broken is what is broken behind it.
@@ -388,8 +379,7 @@ module _ (stream : List ℕ) (part : Part) (parted : Parted) (opens : opens_choi
 
   opened : Judged calm (length stream) (end_of 0 part) parted → Says stream (then part parted) (judged_from calm (end_of 0 part) parted)
   opened j =
-      let c = judged_from calm (end_of 0 part) parted in
-      told_alike rest_stream stream_rest (rule_number c.rule) c.offset j.told
+      told_alike rest_stream stream_rest (judged_from calm (end_of 0 part) parted) j.told
 
 -- The answer on a parting says what the rules say of it.
 judged_all_lem : {stream : List ℕ} {parted : Parted} → Parting stream parted → Says stream parted (judged_all parted)
@@ -406,8 +396,8 @@ unfolding choice_of
 decides {stream} {parted} p = subst (λ (q : Parted). Says stream parted (judged_all q)) (only_cut p) (judged_all_lem p)
 
 -- AND NO OTHER ANSWER DOES.
-pub only : {stream : List ℕ} {parted : Parted} → Parting stream parted → (c : Choice) → Says stream parted c → c ≡ choice_of stream
-only {stream} {parted} p c s = says_once stream parted c (choice_of stream) s (decides p)
+pub only : {stream : List ℕ} {parted : Parted} → Parting stream parted → (c : Result ⊤ BrokenRule) → Says stream parted c → c ≡ choice_of stream
+only {stream} {parted} p c s = told_once (Broken stream parted) c (choice_of stream) s (decides p)
 
 -- The same of the computed parting, which every stream has.
 pub decides_cut : (stream : List ℕ) → Says stream (cut outside stream) (choice_of stream)

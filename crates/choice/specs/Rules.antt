@@ -1,15 +1,15 @@
 -- THE FOUR RULES of the choice screen (request T-11), over the parting of a stream and nothing else; where each of them is broken.
 -- Hold this page against the request. Assumes nothing.
-use Rattle.std.specs.Prelude.{ℕ, zero, suc, ◌<◌, ◌≤◌, Bool, true, false, cond, ◌&&◌, ◌⊎◌, ◌≡◌, length}
+use Rattle.std.specs.Prelude.{ℕ, ◌<◌, ◌≤◌, Bool, true, false, cond, ◌&&◌, ◌⊎◌, ◌≡◌, length, Result, Ok, Err, ⊤}
 use mathlib.Core.List.{List, [], ◌∷◌, ◌++◌, Memᴰ}
 use Rattle.parting.specs.Rules.{Parted, unfinished, Placed, places, tail_place}
 use Rattle.parts.specs.Laws.{tail_of}
 use Rattle.choice.specs.declared.Sign.{Sign}
 use Rattle.choice.specs.declared.Sign.TheVariants.{Asked}
-use Rattle.choice.specs.declared.Choice.{Choice}
+use Rattle.choice.specs.declared.BrokenRule.{BrokenRule}
 use Rattle.choice.specs.declared.Rule.{Rule}
-use Rattle.choice.specs.declared.Rule.TheVariants.{None, NoScreen, LabelMissing, QuestionMark, FrameOpen}
-use Rattle.choice.specs.Signs.{part_sign, first_sign, opens_choice, asks_labels, is_check, left_after, right_after}
+use Rattle.choice.specs.declared.Rule.TheVariants.{NoScreen, LabelMissing, QuestionMark, FrameOpen}
+use Rattle.choice.specs.Signs.{part_sign, first_opens, asks_labels, is_check, left_after, right_after}
 
 abbrev pub sign_at : Placed → Sign
 sign_at placed = part_sign placed.part
@@ -44,7 +44,7 @@ wanted_at end (p ∷ later) = p.place
 -- Broken stream parted offset rule: the rule is broken there
 pub data Broken (stream : List ℕ) (parted : Parted) : ℕ → ℕ → Type 0 where
   -- 1: the first part is an obeyed ID0 or ID5
-  no_screen : opens_choice (first_sign parted) ≡ false → Broken stream parted 0 1
+  no_screen : first_opens parted ≡ false → Broken stream parted 0 1
   -- 2: after each later IDn with n 0, 1, 5, 6 or 10, when the next text byte, good IDn (any n) or the end comes, both labels have been
   -- set since and neither is empty
   label_missing : (first : Placed) (between : List Placed) (screen : Placed) (later : List Placed) → places 0 parted ≡ first ∷ (between ++ screen ∷ later)
@@ -59,19 +59,18 @@ pub record Earliest (broken : ℕ → ℕ → Type 0) (offset rule : ℕ) : Type
   pub here : broken offset rule
   pub least : (other rule' : ℕ) → broken other rule' → (offset < other) ⊎ ((offset ≡ other) × (rule ≤ rule'))
 
--- what a rule's number and an offset tell: 0, at 0, that nothing is broken; any other, that the rule is broken there, and nothing earlier
-abbrev pub Told : (ℕ → ℕ → Type 0) → ℕ → ℕ → Type 0
-Told broken zero offset = (offset ≡ 0) × ((other rule : ℕ) → broken other rule → ⊥)
-Told broken (suc rule) offset = Earliest broken offset (suc rule)
-
 -- the rules by their numbers
 abbrev pub rule_number : Rule → ℕ
-rule_number None = 0
 rule_number NoScreen = 1
 rule_number LabelMissing = 2
 rule_number QuestionMark = 3
 rule_number FrameOpen = 4
 
+-- what a result tells of anything that can be broken: Ok, that nothing is; Err, that its rule is broken at its offset, and nothing earlier
+abbrev pub Told : (ℕ → ℕ → Type 0) → Result ⊤ BrokenRule → Type 0
+Told broken (Ok fine) = (offset rule : ℕ) → broken offset rule → ⊥
+Told broken (Err first) = Earliest broken first.offset (rule_number first.rule)
+
 -- WHAT AN ANSWER SAYS
-abbrev pub Says : List ℕ → Parted → Choice → Type 0
-Says stream parted c = Told (Broken stream parted) (rule_number c.rule) c.offset
+abbrev pub Says : List ℕ → Parted → Result ⊤ BrokenRule → Type 0
+Says stream parted c = Told (Broken stream parted) c

@@ -1,5 +1,7 @@
 -- WHAT A PART IS TO THE RULES of the choice screen, by the order that a closed frame spells. Assumes nothing.
-use Rattle.std.specs.Prelude.{ℕ, Bool, true, false, cond, ◌||◌, List, eqb, ltb, length}
+use Rattle.std.specs.Prelude.{ℕ, Bool, true, false, cond, ◌||◌, List, ◌∷◌, ◌+◌, eqb, ltb, length}
+use Rattle.std.specs.Prelude as std
+use Rattle.lists.specs.Codes.{escape}
 use Rattle.std.proofs.Math.Option.{Option, none, some}
 use Rattle.record.specs.Range.{mode_in_range}
 use Rattle.command.specs.Order.{Order, plain, label, draw}
@@ -9,9 +11,9 @@ use Rattle.command.specs.declared.Command.{Command}
 use Rattle.command.specs.declared.Command.TheVariants.{Mode, LabelsEmpty}
 use Rattle.command.specs.declared.Side.{Side}
 use Rattle.command.specs.declared.Side.TheVariants.{Left, Right}
-use Rattle.parting.specs.Rules.{Part, text, skipped, closed, abandoned, Parted, done, unfinished, then}
+use Rattle.parting.specs.Rules.{Part, text, skipped, closed, abandoned, bytes_of, Parted, done, unfinished, then}
 use Rattle.choice.specs.declared.Sign.{Sign}
-use Rattle.choice.specs.declared.Sign.TheVariants.{Text, Screen, LeftSet, RightSet, BothEmpty, Asked, Open, End, Other}
+use Rattle.choice.specs.declared.Sign.TheVariants.{Text, Screen, LeftSet, RightSet, BothEmpty, Asked, Open, Other}
 
 -- whether a label's text is not empty
 abbrev pub has_codes : List ℕ → Bool
@@ -30,10 +32,6 @@ order_sign (plain c) = command_sign c
 order_sign (label side t) = label_sign side (has_codes t)
 order_sign (draw row columns) = Other
 
--- a picture that draws no column is no picture
-abbrev pub picture_sign : ℕ → Sign
-picture_sign columns = cond (eqb columns 0) Asked Other
-
 -- a frame that spells no order gets a question mark
 abbrev pub frame_sign : Option Order → Sign
 frame_sign none = Asked
@@ -46,11 +44,11 @@ part_sign (skipped b) = Other
 part_sign (closed body) = frame_sign (order_of body)
 part_sign (abandoned body) = Asked
 
--- what stands first: a part, the unfinished tail, or nothing
-abbrev pub first_sign : Parted → Sign
-first_sign done = End
-first_sign (unfinished body) = Open
-first_sign (then part parted) = part_sign part
+-- the sign of what stands first, a part or the unfinished tail, and where the next part begins
+abbrev pub read_of : ℕ → Parted → std.Option (Sign × ℕ)
+read_of place done = std.None
+read_of place (unfinished body) = std.Some (Open, place + length (escape ∷ body))
+read_of place (then part parted) = std.Some (part_sign part, place + length (bytes_of part))
 
 -- a test on the number of an IDn, which no other sign passes
 abbrev on_screen : (ℕ → Bool) → Sign → Bool
@@ -61,12 +59,17 @@ on_screen test (RightSet codes) = false
 on_screen test BothEmpty = false
 on_screen test Asked = false
 on_screen test Open = false
-on_screen test End = false
 on_screen test Other = false
 
 -- ID0 and ID5
 abbrev pub opens_choice : Sign → Bool
 opens_choice sign = on_screen (λ n. eqb n 0 || eqb n 5) sign
+
+-- whether that is what stands first: a part, and not the unfinished tail or nothing
+abbrev pub first_opens : Parted → Bool
+first_opens done = false
+first_opens (unfinished body) = false
+first_opens (then part parted) = opens_choice (part_sign part)
 
 -- IDn with n 0, 1, 5, 6 or 10: a text mode
 abbrev pub asks_labels : Sign → Bool
@@ -81,7 +84,6 @@ is_check (RightSet codes) = false
 is_check BothEmpty = false
 is_check Asked = false
 is_check Open = false
-is_check End = false
 is_check Other = false
 
 -- whether a label stands behind a sign, by whether it stood before: the last one that was set has codes, and IK0 came not after it
@@ -93,7 +95,6 @@ left_after stood (RightSet codes) = stood
 left_after stood BothEmpty = false
 left_after stood Asked = stood
 left_after stood Open = stood
-left_after stood End = stood
 left_after stood Other = stood
 
 abbrev pub right_after : Bool → Sign → Bool
@@ -104,5 +105,4 @@ right_after stood (RightSet codes) = codes
 right_after stood BothEmpty = false
 right_after stood Asked = stood
 right_after stood Open = stood
-right_after stood End = stood
 right_after stood Other = stood

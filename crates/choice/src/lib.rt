@@ -4,13 +4,12 @@
 
 ghost use Rattle.std.specs.Prelude.{◌≡◌, drop};
 ghost use Rattle.record.specs.Range.{mode_in_range};
-ghost use Rattle.command.specs.Reading.{order_of};
+ghost use Rattle.command.specs.Reading.{order_drawn, order_of};
 ghost use Rattle.parting.specs.Cut.{outside, cut};
-ghost use Rattle.parts.specs.Parts.{part_at};
-ghost use Rattle.choice.specs.Signs.{command_sign, label_sign, picture_sign, frame_sign, first_sign, opens_choice};
-ghost use Rattle.choice.specs.Choice.{since, labelled, after, wanted, broken_by, is_fine, answer_of, choice_of};
+ghost use Rattle.choice.specs.Signs.{command_sign, label_sign, frame_sign, read_of, opens_choice};
+ghost use Rattle.choice.specs.Choice.{after, wanted, broken_by, answer_of, choice_of};
 
-use command::{Command, Reading, Side};
+use command::{Command, PictureFrame, Reading, Side};
 use parts::Kind;
 use record::LONGEST_FRAME;
 
@@ -22,8 +21,8 @@ const FOUR_ROWS: u16 = 0;
 
 const FIVE_ROWS: u16 = 5;
 
-// What stands at a place, to the rules: a text byte; a good IDn and its number; a label that is set, and whether it has codes; both
-// labels emptied; a frame that gets a question mark; a frame that is left open; the stream's end; anything else.
+// What a part is to the rules: a text byte; a good IDn and its number; a label that is set, and whether it has codes; both labels
+// emptied; a frame that gets a question mark; a frame that is left open; anything else.
 #[derive(Clone, Copy)]
 pub enum Sign {
     Text,
@@ -33,24 +32,21 @@ pub enum Sign {
     BothEmpty,
     Asked,
     Open,
-    End,
     Other,
 }
 
-// The rules: the first part is an ID0 or ID5; no label is missing; no question mark is given; no frame is left open. None is none of
-// them.
+// The rules: the first part is an ID0 or ID5; no label is missing; no question mark is given; no frame is left open.
 #[derive(Clone, Copy)]
 pub enum Rule {
-    None,
     NoScreen,
     LabelMissing,
     QuestionMark,
     FrameOpen,
 }
 
-// The rule that is broken first, and the offset where; no rule, at 0, is yes.
+// The rule that is broken first, and the offset where.
 #[derive(Clone, Copy)]
-pub struct Choice {
+pub struct BrokenRule {
     pub rule: Rule,
     pub offset: usize,
 }
@@ -62,6 +58,13 @@ struct Since {
     left: bool,
     right: bool,
 }
+
+// Nothing is asked for.
+const CALM: Since = Since {
+    asks: false,
+    left: false,
+    right: false,
+};
 
 fn command_sign(c: Command) -> Sign
     ensures same { result ≡ command_sign c }
@@ -83,13 +86,13 @@ fn label_sign(side: Side, codes: bool) -> Sign
 }
 
 // A picture is good if it draws a column.
-fn picture_sign(columns: u8) -> Sign
-    ensures same { result ≡ picture_sign columns }
+fn picture_sign(drawn: Option<PictureFrame>) -> Sign
+    ensures same { result ≡ frame_sign (order_drawn drawn) }
 {
-    if 0 < columns {
-        return Sign::Other;
+    match drawn {
+        Some(_) => Sign::Other,
+        None => Sign::Asked,
     }
-    Sign::Asked
 }
 
 // A closed frame. One that is too long is not read.
@@ -100,84 +103,41 @@ fn frame_sign(frame: &[u8]) -> Sign
         return Sign::Asked;
     }
     if picture_frame::opens_picture(frame) {
-        let drawn = picture_frame::read_picture(frame);
-        return picture_sign(drawn.columns.len);
+        return picture_sign(picture_frame::read_picture(frame));
     }
-    let reading = command::read_command(frame);
-    match reading {
-        Reading::Bad => Sign::Asked,
-        Reading::Plain(c) => command_sign(c),
-        Reading::Label(side) => label_sign(side, LABEL_OPENING < frame.len()),
+    match command::read_command(frame) {
+        None => Sign::Asked,
+        Some(Reading::Plain(c)) => command_sign(c),
+        Some(Reading::Label(side)) => label_sign(side, LABEL_OPENING < frame.len()),
     }
 }
 
-// What stands at a place, and where the next part begins.
-#[derive(Clone, Copy)]
-struct Read {
-    sign: Sign,
-    end: usize,
-}
-
-fn read_at(bytes: &[u8], place: usize) -> Read
-    ensures same { (result.sign ≡ first_sign (cut outside (drop place bytes.now))) × (result.end ≡ (part_at bytes.now place).end) }
+// The sign of the part that stands at a place, and where the next part begins.
+fn read_at(bytes: &[u8], place: usize) -> Option<(Sign, usize)>
+    ensures same { result ≡ read_of place (cut outside (drop place bytes.now)) }
 {
-    let p = parts::part_at(bytes, place);
-    let kind = p.kind;
-    let body = p.body;
-    let body_end = p.body_end;
-    let sign = match kind {
-        Kind::None => Sign::End,
+    let part = parts::part_at(bytes, place)?;
+    let sign = match part.kind {
         Kind::Text => Sign::Text,
         Kind::Skipped => Sign::Other,
-        Kind::Closed => frame_sign(&bytes[body..body_end]),
+        Kind::Closed => frame_sign(&bytes[part.body..part.body_end]),
         Kind::Abandoned => Sign::Asked,
         Kind::Tail => Sign::Open,
     };
-    Read {
-        sign: sign,
-        end: p.end,
-    }
+    Some((sign, part.end))
 }
 
 // Whether the first part opens a choice: ID0 or ID5.
 fn opens_choice(sign: Sign) -> bool
     ensures same { result ≡ opens_choice sign }
 {
-    match sign {
-        Sign::Text => false,
-        Sign::Screen(n) => (n == FOUR_ROWS) | (n == FIVE_ROWS),
-        Sign::LeftSet(codes) => false,
-        Sign::RightSet(codes) => false,
-        Sign::BothEmpty => false,
-        Sign::Asked => false,
-        Sign::Open => false,
-        Sign::End => false,
-        Sign::Other => false,
-    }
+    matches!(sign, Sign::Screen(FOUR_ROWS | FIVE_ROWS))
 }
 
-// 0, 1, 5, 6 and 10.
 fn is_text_mode(n: u16) -> bool
     ensures same { result ≡ mode_in_range n }
 {
-    (n == 0) | (n == 1) | (n == 5) | (n == 6) | (n == 10)
-}
-
-fn since_then(asks: bool, left: bool, right: bool) -> Since
-    ensures same { result ≡ since asks left right }
-{
-    Since {
-        asks: asks,
-        left: left,
-        right: right,
-    }
-}
-
-// Both labels stand, if they are asked for.
-fn is_labelled(s: Since) -> bool
-    ensures same { result ≡ labelled s }
-{
-    !s.asks | (s.left & s.right)
+    matches!(n, 0 | 1 | 5 | 6 | 10)
 }
 
 // A text byte or IDn ends what was asked for, and IDn may ask anew: only labels that are set from there on count.
@@ -185,92 +145,66 @@ fn since_after(s: Since, sign: Sign) -> Since
     ensures same { result ≡ after s sign }
 {
     match sign {
-        Sign::Text => since_then(false, false, false),
-        Sign::Screen(n) => since_then(is_text_mode(n), false, false),
-        Sign::LeftSet(codes) => since_then(s.asks, codes, s.right),
-        Sign::RightSet(codes) => since_then(s.asks, s.left, codes),
-        Sign::BothEmpty => since_then(s.asks, false, false),
-        Sign::Asked => s,
-        Sign::Open => s,
-        Sign::End => s,
-        Sign::Other => s,
+        Sign::Text => CALM,
+        Sign::Screen(n) => Since {
+            asks: is_text_mode(n),
+            ..CALM
+        },
+        Sign::LeftSet(left) => Since { left, ..s },
+        Sign::RightSet(right) => Since { right, ..s },
+        Sign::BothEmpty => Since {
+            asks: s.asks,
+            ..CALM
+        },
+        Sign::Asked | Sign::Open | Sign::Other => s,
     }
 }
 
-fn labels_wanted(s: Since) -> Rule
+// Both labels must stand, if they are asked for.
+fn labels_wanted(s: Since) -> Result<(), Rule>
     ensures same { result ≡ wanted s }
 {
-    if is_labelled(s) {
-        return Rule::None;
+    if s.asks && !(s.left && s.right) {
+        return Err(Rule::LabelMissing);
     }
-    Rule::LabelMissing
+    Ok(())
 }
 
 // What is broken by a sign behind the first part.
-fn broken_by(s: Since, sign: Sign) -> Rule
+fn broken_by(s: Since, sign: Sign) -> Result<(), Rule>
     ensures same { result ≡ broken_by s sign }
 {
     match sign {
-        Sign::Text => labels_wanted(s),
-        Sign::Screen(n) => labels_wanted(s),
-        Sign::LeftSet(codes) => Rule::None,
-        Sign::RightSet(codes) => Rule::None,
-        Sign::BothEmpty => Rule::None,
-        Sign::Asked => Rule::QuestionMark,
-        Sign::Open => Rule::FrameOpen,
-        Sign::End => labels_wanted(s),
-        Sign::Other => Rule::None,
+        Sign::Text | Sign::Screen(_) => labels_wanted(s),
+        Sign::Asked => Err(Rule::QuestionMark),
+        Sign::Open => Err(Rule::FrameOpen),
+        Sign::LeftSet(_) | Sign::RightSet(_) | Sign::BothEmpty | Sign::Other => Ok(()),
     }
 }
 
-fn is_fine(rule: Rule) -> bool
-    ensures same { result ≡ is_fine rule }
+// What is broken, if anything is, is told with its offset.
+fn answer(broken: Result<(), Rule>, offset: usize) -> Result<(), BrokenRule>
+    ensures same { result ≡ answer_of broken offset }
 {
-    match rule {
-        Rule::None => true,
-        Rule::NoScreen => false,
-        Rule::LabelMissing => false,
-        Rule::QuestionMark => false,
-        Rule::FrameOpen => false,
-    }
-}
-
-// The answer where a rule is broken at a place, or none.
-fn answer(rule: Rule, at: usize) -> Choice
-    ensures same { result ≡ answer_of rule at }
-{
-    if is_fine(rule) {
-        return Choice {
-            rule: rule,
-            offset: 0,
-        };
-    }
-    Choice {
-        rule: rule,
-        offset: at,
-    }
+    broken.map_err(|rule| BrokenRule { rule, offset })
 }
 
 // One pass over the stream: what stands at each place, and what is asked for since the last IDn.
-pub fn check(bytes: &[u8]) -> Choice
+pub fn check(bytes: &[u8]) -> Result<(), BrokenRule>
     ensures same { result ≡ choice_of bytes.now }
 {
-    let first = read_at(bytes, 0);
-    let opening = first.sign;
-    if !opens_choice(opening) {
-        return answer(Rule::NoScreen, 0);
-    }
-    let mut since = since_then(false, false, false);
-    let mut at = first.end;
-    while at < bytes.len() {
-        let next = read_at(bytes, at);
-        let sign = next.sign;
-        let rule = broken_by(since, sign);
-        if !is_fine(rule) {
-            return answer(rule, at);
-        }
+    let mut at = match read_at(bytes, 0) {
+        Some((sign, end)) if opens_choice(sign) => end,
+        _ => return Err(BrokenRule {
+            rule: Rule::NoScreen,
+            offset: 0,
+        }),
+    };
+    let mut since = CALM;
+    while let Some((sign, end)) = read_at(bytes, at) {
+        answer(broken_by(since, sign), at)?;
         since = since_after(since, sign);
-        at = next.end;
+        at = end;
     }
     answer(labels_wanted(since), at)
 }

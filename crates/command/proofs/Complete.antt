@@ -1,8 +1,9 @@
 -- What the grammar spells is read: the reader finds the order of every good frame. Assumes nothing.
-use Rattle.std.specs.Prelude.{ℕ, suc, ◌-◌, ◌<◌, ◌≤◌, List, [], ◌∷◌, ◌++◌, Bool, true, false, ◌||◌, ◌≡◌, refl, eqb, length, get_or, drop}
+use Rattle.std.specs.Prelude.{ℕ, suc, ◌-◌, ◌<◌, ◌≤◌, List, [], ◌∷◌, ◌++◌, Bool, true, false, ◌||◌, ◌≡◌, refl, eqb, length, get_or, drop, Some}
 use Prim.Native.Char.{code}
-use Rattle.std.proofs.Common.{arith, append-nil, true≢false, sym, ◌∙◌, length-append, ne_eqb, le-leb}
+use Rattle.std.proofs.Common.{arith, append-nil, true≢false, sym, ap, ◌∙◌, length-append, le-leb}
 use Rattle.std.proofs.Math.Option.{some}
+use Rattle.std.specs.Prelude.{option_map}
 use Rattle.std.proofs.Math.Seq.{take-append_seam, get_or-append_seam}
 use Rattle.lists.specs.Every.{every}
 use Rattle.record.specs.Range.{is_code}
@@ -10,7 +11,7 @@ use Rattle.numeral.specs.Spelt.{digit_code}
 use Rattle.numeral.specs.Numeral.{is_digit}
 use Rattle.picture.specs.Data.{Draws}
 use Rattle.lists.specs.Padded.{held}
-use Rattle.picture.specs.Reading.{columns_in}
+use Rattle.picture.specs.Reading.{columns_found}
 use Rattle.picture.specs.ReadLaws as drawing
 use Rattle.command.specs.Order.{Order, plain, label, draw}
 use Rattle.command.specs.Grammar.{end, signs, one_digit, codes, data_of, Spells}
@@ -26,7 +27,7 @@ use Rattle.command.specs.declared.Side.{Side}
 use Rattle.command.specs.declared.Side.TheVariants.{Left, Right}
 use Rattle.command.specs.declared.Reading.TheVariants.{Label}
 
-label_order : (f : List ℕ) {t : List ℕ} {side : Side} → opens_picture f ≡ false → read_of f ≡ Label side → drop 3 f ≡ t → order_of f ≡ some (label side t)
+label_order : (f : List ℕ) {t : List ℕ} {side : Side} → opens_picture f ≡ false → read_of f ≡ Some (Label side) → drop 3 f ≡ t → order_of f ≡ some (label side t)
 unfolding order_of
 label_order f p q r = rw (p, q, r)
 
@@ -48,8 +49,9 @@ text_read t h k = rw (le-leb (length t) 7 h, k)
 digit_read : (n : ℕ) → n < 10 → is_digit (digit_code n) ≡ true
 digit_read n h = rw (le-leb (code "0") (digit_code n) (omega arith), le-leb (digit_code n) (code "9") (omega arith))
 
-row_drawn : (row : ℕ) (cs : List ℕ) → 1 ≤ length cs → order_drawn (row_with row (columns_in cs)) ≡ some (draw row cs)
-row_drawn row cs h = rw (ne_eqb (length cs) 0 (λ e. omega arith), held 96 cs)
+row_drawn : (row : ℕ) (cs : List ℕ) → 1 ≤ length cs → order_drawn (option_map (row_with row) (columns_found cs)) ≡ some (draw row cs)
+row_drawn row [] h = absurd (omega arith)
+row_drawn row (column ∷ more) h = ap (λ (columns : List ℕ). some (draw row columns)) (held 96 (column ∷ more))
 
 draw_read : {row : ℕ} {d cs : List ℕ} → row < 10 → Draws d cs → order_drawn (drawn_row (digit_code row) (d ++ code "z" ∷ [])) ≡ some (draw row cs)
 unfolding drawn_row row_and_data

@@ -1,7 +1,6 @@
 -- The first edition's commands, their table and how their letters pick them, with the tests. Assumes nothing.
 -- The theorems are in proofs/First.antt.
-use Rattle.std.specs.Prelude.{ℕ, Bool, false, ◌&&◌, ◌||◌, List, [], ◌∷◌, ◌≡◌, refl, eqb, get_or}
-use Rattle.std.proofs.Common.{arith}
+use Rattle.std.specs.Prelude.{ℕ, Bool, false, ◌&&◌, ◌||◌, List, [], ◌∷◌, ◌≡◌, refl, eqb, get_or, Option, None}
 use Prim.Native.Char.{code}
 use Rattle.std.proofs.Math.Option.{some}
 use Rattle.frame_table.specs.declared.Numbers.{Numbers}
@@ -13,14 +12,12 @@ use Rattle.command.specs.Pick.{command_of}
 use Rattle.command.specs.Table.{table, examples}
 use Rattle.command.specs.declared.Command.{Command}
 use Rattle.command.specs.declared.Command.TheVariants.{DisplayOff, DisplayOn, Mode, CursorShown, CursorHidden, Clear, Position, LabelsEmpty, IconS, IconU, IconF, IconR, IconP, IconW, Private, Handsfree, HandsfreeOfNote, Mute, KeyTimes, Buzzer, Light, LightOn, LightAutoStart, LightAuto, DefaultDuration, KeypadSet, KeypadCleared, Contrast, ContrastAsked, HookAsked, VersionAsked, ClearLine, Inverse}
-use Rattle.command.specs.declared.Reading.{Reading}
-use Rattle.command.specs.declared.Reading.TheVariants.{Bad, Plain}
 
 -- by the first 3 bytes
-abbrev pub pick : List ℕ → Numbers → Reading
-pick [] r = Bad
-pick (a ∷ []) r = Bad
-pick (a ∷ b ∷ []) r = Bad
+abbrev pub pick : List ℕ → Numbers → Option Command
+pick [] r = None
+pick (a ∷ []) r = None
+pick (a ∷ b ∷ []) r = None
 pick (a ∷ b ∷ c ∷ more) r = command_of a b c r.before r.last
 
 -- a label opens with IK1 or IK2, and no other frame does; a picture opens with G
@@ -111,21 +108,10 @@ kind VersionAsked = of 30 0 0 refl
 kind ClearLine = of 31 0 0 refl
 kind (Inverse m) = of 32 m 0 refl
 
-pub never_bad : (c : Command) → Plain c ≡ Bad → ⊥
-never_bad c h = let z : ◌≡◌ {A = ℕ} 0 1 = cc in omega arith
-
-pub same_plain : (c c' : Command) → Plain c ≡ Plain c' → c ≡ c'
-same_plain c c' h = cc
-
 abbrev pub first : Reader
 first =
     record {
       Command = Command;
-      Reading = Reading;
-      bad = Bad;
-      plain = Plain;
-      never_bad = never_bad;
-      same_plain = same_plain;
       form = λ c. form (plain c);
       depth = 3;
       pick = pick;

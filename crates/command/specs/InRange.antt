@@ -1,9 +1,7 @@
 -- Which orders are in range: the numbers of the table's lines, each by the range that stands beside it. Assumes nothing.
-use Rattle.std.specs.Prelude.{ℕ, List, [], ◌∷◌, Bool, true, cond, ◌&&◌, eqb}
+use Rattle.std.specs.Prelude.{ℕ, List, [], ◌∷◌, Bool, true, cond, ◌&&◌, eqb, Option, Some, None}
 use Rattle.record.specs.Range.{large, rows_of}
 pub use Rattle.frame_table.specs.Pieces.{most_rows}
-use Rattle.numeral.specs.declared.Numeral.{Numeral}
-use Rattle.numeral.specs.declared.Numeral.TheVariants.{None, Value}
 use Rattle.command.specs.Order.{Order, plain, label, draw}
 pub use Rattle.command.specs.Ranges.{is_overlay, is_column, is_level, is_light, is_picture_row}
 use Rattle.command.specs.Grammar.{Piece, sign, number, digit, text, columns, form}
@@ -19,9 +17,9 @@ all_in (n ∷ []) = n.1
 all_in (m ∷ n ∷ more) = m.1 && all_in (n ∷ more)
 
 -- the first that is out of range
-abbrev pub first_out : List Judged → Numeral
+abbrev pub first_out : List Judged → Option ℕ
 first_out [] = None
-first_out (n ∷ more) = cond n.1 (first_out more) (Value n.0)
+first_out (n ∷ more) = cond n.1 (first_out more) (Some n.0)
 
 -- the numbers of pieces, each judged by its range, in a text mode that has so many rows
 abbrev pub judged_in : ℕ → List Piece → List Judged

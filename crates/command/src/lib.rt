@@ -7,9 +7,9 @@ ghost use Rattle.std.specs.Prelude.{◌≡◌};
 ghost use Rattle.command.specs.Pick.{byte_at, with_number, display_of, light_of, contrast_of, after_i, cursor_sign, after_bracket, command_of};
 ghost use Rattle.frame_table.specs.Reader as reader;
 ghost use Rattle.command.specs.First.{opens_label, first};
-ghost use Rattle.command.specs.Reading.{is_text, only_if, side_of, read_with, read_of};
+ghost use Rattle.command.specs.Reading.{is_text, side_of, read_with, read_of};
 
-use frame_table::Classes;
+use frame_table::{Classes, Numbers};
 use lists::BLANK;
 use picture::Columns;
 use record::LONGEST_LABEL;
@@ -59,15 +59,14 @@ pub enum Side {
     Right,
 }
 
-// What a frame that is no picture says. A label's codes are the frame's own from its fourth byte on.
+// What a good frame that is no picture says. A label's codes are the frame's own from its fourth byte on.
 #[derive(Clone, Copy)]
 pub enum Reading {
-    Bad,
     Plain(Command),
     Label(Side),
 }
 
-// A picture frame's row and columns; a frame outside the grammar gives no columns, row 0 and zeros.
+// A picture frame's row and columns.
 #[derive(Clone, Copy)]
 pub struct PictureFrame {
     pub row: u8,
@@ -124,103 +123,103 @@ pub const FIRST_GOOD: usize = 20;
 
 // The command of a letter and its number.
 #[tactic(auto, unfolding(crate::specs::Pick::with_number))]
-pub fn with_number(letter: u8, n: u16) -> Reading
+pub fn with_number(letter: u8, n: u16) -> Option<Command>
     ensures same { result ≡ with_number letter n }
 {
-    match letter {
-        b'S' => Reading::Plain(Command::IconS(n)),
-        b'U' => Reading::Plain(Command::IconU(n)),
-        b'F' => Reading::Plain(Command::IconF(n)),
-        b'R' => Reading::Plain(Command::IconR(n)),
-        b'P' => Reading::Plain(Command::IconP(n)),
-        b'W' => Reading::Plain(Command::IconW(n)),
-        b'L' => Reading::Plain(Command::Private(n)),
-        b'J' => Reading::Plain(Command::Handsfree(n)),
-        b'I' => Reading::Plain(Command::HandsfreeOfNote(n)),
-        b'M' => Reading::Plain(Command::Mute(n)),
-        b'B' => Reading::Plain(Command::Buzzer(n)),
-        b'Z' => Reading::Plain(Command::Inverse(n)),
-        _ => Reading::Bad,
-    }
+    Some(match letter {
+        b'S' => Command::IconS(n),
+        b'U' => Command::IconU(n),
+        b'F' => Command::IconF(n),
+        b'R' => Command::IconR(n),
+        b'P' => Command::IconP(n),
+        b'W' => Command::IconW(n),
+        b'L' => Command::Private(n),
+        b'J' => Command::Handsfree(n),
+        b'I' => Command::HandsfreeOfNote(n),
+        b'M' => Command::Mute(n),
+        b'B' => Command::Buzzer(n),
+        b'Z' => Command::Inverse(n),
+        _ => return None,
+    })
 }
 
 // After ID: a letter, or a number.
 #[tactic(auto, unfolding(crate::specs::Pick::display_of))]
-fn display(sign: u8, n: u16) -> Reading
+fn display(sign: u8, n: u16) -> Command
     ensures same { result ≡ display_of sign n }
 {
     match sign {
-        b'D' => Reading::Plain(Command::DisplayOff),
-        b'E' => Reading::Plain(Command::DisplayOn),
-        _ => Reading::Plain(Command::Mode(n)),
+        b'D' => Command::DisplayOff,
+        b'E' => Command::DisplayOn,
+        _ => Command::Mode(n),
     }
 }
 
 // After IE: a letter, or a number.
 #[tactic(auto, unfolding(crate::specs::Pick::light_of))]
-fn light(sign: u8, n: u16) -> Reading
+fn light(sign: u8, n: u16) -> Command
     ensures same { result ≡ light_of sign n }
 {
     match sign {
-        b'E' => Reading::Plain(Command::LightOn),
-        b'A' => Reading::Plain(Command::LightAutoStart),
-        b'S' => Reading::Plain(Command::LightAuto),
-        b'R' => Reading::Plain(Command::DefaultDuration),
-        b'e' => Reading::Plain(Command::KeypadSet),
-        b'r' => Reading::Plain(Command::KeypadCleared),
-        _ => Reading::Plain(Command::Light(n)),
+        b'E' => Command::LightOn,
+        b'A' => Command::LightAutoStart,
+        b'S' => Command::LightAuto,
+        b'R' => Command::DefaultDuration,
+        b'e' => Command::KeypadSet,
+        b'r' => Command::KeypadCleared,
+        _ => Command::Light(n),
     }
 }
 
 // After IA: nothing, which asks, or a number.
 #[tactic(auto, unfolding(crate::specs::Pick::contrast_of))]
-fn contrast(sign: u8, n: u16) -> Reading
+fn contrast(sign: u8, n: u16) -> Command
     ensures same { result ≡ contrast_of sign n }
 {
     match sign {
-        0 => Reading::Plain(Command::ContrastAsked),
-        _ => Reading::Plain(Command::Contrast(n)),
+        0 => Command::ContrastAsked,
+        _ => Command::Contrast(n),
     }
 }
 
 // The byte after I picks the command.
 #[tactic(auto, unfolding(crate::specs::Pick::after_i))]
-fn after_i(letter: u8, sign: u8, before: u16, last: u16) -> Reading
+fn after_i(letter: u8, sign: u8, before: u16, last: u16) -> Option<Command>
     ensures same { result ≡ after_i letter sign before last }
 {
-    match letter {
+    Some(match letter {
         b'D' => display(sign, last),
         b'E' => light(sign, last),
-        b'K' => Reading::Plain(Command::LabelsEmpty),
+        b'K' => Command::LabelsEmpty,
         b'A' => contrast(sign, last),
-        b'H' => Reading::Plain(Command::HookAsked),
-        b'T' => Reading::Plain(Command::KeyTimes(before, last)),
-        _ => with_number(letter, last),
-    }
+        b'H' => Command::HookAsked,
+        b'T' => Command::KeyTimes(before, last),
+        _ => return with_number(letter, last),
+    })
 }
 
 // After &.
 #[tactic(auto, unfolding(crate::specs::Pick::cursor_sign))]
-fn cursor_sign(sign: u8) -> Reading
+fn cursor_sign(sign: u8) -> Option<Command>
     ensures same { result ≡ cursor_sign sign }
 {
-    match sign {
-        b'C' => Reading::Plain(Command::CursorShown),
-        b'D' => Reading::Plain(Command::CursorHidden),
-        b'#' => Reading::Plain(Command::Clear),
-        b'V' => Reading::Plain(Command::VersionAsked),
-        _ => Reading::Bad,
-    }
+    Some(match sign {
+        b'C' => Command::CursorShown,
+        b'D' => Command::CursorHidden,
+        b'#' => Command::Clear,
+        b'V' => Command::VersionAsked,
+        _ => return None,
+    })
 }
 
 // After [: a K, or a position.
 #[tactic(auto, unfolding(crate::specs::Pick::after_bracket))]
-fn after_bracket(sign: u8, before: u16, last: u16) -> Reading
+fn after_bracket(sign: u8, before: u16, last: u16) -> Command
     ensures same { result ≡ after_bracket sign before last }
 {
     match sign {
-        b'K' => Reading::Plain(Command::ClearLine),
-        _ => Reading::Plain(Command::Position(before, last)),
+        b'K' => Command::ClearLine,
+        _ => Command::Position(before, last),
     }
 }
 
@@ -228,65 +227,47 @@ fn after_bracket(sign: u8, before: u16, last: u16) -> Reading
 pub fn byte_at(f: &[u8], i: usize) -> u8
     ensures same { result ≡ byte_at f.now i }
 {
-    if i < f.len() { f[i] } else { 0 }
+    f.get(i).copied().unwrap_or(0)
 }
 
 // The command of a good frame, by its first three bytes and its numbers.
 #[tactic(auto, unfolding(crate::specs::Pick::command_of))]
-fn command_of(first: u8, second: u8, third: u8, before: u16, last: u16) -> Reading
+fn command_of(first: u8, second: u8, third: u8, before: u16, last: u16) -> Option<Command>
     ensures same { result ≡ command_of first second third before last }
 {
     match first {
         b'I' => after_i(second, third, before, last),
         b'&' => cursor_sign(second),
-        b'[' => after_bracket(second, before, last),
-        _ => Reading::Bad,
+        b'[' => Some(after_bracket(second, before, last)),
+        _ => None,
     }
 }
 
 // A label's text: at most 7 codes, none below 0x20.
+#[tactic(auto, unfolding(crate::specs::Reading::is_text))]
 fn is_text(t: &[u8]) -> bool
     ensures same { result ≡ is_text t.now }
 {
-    if LONGEST_LABEL < t.len() {
-        return false;
-    }
-    let mut i = 0;
-    while i < t.len() {
-        if t[i] < BLANK {
-            return false;
-        }
-        i += 1;
-    }
-    true
-}
-
-fn only_if(good: bool, reading: Reading) -> Reading
-    ensures same { result ≡ only_if good reading }
-{
-    if good { reading } else { Reading::Bad }
+    t.len() <= LONGEST_LABEL && t.iter().all(|&code| BLANK <= code)
 }
 
 // The command that a frame spells by a table of classes and one of next states.
-fn read_table(class: &Classes, next: &NextStates, f: &[u8]) -> Reading
+#[tactic(auto, using(frame_table::specs::Reader::read_refused))]
+fn read_table(class: &Classes, next: &NextStates, f: &[u8]) -> Option<Command>
     ensures same { result ≡ reader.read_with first class.now next.now f.now }
 {
-    let found = frame_table::run(class, next, STATES, f);
-    if found.state < FIRST_GOOD {
-        return Reading::Bad;
-    }
-    let before = found.numbers.before;
-    let last = found.numbers.last;
+    let Numbers { before, last } = frame_table::accepted(class, next, STATES, FIRST_GOOD, f)?;
     command_of(byte_at(f, 0), byte_at(f, 1), byte_at(f, 2), before, last)
 }
 
 // Which label IK1 or IK2 sets.
-fn side_label(sign: u8) -> Reading
+fn side_of(sign: u8) -> Side
     ensures same { result ≡ side_of sign }
 {
-    match sign {
-        b'1' => Reading::Label(Side::Left),
-        _ => Reading::Label(Side::Right),
+    if sign == b'1' {
+        Side::Left
+    } else {
+        Side::Right
     }
 }
 
@@ -294,26 +275,24 @@ fn side_label(sign: u8) -> Reading
 pub fn opens_label(f: &[u8]) -> bool
     ensures same { result ≡ opens_label f.now }
 {
-    if f.len() < 3 {
-        return false;
-    }
-    let sign = f[2];
-    (f[0] == b'I') & (f[1] == b'K') & ((sign == b'1') | (sign == b'2'))
+    matches!(f, [b'I', b'K', b'1' | b'2', ..])
 }
 
 // What read_command finds, where the two tables that are lent are CLASSES and NEXT_STATES: a constant is copied by whoever names it, so
 // whoever reads many frames lends them, and copies them once.
-pub fn read_lent(class: &Classes, next: &NextStates, f: &[u8]) -> Reading
+#[tactic(auto, using(crate::proofs::Parts::label_read_lem))]
+pub fn read_lent(class: &Classes, next: &NextStates, f: &[u8]) -> Option<Reading>
     ensures same { result ≡ read_with class.now next.now f.now }
 {
     if opens_label(f) {
-        return only_if(is_text(&f[3..]), side_label(byte_at(f, 2)));
+        return is_text(&f[3..]).then_some(Reading::Label(side_of(f[2])));
     }
-    read_table(class, next, f)
+    read_table(class, next, f).map(Reading::Plain)
 }
 
-// The command that a frame spells, or the label that it sets; Bad for a picture frame, which read_picture reads.
-pub fn read_command(f: &[u8]) -> Reading
+// The command that a frame spells, or the label that it sets; None for a picture frame, which read_picture reads.
+#[tactic(auto, unfolding(crate::specs::Reading::read_of, crate::specs::Table::classes, crate::specs::Table::next_states))]
+pub fn read_command(f: &[u8]) -> Option<Reading>
     ensures same { result ≡ read_of f.now }
 {
     read_lent(&CLASSES, &NEXT_STATES, f)

@@ -14,7 +14,6 @@ ghost use Rattle.command_form.specs.Pieces.{range_of, pieces};
 
 use command::Command;
 use line::{Line, add, add_number, empty};
-use numeral::Numeral;
 use record::LARGE;
 
 // The range of a number that is alone in its frame, by its name in command's specs/Ranges.antt.
@@ -100,65 +99,45 @@ const LEVEL: u16 = 10;
 
 const BUZZER: u16 = 255;
 
+const LONGEST_DURATION: u16 = 255;
+
 // A text mode 0, 1, 5, 6 or 10, or an overlay 11 to 18.
 fn is_mode(n: u16) -> bool
     ensures same { result ≡ (mode_in_range n || is_overlay n) }
 {
-    match n {
-        0..=1 => true,
-        5..=6 => true,
-        10..=18 => true,
-        _ => false,
-    }
+    matches!(n, 0..=1 | 5..=6 | 10..=18)
 }
 
 fn is_icon_u(n: u16) -> bool
     ensures same { result ≡ icon_u_in_range n }
 {
-    match n {
-        0..=1 => true,
-        255 => true,
-        _ => false,
-    }
+    matches!(n, 0..=1 | 255)
 }
 
 fn is_time1(n: u16) -> bool
     ensures same { result ≡ time1_in_range n }
 {
-    match n {
-        4..=50 => true,
-        _ => false,
-    }
+    matches!(n, 4..=50)
 }
 
 // No repeat, or as Time1.
 fn is_time2(n: u16) -> bool
     ensures same { result ≡ time2_in_range n }
 {
-    match n {
-        0 => true,
-        _ => is_time1(n),
-    }
+    (n == 0) | is_time1(n)
 }
 
 // Off, or a duration.
 fn is_light(n: u16) -> bool
     ensures same { result ≡ is_light n }
 {
-    match n {
-        0 => true,
-        1..=255 => true,
-        _ => false,
-    }
+    n <= LONGEST_DURATION
 }
 
 fn is_contrast(n: u16) -> bool
     ensures same { result ≡ contrast_in_range n }
 {
-    match n {
-        1..=20 => true,
-        _ => false,
-    }
+    matches!(n, 1..=20)
 }
 
 // Whether a range takes a number where a cursor frame or a mark can name so many rows.
@@ -186,42 +165,29 @@ fn takes(range: RangeName, rows: u8, n: u16) -> bool
 pub fn rows_named(mode: u8) -> u8
     ensures same { result ≡ rows_named mode }
 {
-    if mode == LARGE {
-        return 0;
-    }
-    record::rows(mode)
+    if mode == LARGE { 0 } else { record::rows(mode) }
 }
 
-// One number: it, if it is out of range.
-fn unless(in_range: bool, n: u16) -> Numeral
+// A number, if it is out of range.
+fn unless(in_range: bool, n: u16) -> Option<u16>
     ensures same { result ≡ first_out ((n, in_range) ∷ []) }
 {
-    if in_range {
-        return Numeral::None;
-    }
-    Numeral::Value(n)
-}
-
-// Two numbers: the first of them that is out of range.
-fn unless_both(first_in: bool, m: u16, second_in: bool, n: u16) -> Numeral
-    ensures same { result ≡ first_out ((m, first_in) ∷ (n, second_in) ∷ []) }
-{
-    if first_in {
-        return unless(second_in, n);
-    }
-    Numeral::Value(m)
+    (!in_range).then_some(n)
 }
 
 // The first number of a command that is out of range where a cursor frame or a mark can name so many rows; none where all are in range.
-pub fn number_out(c: Command, rows: u8) -> Numeral
+pub fn number_out(c: Command, rows: u8) -> Option<u16>
     ensures same { result ≡ first_out (numbers_of rows c) }
 {
     match form_of(c) {
-        Form::TwoSigns(_, _) => Numeral::None,
-        Form::ThreeSigns(_, _, _) => Numeral::None,
+        Form::TwoSigns(_, _) | Form::ThreeSigns(_, _, _) => None,
         Form::Number(_, range, n) => unless(takes(range, rows, n), n),
-        Form::Times(time1, time2) => unless_both(is_time1(time1), time1, is_time2(time2), time2),
-        Form::Place(row, column) => unless_both(row < rows as u16, row, column <= COLUMN, column),
+        Form::Times(time1, time2) => {
+            unless(is_time1(time1), time1).or(unless(is_time2(time2), time2))
+        }
+        Form::Place(row, column) => {
+            unless(row < rows as u16, row).or(unless(column <= COLUMN, column))
+        }
     }
 }
 
@@ -229,10 +195,7 @@ pub fn number_out(c: Command, rows: u8) -> Numeral
 pub fn in_range(c: Command, rows: u8) -> bool
     ensures same { result ≡ command_in_range rows c }
 {
-    match number_out(c, rows) {
-        Numeral::None => true,
-        Numeral::Value(n) => false,
-    }
+    number_out(c, rows).is_none()
 }
 
 // The codes of a form, behind those that a line holds.

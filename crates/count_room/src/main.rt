@@ -3,19 +3,7 @@
 // stream.
 #![tactic(auto)]
 
-use program::{Host, Input};
-
-// Nothing says that the input ends, so its pieces are counted down.
-const MOST_PIECES: u64 = 0xFFFF_FFFF_FFFF_FFFF;
-
-// The count stops at its type's end rather than run over.
-fn more(room: u64, escapes: usize) -> u64 {
-    let n = escapes as u64;
-    if 0xFFFF_FFFF_FFFF_FFFF - room < n {
-        return 0xFFFF_FFFF_FFFF_FFFF;
-    }
-    room + n
-}
+use program::{Host, Input, Unreadable};
 
 fn say(host: &Host, room: u64) {
     program::write(host, b"count_room", b"ROOM ");
@@ -23,23 +11,18 @@ fn say(host: &Host, room: u64) {
     program::write(host, b"count_room", b"\n");
 }
 
-fn count(host: &Host, input: &mut Input) {
+// Nothing says that the input ends, so its pieces are counted. The room stops at its type's end rather than run over.
+fn count(host: &Host, input: &mut Input) -> Result<u64, Unreadable> {
     let mut piece = [0u8; 4096];
     let mut room: u64 = 0;
-    let mut left = MOST_PIECES;
-    while 0 < left {
-        let read = program::read_piece(host, b"count_room", input, &mut piece);
-        let n = read.length;
-        if read.failed {
-            return;
-        }
+    for _ in 0..u64::MAX {
+        let n = program::read_piece(host, b"count_room", input, &mut piece)?;
         if n == 0 {
             break;
         }
-        room = more(room, answer_room::escapes_in(&piece[..n]));
-        left -= 1;
+        room = room.saturating_add(answer_room::escapes_in(&piece[..n]) as u64);
     }
-    say(host, room);
+    Ok(room)
 }
 
 fn accepted(host: &Host) -> bool {
@@ -58,7 +41,9 @@ fn main(rt: HostRuntime) {
     let host = Host::new(rt);
     if accepted(&host) {
         if let Some(mut input) = program::open_input(&host, b"count_room") {
-            count(&host, &mut input);
+            if let Ok(room) = count(&host, &mut input) {
+                say(&host, room);
+            }
         }
     }
 }

@@ -2,14 +2,15 @@
 -- refused and handed back as it came, with no lent byte altered. A bad frame gets one question mark, an out-of-range one gets
 -- silence, and neither changes text, icon, label, picture or setting." Statements first; each call's own clause is told by these
 -- definitions. Assumes nothing.
-use Rattle.std.specs.Prelude.{ℕ, suc, ◌<◌, ◌≤◌, ◌≡◌, refl, Bool, true, false, cond, not, ◌||◌, List, [], ◌∷◌, ltb, length}
-use Rattle.std.proofs.Common.{ap, le-leb}
+use Rattle.std.specs.Prelude.{ℕ, suc, ◌<◌, ◌≤◌, ◌≡◌, refl, Bool, true, false, cond, not, ◌||◌, List, [], ◌∷◌, ltb, length, Err}
+use Rattle.std.proofs.Common.{le-leb}
 use Rattle.std.proofs.lemmas.Bool.{lt-leb}
 use Rattle.lists.specs.Codes.{question_mark, carriage_return, line_feed}
 use Rattle.lists.specs.Every.{every}
 use Rattle.record.specs.declared.Record.{Record}
 use Rattle.record.specs.declared.Backlight.{Backlight}
-use Rattle.record.specs.Number.{paper_number, numbered}
+use Rattle.record.specs.Number.{paper_number, numbered, ended}
+use Rattle.record.specs.declared.Refusal.TheVariants.{FieldOutOfRange, NotListed}
 use Rattle.record.specs.Range.{in_range, backlight_in_range}
 use Rattle.command.specs.Order.{Order}
 use Rattle.sister_command.specs.Order.{AnyOrder, first}
@@ -26,16 +27,13 @@ use Rattle.seconds.specs.Seconds.{passed, light_passed}
 use Rattle.seconds.specs.Laws.{second_done, second_refused, light_done, light_refused}
 use Rattle.hook.specs.Hook.{hooked}
 use Rattle.hook.specs.Laws.{hook_refused, hook_done}
-use Rattle.answer_room.specs.declared.RoomNeeded.{RoomNeeded}
 use Rattle.answer_room.specs.Needed.{room_needed}
 use Rattle.answer_room.specs.Laws.{room_refused, room_counted}
 use Rattle.seen_panels.specs.declared.Phase.{Phase}
-use Rattle.seen_panels.specs.declared.SmsPanel.TheVariants as Sms
-use Rattle.seen_panels.specs.declared.VolumePanel.TheVariants as Sound
-use Rattle.seen.specs.Rows.{nothing_seen, row_seen, sms_seen, volume_seen}
-use Rattle.seen.specs.Columns.{no_place, column_seen}
+use Rattle.seen.specs.Rows.{row_seen, sms_seen, volume_seen}
+use Rattle.seen.specs.Columns.{column_seen}
 use Rattle.seen.specs.Laws.{row_number, row_refused, column_number, column_refused, panel_numbers, panels_refused}
-use Rattle.writer.specs.Writing.{written_of, room_after}
+use Rattle.writer.specs.Writing.{written_of, count_of, room_after}
 use Rattle.demands.specs.Frames.{mark_in, asked, silent, SpellsFor, inside, answer_on, whole_frame, closed_asked, closed_passed_over, closed_refused, bad_whole, bad_without_room, question_waits, passed_over_whole, refused_whole}
 
 -- what a refusal hands back of a call that takes a record and lends a buffer: its number, the record as it came, no byte used or
@@ -70,26 +68,26 @@ pub record Demand1 : Type 0 where
   pub hook_refuses : (r : Record) (on : Bool) → in_range r ≡ false → (paper_number (hooked r on).number ≡ 1) × ((hooked r on).after ≡ r)
   pub hook_sets : (r : Record) (on : Bool) → in_range r ≡ true → paper_number (hooked r on).number ≡ 0
   -- The count of the room that answers can need: 1 and nothing counted, else 0.
-  pub room_refuses : (r : Record) (bytes : List ℕ) → in_range r ≡ false → room_needed r bytes ≡ record { number = numbered 1; bytes = 0 }
-  pub room_counts : (r : Record) (bytes : List ℕ) → in_range r ≡ true → paper_number (room_needed r bytes).number ≡ 0
+  pub room_refuses : (r : Record) (bytes : List ℕ) → in_range r ≡ false → (paper_number (ended (room_needed r bytes)) ≡ 1) × (room_needed r bytes ≡ Err FieldOutOfRange)
+  pub room_counts : (r : Record) (bytes : List ℕ) → in_range r ≡ true → paper_number (ended (room_needed r bytes)) ≡ 0
   -- The questions of what is seen: 1, then 4 for a row above 6, else 0; and where one is refused it tells nothing.
-  pub row_number_is : (r : Record) (row : ℕ) (phase : Phase) → paper_number (row_seen r row phase).number ≡ cond (not (in_range r)) 1 (cond (ltb 6 row) 4 0)
+  pub row_number_is : (r : Record) (row : ℕ) (phase : Phase) → paper_number (ended (row_seen r row phase)) ≡ cond (not (in_range r)) 1 (cond (ltb 6 row) 4 0)
   pub row_refuses : (r : Record) (row : ℕ) (phase : Phase)
-      → (in_range r ≡ false → row_seen r row phase ≡ nothing_seen (numbered 1)) × (in_range r ≡ true → 6 < row → row_seen r row phase ≡ nothing_seen (numbered 4))
+      → (in_range r ≡ false → row_seen r row phase ≡ Err FieldOutOfRange) × (in_range r ≡ true → 6 < row → row_seen r row phase ≡ Err NotListed)
   -- The column question: 1, then 4 for a row above 6 or a column above 95.
-  pub column_number_is : (r : Record) (row column : ℕ) (phase : Phase) → paper_number (column_seen r row column phase).number ≡ cond (not (in_range r)) 1 (cond (ltb 6 row || ltb 95 column) 4 0)
+  pub column_number_is : (r : Record) (row column : ℕ) (phase : Phase) → paper_number (ended (column_seen r row column phase)) ≡ cond (not (in_range r)) 1 (cond (ltb 6 row || ltb 95 column) 4 0)
   pub column_refuses : (r : Record) (row column : ℕ) (phase : Phase)
-      → (in_range r ≡ false → column_seen r row column phase ≡ no_place (numbered 1))
-      × (in_range r ≡ true → 6 < row → column_seen r row column phase ≡ no_place (numbered 4))
-      × (in_range r ≡ true → 95 < column → column_seen r row column phase ≡ no_place (numbered 4))
-  pub panel_numbers_are : (r : Record) (phase : Phase) → (paper_number (sms_seen r phase).number ≡ cond (not (in_range r)) 1 0) × (paper_number (volume_seen r).number ≡ cond (not (in_range r)) 1 0)
+      → (in_range r ≡ false → column_seen r row column phase ≡ Err FieldOutOfRange)
+      × (in_range r ≡ true → 6 < row → column_seen r row column phase ≡ Err NotListed)
+      × (in_range r ≡ true → 95 < column → column_seen r row column phase ≡ Err NotListed)
+  pub panel_numbers_are : (r : Record) (phase : Phase) → (paper_number (ended (sms_seen r phase)) ≡ cond (not (in_range r)) 1 0) × (paper_number (ended (volume_seen r)) ≡ cond (not (in_range r)) 1 0)
   pub panels_refuse : (r : Record) (phase : Phase) → in_range r ≡ false
-      → (sms_seen r phase ≡ record { number = numbered 1; panel = Sms.Nothing }) × (volume_seen r ≡ record { number = numbered 1; panel = Sound.Nothing })
+      → (sms_seen r phase ≡ Err FieldOutOfRange) × (volume_seen r ≡ Err FieldOutOfRange)
   -- The writers: 2, then 3, nothing written then, count 0; else 0. `good` is whether the command, label or row is in range.
-  pub writer_refuses_2 : (frame room : List ℕ) → (paper_number (written_of false frame room).number ≡ 2) × ((written_of false frame room).count ≡ 0) × (room_after false frame room ≡ room)
+  pub writer_refuses_2 : (frame room : List ℕ) → (paper_number (ended (written_of false frame room)) ≡ 2) × (count_of (written_of false frame room) ≡ 0) × (room_after false frame room ≡ room)
   pub writer_refuses_3 : (frame room : List ℕ) → length room < length frame
-      → (paper_number (written_of true frame room).number ≡ 3) × ((written_of true frame room).count ≡ 0) × (room_after true frame room ≡ room)
-  pub writer_done : (frame room : List ℕ) → length frame ≤ length room → (paper_number (written_of true frame room).number ≡ 0) × ((written_of true frame room).count ≡ length frame)
+      → (paper_number (ended (written_of true frame room)) ≡ 3) × (count_of (written_of true frame room) ≡ 0) × (room_after true frame room ≡ room)
+  pub writer_done : (frame room : List ℕ) → length frame ≤ length room → (paper_number (ended (written_of true frame room)) ≡ 0) × (count_of (written_of true frame room) ≡ length frame)
   -- The mark is one question mark; the sister's has CR LF behind it (request T-06).
   pub mark_first : mark_of false ≡ question_mark ∷ []
   pub mark_sister : mark_of true ≡ question_mark ∷ carriage_return ∷ line_feed ∷ []
@@ -137,8 +135,8 @@ demand1 =
       light_passes = λ b h. (light_done b h).0;
       hook_refuses = hook_refused;
       hook_sets = λ r on h. (hook_done r on h).0;
-      room_refuses = room_refused;
-      room_counts = λ r bytes h. ap (λ (n : RoomNeeded). paper_number n.number) (room_counted r bytes h);
+      room_refuses = λ r bytes h. rw (room_refused r bytes h) (refl, refl);
+      room_counts = λ r bytes h. rw (room_counted r bytes h);
       row_number_is = row_number;
       row_refuses = row_refused;
       column_number_is = column_number;

@@ -1,12 +1,11 @@
 -- DEMAND 2. "Every good frame has the effect that document 01 takes from Application Note 1901, and no other effect. Key logs,
 -- seconds and the question of a row are answered by its rules. What your writers write for a command reads back as that command."
 -- Statements first. Assumes nothing.
-use Rattle.std.specs.Prelude.{ℕ, ◌+◌, ◌*◌, ◌<◌, ◌≤◌, ◌⊎◌, ◌≢◌, ◌≡◌, refl, Bool, true, false, cond, not, List, [], ◌∷◌, ◌++◌, eqb, length, drop, get_or}
+use Rattle.std.specs.Prelude.{ℕ, ◌+◌, ◌*◌, ◌<◌, ◌≤◌, ◌⊎◌, ◌≢◌, ◌≡◌, refl, Bool, true, false, cond, not, List, [], ◌∷◌, ◌++◌, eqb, length, drop, get_or, Ok}
 use Rattle.lists.specs.Every.{every}
 use Rattle.record.specs.declared.Record.{Record}
 use Rattle.record.specs.declared.Backlight.{Backlight}
 use Rattle.record.specs.declared.Icons.{Icons}
-use Rattle.record.specs.Number.{numbered}
 use Rattle.record.specs.PowerOn.{power_on}
 use Rattle.record.specs.Range.{large, cursor_in_range, in_range, backlight_in_range}
 use Rattle.picture.specs.Data.{Bytes}
@@ -39,7 +38,7 @@ use Rattle.seen_panels.specs.declared.Phase.{Phase}
 use Rattle.seen_panels.specs.declared.Phase.TheVariants.{Lit, Pause}
 use Rattle.seen_panels.specs.declared.SmsPanel.TheVariants as Sms
 use Rattle.seen_owners.specs.Table.{owner_at, row_owner}
-use Rattle.seen.specs.Columns.{place_of, column_of, column_seen}
+use Rattle.seen.specs.Columns.{place_of, column_read, column_seen}
 use Rattle.seen_owners.specs.Sentences.{at_most_one, one_claim}
 use Rattle.seen.specs.Agree.{columns_agree}
 use Rattle.seen.specs.Rows.{contents, row_seen, sms_seen, volume_seen}
@@ -134,7 +133,7 @@ pub record Demand2 : Type 0 where
       (back.used ≡ length (entries ticks edges))
       ⊎ ((next : Entry) × (rest : List Entry) × (drop back.used (entries ticks edges) ≡ next ∷ rest) × (length lent < back.written + length (step_in back.record next).answers)))
   -- and nothing else is a log taken by the rules.
-  pub logs_only_so : {r : Record} {log : List Entry} {lent : List ℕ} {back other : Logged} {buffer buffer' : List ℕ}
+  pub logs_only_so : {r : Record} {log : List Entry} {lent : List ℕ} {back other : Logged Record} {buffer buffer' : List ℕ}
       → LogDone r log lent back buffer → LogDone r log lent other buffer' → (back ≡ other) × (buffer ≡ buffer')
   -- At power-on Time2 is 0, so a key that is held down does not repeat (request T-05): the note's default of 12 no longer holds there.
   -- The record of the former defaults has it, differs in nothing else, and no stream in which no key times are set tells the two apart.
@@ -146,13 +145,13 @@ pub record Demand2 : Type 0 where
   pub seconds : (r : Record) → in_range r ≡ true → (passed r).after ≡ dimmed r
   pub seconds_in_place : (b : Backlight) → backlight_in_range b ≡ true → (light_passed b).backlight ≡ lowered b
   -- A row shows the contents of its owner; the panels' questions tell what the panels show, in either phase.
-  pub rows : (r : Record) (row : ℕ) (phase : Phase) → in_range r ≡ true → row ≤ 6 → row_seen r row phase ≡ contents r phase (row_owner r row)
+  pub rows : (r : Record) (row : ℕ) (phase : Phase) → in_range r ≡ true → row ≤ 6 → row_seen r row phase ≡ Ok (contents r phase (row_owner r row))
   -- A place of the display shows the contents of its owner, at most one sentence claims it, and a row tells what its columns do.
-  pub places : (r : Record) (row column : ℕ) (phase : Phase) → in_range r ≡ true → row ≤ 6 → column ≤ 95 → column_seen r row column phase ≡ place_of r phase column (owner_at r row column)
+  pub places : (r : Record) (row column : ℕ) (phase : Phase) → in_range r ≡ true → row ≤ 6 → column ≤ 95 → column_seen r row column phase ≡ Ok (place_of r phase column (owner_at r row column))
   pub one_claim_each : (r : Record) → in_range r ≡ true → (column : ℕ) → at_most_one r.settings.screen column ≡ true
-  pub rows_tell_columns : (r : Record) (row column : ℕ) (phase : Phase) → in_range r ≡ true → row ≤ 6 → column ≤ 95 → column_seen r row column phase ≡ column_of (row_seen r row phase) column
+  pub rows_tell_columns : (r : Record) (row column : ℕ) (phase : Phase) → in_range r ≡ true → row ≤ 6 → column ≤ 95 → column_seen r row column phase ≡ column_read (row_seen r row phase) column
   pub panels : (r : Record) (phase : Phase) → in_range r ≡ true
-      → (sms_seen r phase ≡ record { number = numbered 0; panel = sms_panel r.settings.icons phase }) × (volume_seen r ≡ record { number = numbered 0; panel = volume_panel r.settings.volume })
+      → (sms_seen r phase ≡ Ok (sms_panel r.settings.icons phase)) × (volume_seen r ≡ Ok (volume_panel r.settings.volume))
   -- The phase (request T-03): lit, the SMS panel is Unread if U is not 0, else Read if S is 1, else nothing, as it always was; with U
   -- 255 the pause shows it as U 0 does; and with U not 255 the phase changes nothing that is seen.
   pub lit_panel : (i : Icons) → sms_panel i Lit ≡ cond (not (eqb i.u 0)) Sms.Unread (cond (eqb i.s 1) Sms.Read Sms.Nothing)

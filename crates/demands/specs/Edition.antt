@@ -32,11 +32,11 @@ fed_stays r bytes room =
 
 second_stays : (r : Record) → (passed r).after.edition.sister ≡ r.edition.sister
 unfolding passed
-second_stays r = either_way (λ (q : Passed). q.after.edition.sister ≡ r.edition.sister) (not (in_range r)) (λ e. refl) (λ e. refl)
+second_stays r = either_way (λ (q : Passed Record). q.after.edition.sister ≡ r.edition.sister) (not (in_range r)) (λ e. refl) (λ e. refl)
 
 hook_stays : (r : Record) (on : Bool) → (hooked r on).after.edition.sister ≡ r.edition.sister
 unfolding hooked
-hook_stays r on = either_way (λ (q : Hooked). q.after.edition.sister ≡ r.edition.sister) (not (in_range r)) (λ e. refl) (λ e. refl)
+hook_stays r on = either_way (λ (q : Hooked Record). q.after.edition.sister ≡ r.edition.sister) (not (in_range r)) (λ e. refl) (λ e. refl)
 
 pub edition_never_changes : EditionStays
 edition_never_changes = record { stream = λ r bytes lent. fed_stays r bytes (length lent); log = log_stays; second = second_stays; hook = hook_stays }

@@ -2,7 +2,7 @@
 -- if a frame was open; and that this is reached. Show also that a picture frame's data never takes more than two bytes per column. A
 -- count helper gives the first bound before a call." All of it of a record of the first edition, in a stream no closed frame of which is a
 -- question of request T-04. Assumes nothing.
-use Rattle.std.specs.Prelude.{ℕ, zero, suc, ◌+◌, ◌*◌, ◌≤◌, ◌⊎◌, ◌≡◌, Bool, true, false, List, [], ◌∷◌, ◌++◌, eqb, length, drop, replicate}
+use Rattle.std.specs.Prelude.{ℕ, zero, suc, ◌+◌, ◌*◌, ◌≤◌, ◌⊎◌, ◌≡◌, Bool, true, false, List, [], ◌∷◌, ◌++◌, eqb, length, drop, replicate, Ok}
 use Rattle.std.proofs.Common.{arith, inl, inr, ⊎_elim, sym, ap, ◌∙◌, subst, append-nil, length-append, eqb-true}
 use Rattle.std.proofs.Math.Path.{refl}
 use Rattle.std.proofs.Math.Bool.{cond}
@@ -14,7 +14,6 @@ use Rattle.lists.specs.Every.{every}
 use Rattle.lists.specs.Padded.{padded}
 use Rattle.lists.specs.Tests.{by_test, either_way}
 use Rattle.record.specs.Laws.{power_on_in_range}
-use Rattle.record.specs.Number.{numbered}
 use Rattle.record.specs.PowerOn.{power_on}
 use Rattle.record.specs.Range.{in_range, text_in_range, label_in_range, picture_in_range, inverse_in_range, frame_in_range}
 use Rattle.record.specs.With.{with_frame}
@@ -92,7 +91,7 @@ pub record AnswerRoom : Type 0 where
   pub enough : (r : Record) → in_range r ≡ true → r.edition.sister ≡ false → (before : List ℕ) → Stands (state_of r).frame before → (bytes lent : List ℕ) {parted : Parted} → Parting (before ++ bytes) parted → EachClosed NoQuestion parted
       → bound r bytes ≤ length lent → (fed_back r bytes lent).used ≡ length bytes
   -- The count helper gives the bound before the call.
-  pub counted : (r : Record) (bytes : List ℕ) → in_range r ≡ true → r.edition.sister ≡ false → room_needed r bytes ≡ record { number = numbered 0; bytes = bound r bytes }
+  pub counted : (r : Record) (bytes : List ℕ) → in_range r ≡ true → r.edition.sister ≡ false → room_needed r bytes ≡ Ok (bound r bytes)
   -- It is reached, for every n, by ESC n times and CR: with no frame open, n bytes;
   pub reached : (r : Record) → in_range r ≡ true → r.edition.sister ≡ false → r.frame.state ≡ 0 → (n : ℕ) (lent : List ℕ) → n ≤ length lent
       → fed_back r (escapes_and_return n) lent ≡ asked_times r (escapes_and_return n) n lent

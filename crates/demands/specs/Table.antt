@@ -1,11 +1,12 @@
 -- THE P LINES of document 01 ("Proved and run"), in its words and its order, as one table under one statement. Each line: what the
 -- definitions give, computed, and what the paper says. Streams go through the stream call from the power-on record, with room and
 -- the kept record, keys through the key log call, the volume panel through its question. Assumes nothing.
-use Rattle.std.specs.Prelude.{ℕ, suc, ◌≡◌, refl, leb, Bool, cond, length, take, replicate}
+use Rattle.std.specs.Prelude.{ℕ, suc, ◌≡◌, refl, leb, Bool, cond, length, take, replicate, Result, Ok, Err}
 use mathlib.Core.List.{List, [], ◌∷◌, ◌++◌, map, zip_with}
 use Rattle.lists.specs.Codes.{ascii, escape, carriage_return, line_feed, question_mark}
 use Rattle.lists.specs.Padded.{padded}
 use Rattle.record.specs.declared.Record.{Record}
+use Rattle.record.specs.declared.Refusal.{Refusal}
 use Rattle.record.specs.PowerOn.{power_on}
 use Rattle.record.specs.Range.{line_of, in_range, text_in_range, label_in_range, picture_in_range, inverse_in_range, frame_in_range}
 use Rattle.numeral.specs.Numeral.{digit_of}
@@ -71,14 +72,15 @@ nothing = []
 abbrev mute : List ℕ
 mute = ascii "Mute"
 
-abbrev told : VolumePanel → List ℕ
-told Sound.Nothing = nothing
-told Sound.Mute = mute
-told (Sound.Private n) = n ∷ []
-told (Sound.Handsfree n) = n ∷ []
+abbrev told : Result VolumePanel Refusal → List ℕ
+told (Ok Sound.Nothing) = nothing
+told (Ok Sound.Mute) = mute
+told (Ok (Sound.Private n)) = n ∷ []
+told (Ok (Sound.Handsfree n)) = n ∷ []
+told (Err refusal) = nothing
 
 abbrev volume : List ℕ → List ℕ
-volume bytes = told (volume_seen (after bytes)).panel
+volume bytes = told (volume_seen (after bytes))
 
 -- the codes that a key log sends, from the power-on record (Time1 12): tick readings, edges
 abbrev sends : List ℕ → List ℕ → List ℕ

@@ -1,7 +1,8 @@
 -- EACH PUBLIC FUNCTION'S OWN CLAUSE, as its proof was checked against it, is the equation that this page speaks of: by refl, in every
 -- model of the logic. `a` is the arguments in their order, `q` the result, `e` the arguments at exit; what is lent is read by `now`.
 -- Assumes nothing.
-use Rattle.std.specs.Prelude.{◌≡◌, refl, length, true, List, ℕ}
+use Rattle.std.specs.Prelude.{◌≡◌, refl, length, true, List, ℕ, leb}
+use Rattle.std.specs.Bool.{then_some}
 use base.Logic.{sep}
 use contract.Lifetimes.{Lfts}
 use contract.Monad.{fact}
@@ -14,13 +15,14 @@ use Rattle.record.specs.Range.{rows_of, row_end_of, row_start_of, backlight_in_r
 use Rattle.record.specs.declared.Edition.{Edition}
 use Rattle.record.specs.declared.Small.{Small}
 use Rattle.record.specs.PowerOn.{times_at_power_on, former_times, starting_with, power_on, former_power_on, stored_at_delivery, sister_with, sister_power_on}
-use Rattle.record.specs.Parts.{together, small_of}
+use Rattle.record.specs.declared.InParts.{InParts}
+use Rattle.record.specs.Parts.{together, whole, small_of}
 use Rattle.numeral.specs.Numeral as Numerals
 use Rattle.picture.specs.Reading.{columns_read}
 use Rattle.picture.specs.Writing.{data_written}
 use Rattle.line.specs.Lines.{empty_line, added, finds_room, room_with}
 use Rattle.command.specs.InRange.{rows_named, first_out, numbers_of, command_in_range, most_rows}
-use Rattle.frame_table.specs.Run.{found_in}
+use Rattle.frame_table.specs.Run.{found_in, accepted_in}
 use Rattle.command.specs.Reading.{read_with, read_of, order_found, opens_picture, picture_of}
 use Rattle.verdict.specs.Verdict.{verdict_of, verdict_in}
 use Rattle.effect_modes.specs.Modes.{to_mode, at_level}
@@ -90,6 +92,8 @@ use Rattle.record_small_ranges.specs.contracts.sister_small_in_range as SisterSm
 use Rattle.record_small_ranges.proofs.sister_small_in_range.Reads as SisterSmallInRangeReads
 use Rattle.record.specs.contracts.small_of as SmallOf
 use Rattle.record.proofs.small_of.Reads as SmallOfReads
+use Rattle.record.specs.contracts.Record.in_parts as TakenApart
+use Rattle.record.proofs.Record.in_parts.Reads as TakenApartReads
 use Rattle.record.specs.contracts.paper_number as PaperNumber
 use Rattle.record.proofs.paper_number.Reads as PaperNumberReads
 use Rattle.record.specs.contracts.rows as Rows
@@ -159,6 +163,8 @@ use Rattle.sister_form.specs.contracts.shared_body as SharedBody
 use Rattle.sister_form.proofs.shared_body.Reads as SharedBodyReads
 use Rattle.frame_table.specs.contracts.run as RunTable
 use Rattle.frame_table.proofs.run.Reads as RunTableReads
+use Rattle.frame_table.specs.contracts.accepted as Accepted
+use Rattle.frame_table.proofs.accepted.Reads as AcceptedReads
 use Rattle.command.specs.contracts.read_lent as ReadLent
 use Rattle.command.proofs.read_lent.Reads as ReadLentReads
 use Rattle.command.specs.contracts.read_command as ReadCommand
@@ -381,6 +387,10 @@ Lent Rest = Small × (Bor (List ℕ) × (Bor (List ℕ) × (Bor (List ℕ) × Re
 abbrev lent : {Rest : Type 0} → Lent Rest → Record
 lent a = together a.0 a.1.0.now a.1.1.0.now a.1.1.1.0.now
 
+-- a call that is lent the record in parts as one value begins so too, once they are taken out of it
+abbrev apart : {Rest : Type 0} → InParts × Rest → Lent Rest
+apart a = (a.0.small, (a.0.text, (a.0.picture, (a.0.frame, a.1))))
+
 -- the same where all three are lent to be written
 abbrev LentToWrite : Type 0 → Type 0
 LentToWrite Rest = Small × (MutBor (List ℕ) × (MutBor (List ℕ) × (MutBor (List ℕ) × Rest)))
@@ -421,7 +431,7 @@ Logging = Lent (Bor (List ℕ) × (Bor (List ℕ) × (MutBor (List ℕ) × Unit 
 abbrev logged : Logging → Outcome
 logged a = outcome (lent a) a.1.1.1.1.0.now a.1.1.1.1.1.0.now (length a.1.1.1.1.1.1.0.now)
 
-abbrev SaysLogged : (t : Ended) → Asking t → Clause t → Entry t Logging → Exit t Logging → Back t Logged → Type 2
+abbrev SaysLogged : (t : Ended) → Asking t → Clause t → Entry t Logging → Exit t Logging → Back t (Logged Record) → Type 2
 SaysLogged t requires ensures entry exit back =
     SaysBoth t requires ensures
     (λ κs a q e. q ≡ back κs (handed_back (logged (entry κs a))))
@@ -439,6 +449,10 @@ SaysApart t requires ensures back exit r =
 -- record::small_of
 pub small_of_says : Says SmallOf.ended SmallOfReads.requires SmallOfReads.ensures (λ κs a q e. q ≡ small_of a.0)
 small_of_says κs a q e w = (refl, refl)
+
+-- record::Record::in_parts
+pub in_parts_says : Says TakenApart.ended TakenApartReads.requires TakenApartReads.ensures (λ κs a q e. whole q ≡ a.0.now)
+in_parts_says κs a q e w = (refl, refl)
 
 -- record::paper_number
 pub paper_number_says : Says PaperNumber.ended PaperNumberReads.requires PaperNumberReads.ensures (λ κs a q e. q ≡ paper_number a.0)
@@ -506,7 +520,7 @@ record_in_range_says κs a q e w = (refl, refl)
 
 -- record_ranges::in_range_lent
 pub in_range_lent_says : Says InRangeLent.ended InRangeLentReads.requires InRangeLentReads.ensures
-    (λ κs a q e. q ≡ in_range (lent a))
+    (λ κs a q e. q ≡ in_range (whole a.0))
 in_range_lent_says κs a q e w = (refl, refl)
 
 -- numeral::read_number
@@ -582,6 +596,16 @@ shared_body_says κs a q e w = (refl, refl)
 -- frame_table::run
 pub run_table_says : Says RunTable.ended RunTableReads.requires RunTableReads.ensures (λ κs a q e. q ≡ found_in a.0.now a.1.0.now a.1.1.0 a.1.1.1.0.now)
 run_table_says κs a q e w = (refl, refl)
+
+-- frame_table::accepted
+pub accepted_says : Says Accepted.ended AcceptedReads.requires AcceptedReads.ensures (λ κs a q e. q ≡ accepted_in a.0.now a.1.0.now a.1.1.0 a.1.1.1.0 a.1.1.1.1.0.now)
+accepted_says κs a q e w = (refl, refl)
+
+-- the two speak of one walk: a frame is accepted where the state that is found is one in which a frame may end, with the numbers that are found
+pub accepted_found : (class next : List ℕ) (states good : ℕ) (f : List ℕ)
+    → accepted_in class next states good f ≡ then_some (leb good (found_in class next states f).state) (found_in class next states f).numbers
+unfolding accepted_in found_in
+accepted_found class next states good f = refl
 
 -- command::byte_at
 pub byte_at_says : Says ByteAt.ended ByteAtReads.requires ByteAtReads.ensures (λ κs a q e. q ≡ byte_at a.0.now a.1.0)
@@ -686,7 +710,7 @@ pub untold_says : Says Untold.ended UntoldReads.requires UntoldReads.ensures (λ
 untold_says κs a q e w = (refl, refl)
 
 -- hook::hook_lent
-pub hook_lent_says : Says HookLent.ended HookLentReads.requires HookLentReads.ensures (λ κs a q e. q ≡ Hooks.lent_of (hooked (lent a) a.1.1.1.1.0))
+pub hook_lent_says : Says HookLent.ended HookLentReads.requires HookLentReads.ensures (λ κs a q e. q ≡ Hooks.lent_of (hooked (whole a.0) a.1.0))
 hook_lent_says κs a q e w = (refl, refl)
 
 -- hook::hook
@@ -720,7 +744,7 @@ pub escapes_in_says : Says EscapesIn.ended EscapesInReads.requires EscapesInRead
 escapes_in_says κs a q e w = (refl, refl)
 
 -- answer_room::room_needed_lent
-pub room_needed_lent_says : Says RoomNeededLent.ended RoomNeededLentReads.requires RoomNeededLentReads.ensures (λ κs a q e. q ≡ room_needed (lent a) a.1.1.1.1.0.now)
+pub room_needed_lent_says : Says RoomNeededLent.ended RoomNeededLentReads.requires RoomNeededLentReads.ensures (λ κs a q e. q ≡ room_needed (whole a.0) a.1.0.now)
 room_needed_lent_says κs a q e w = (refl, refl)
 
 -- answer_room::room_needed
@@ -749,11 +773,11 @@ take_entry_says κs a q e w = (refl, refl)
 
 -- sister_entry::take_entry
 pub sister_entry_says : Says SisterEntry.ended SisterEntryReads.requires SisterEntryReads.ensures
-    (λ κs a q e. q ≡ Sister.keyed a.0 a.1.0 a.1.1.0 a.1.1.1.0 a.1.1.1.1.0 a.1.1.1.1.1.0 a.1.1.1.1.1.1.0)
+    (λ κs a q e. q ≡ Sister.keyed a.0.keys a.1.0 a.0.backlight a.0.hook a.0.ptt a.1.1.0 a.1.1.1.0)
 sister_entry_says κs a q e w = (refl, refl)
 
 -- key_log::take_log_lent
-pub take_log_lent_says : SaysLogged TakeLogLent.ended TakeLogLentReads.requires TakeLogLentReads.ensures (λ κs a. a) (λ κs e. e) (λ κs. loggedLent)
+pub take_log_lent_says : SaysLogged TakeLogLent.ended TakeLogLentReads.requires TakeLogLentReads.ensures (λ κs a. apart a) (λ κs e. apart e) (λ κs. loggedLent)
 take_log_lent_says κs a q e w = (refl, refl)
 
 -- key_log::take_log
@@ -763,7 +787,7 @@ pub take_log_says : SaysBoth TakeLog.ended TakeLogReads.requires TakeLogReads.en
 take_log_says κs a q e w = (refl, refl)
 
 -- seconds::second_lent
-pub second_lent_says : Says SecondLent.ended SecondLentReads.requires SecondLentReads.ensures (λ κs a q e. q ≡ Seconds.lent_of (passed (lent a)))
+pub second_lent_says : Says SecondLent.ended SecondLentReads.requires SecondLentReads.ensures (λ κs a q e. q ≡ Seconds.lent_of (passed (whole a.0)))
 second_lent_says κs a q e w = (refl, refl)
 
 -- seconds::second
@@ -799,7 +823,7 @@ row_seen_says κs a q e w = (refl, refl)
 
 -- seen::row_seen_lent
 pub row_seen_lent_says : Says RowSeenLent.ended RowSeenLentReads.requires RowSeenLentReads.ensures
-    (λ κs a q e. q ≡ row_seen (lent a) a.1.1.1.1.0 a.1.1.1.1.1.0)
+    (λ κs a q e. q ≡ row_seen (whole a.0) a.1.0 a.1.1.0)
 row_seen_lent_says κs a q e w = (refl, refl)
 
 -- seen::column_seen
@@ -808,7 +832,7 @@ column_seen_says κs a q e w = (refl, refl)
 
 -- seen::column_seen_lent
 pub column_seen_lent_says : Says ColumnSeenLent.ended ColumnSeenLentReads.requires ColumnSeenLentReads.ensures
-    (λ κs a q e. q ≡ column_seen (lent a) a.1.1.1.1.0 a.1.1.1.1.1.0 a.1.1.1.1.1.1.0)
+    (λ κs a q e. q ≡ column_seen (whole a.0) a.1.0 a.1.1.0 a.1.1.1.0)
 column_seen_lent_says κs a q e w = (refl, refl)
 
 -- seen::sms_seen
@@ -817,7 +841,7 @@ sms_seen_says κs a q e w = (refl, refl)
 
 -- seen::sms_seen_lent
 pub sms_seen_lent_says : Says SmsSeenLent.ended SmsSeenLentReads.requires SmsSeenLentReads.ensures
-    (λ κs a q e. q ≡ sms_seen (lent a) a.1.1.1.1.0)
+    (λ κs a q e. q ≡ sms_seen (whole a.0) a.1.0)
 sms_seen_lent_says κs a q e w = (refl, refl)
 
 -- seen::volume_seen
@@ -826,7 +850,7 @@ volume_seen_says κs a q e w = (refl, refl)
 
 -- seen::volume_seen_lent
 pub volume_seen_lent_says : Says VolumeSeenLent.ended VolumeSeenLentReads.requires VolumeSeenLentReads.ensures
-    (λ κs a q e. q ≡ volume_seen (lent a))
+    (λ κs a q e. q ≡ volume_seen (whole a.0))
 volume_seen_lent_says κs a q e w = (refl, refl)
 
 -- writer_ranges::label_in_range
@@ -1015,5 +1039,5 @@ pub proved_check_choice_says : Says ProvedCheckChoice.ended ProvedCheckChoiceRea
 proved_check_choice_says κs a q e w = (refl, refl)
 
 -- handset::proved_part_at
-pub proved_part_at_says : Says ProvedPartAt.ended ProvedPartAtReads.requires ProvedPartAtReads.ensures (λ κs a q e. q ≡ part_in (part_at a.0.now a.1.0))
+pub proved_part_at_says : Says ProvedPartAt.ended ProvedPartAtReads.requires ProvedPartAtReads.ensures (λ κs a q e. q ≡ part_in a.1.0 (part_at a.0.now a.1.0))
 proved_part_at_says κs a q e w = (refl, refl)

@@ -34,6 +34,9 @@ use Rattle.record_small_ranges.specs.contracts.sister_small_in_range as SisterSm
 use Rattle.record_small_ranges.proofs.sister_small_in_range.Reads as SisterSmallInRangeReads
 use Rattle.record.specs.contracts.small_of as SmallOf
 use Rattle.record.proofs.small_of.Reads as SmallOfReads
+use Rattle.record.specs.Parts.{whole}
+use Rattle.record.specs.contracts.Record.in_parts as TakenApart
+use Rattle.record.proofs.Record.in_parts.Reads as TakenApartReads
 use Rattle.record.specs.contracts.paper_number as PaperNumber
 use Rattle.record.proofs.paper_number.Reads as PaperNumberReads
 use Rattle.record.specs.contracts.rows as Rows
@@ -102,6 +105,8 @@ use Rattle.sister_form.specs.contracts.shared_body as SharedBody
 use Rattle.sister_form.proofs.shared_body.Reads as SharedBodyReads
 use Rattle.frame_table.specs.contracts.run as RunTable
 use Rattle.frame_table.proofs.run.Reads as RunTableReads
+use Rattle.frame_table.specs.contracts.accepted as Accepted
+use Rattle.frame_table.proofs.accepted.Reads as AcceptedReads
 use Rattle.command.specs.contracts.read_lent as ReadLent
 use Rattle.command.proofs.read_lent.Reads as ReadLentReads
 use Rattle.command.specs.contracts.read_command as ReadCommand
@@ -313,6 +318,11 @@ four_left p = λ j. (p.0 j, p.1.0 j, p.1.1.0 j, p.1.1.1 j)
 pub small_of_one : OneResult SmallOf.ended SmallOfReads.Learnt
 small_of_one = equal SmallOf.ended _
 
+-- record::Record::in_parts: where the parts stand is told by no promise, but what they are is
+pub in_parts_one : (κs : Lfts TakenApart.ended.signature.lifetimes) (a : ArgsD TakenApart.ended.signature κs) (q q' : ResD TakenApart.ended.signature κs) (e e' : AtExit TakenApart.ended κs)
+    → TakenApartReads.Learnt κs a q e → TakenApartReads.Learnt κs a q' e' → whole q ≡ whole q'
+in_parts_one κs a q q' e e' p p' = two_equal p p'
+
 -- record::paper_number
 pub paper_number_one : OneResult PaperNumber.ended PaperNumberReads.Learnt
 paper_number_one = equal PaperNumber.ended _
@@ -453,6 +463,10 @@ shared_body_one = equal SharedBody.ended _
 pub run_table_one : OneResult RunTable.ended RunTableReads.Learnt
 run_table_one = equal RunTable.ended _
 
+-- frame_table::accepted
+pub accepted_one : OneResult Accepted.ended AcceptedReads.Learnt
+accepted_one = equal Accepted.ended _
+
 -- command::byte_at
 pub byte_at_one : OneResult ByteAt.ended ByteAtReads.Learnt
 byte_at_one = equal ByteAt.ended _
@@ -590,7 +604,7 @@ pub sister_entry_one : OneResult SisterEntry.ended SisterEntryReads.Learnt
 sister_entry_one = equal SisterEntry.ended _
 
 -- key_log::take_log_lent
-pub take_log_lent_one : OneEnd TakeLogLent.ended (List ℕ) TakeLogLentReads.Learnt (λ κs e. e.1.1.1.1.1.1.0.now)
+pub take_log_lent_one : OneEnd TakeLogLent.ended (List ℕ) TakeLogLentReads.Learnt (λ κs e. e.1.1.1.0.now)
 take_log_lent_one = equal_and_left TakeLogLent.ended _ _ _ _
 
 -- key_log::take_log

@@ -2,17 +2,11 @@
 use Prim.Native.Nat.{ℕ}
 use mathlib.Core.Bool.{Bool, true, false, cond}
 use mathlib.Core.List.{List}
-use mathlib.Core.Option.{Option, none, some}
+use mathlib.Core.Option.{Option}
 use mathlib.Core.Path.{◌≡◌, refl, sym, ap, ◌∙◌}
-use lib.ListN.{take}
-use borrow.Author.Tests.{eq-eqb, ne_eqb}
 use Rattle.command.specs.Order.{Order, draw}
 use Rattle.command.specs.InRange.{is_picture_row, rows_named, command_in_range}
 use Rattle.command.specs.declared.Command.{Command}
-use Rattle.command.specs.Reading.{opens_picture, picture_of, order_found}
-use Rattle.command.specs.declared.Reading.{Reading}
-use Rattle.command.proofs.Found.{drawn_found}
-use Rattle.command.specs.declared.PictureFrame.{PictureFrame}
 use Rattle.effect.specs.declared.Obeyed.{Obeyed}
 use Rattle.record.specs.Core.{Core, on_picture}
 use Rattle.effect.specs.Effect.{drawn, carry_out}
@@ -21,15 +15,6 @@ use Rattle.effect.specs.Obey.{obey_order, answer_to, Obeys}
 pub obeys : {order found : Option Order} {before after : Core} {obeyed : Obeyed}
     → order ≡ found → obeyed.answer ≡ answer_to found → after ≡ obey_order before found → Obeys order before obeyed after
 obeys {before = before} e g s = record { answer = g ∙ ap answer_to (sym e); same = s ∙ ap (obey_order before) (sym e) }
-
--- a picture frame that was read: without columns it is bad
-module _ (read : Reading) (f : List ℕ) {opens : Bool} (o : opens ≡ opens_picture f) where
-  pub no_drawing : (p : PictureFrame) → opens ≡ true → p ≡ picture_of f → p.columns.len ≡ 0 → order_found read f ≡ none
-  no_drawing p t e z = drawn_found f o read t e ∙ rw (eq-eqb p.columns.len 0 z)
-
-  pub a_drawing : (p : PictureFrame) → opens ≡ true → p ≡ picture_of f → (p.columns.len ≡ 0 → ⊥)
-      → order_found read f ≡ some (draw p.row (take p.columns.len p.columns.bytes))
-  a_drawing p t e z = drawn_found f o read t e ∙ rw (ne_eqb p.columns.len 0 z)
 
 -- what was asked of the ranges, in the text mode's rows
 pub judged : {rows : ℕ} {ok : Bool} (mode : ℕ) (c : Command) (b : Bool) → rows ≡ rows_named mode → ok ≡ command_in_range rows c → ok ≡ b → command_in_range (rows_named mode) c ≡ b

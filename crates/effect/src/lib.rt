@@ -37,7 +37,7 @@ fn with_mute(v: Volume, n: u8) -> Volume
 {
     match n {
         0 => Volume { mute: false, ..v },
-        1..=255 => Volume {
+        _ => Volume {
             mute: true,
             hidden: false,
             ..v
@@ -49,15 +49,14 @@ fn with_mute(v: Volume, n: u8) -> Volume
 fn light_at(b: Backlight, n: u8) -> Backlight
     ensures same { result ≡ light_at b n }
 {
-    let value = Seconds(n);
     match n {
         0 => Backlight {
             mode: OFF,
-            left: value,
+            left: Seconds(0),
             ..b
         },
-        1..=255 => Backlight {
-            duration: value,
+        _ => Backlight {
+            duration: Seconds(n),
             ..b
         },
     }
@@ -68,7 +67,7 @@ fn light_at(b: Backlight, n: u8) -> Backlight
 fn clear(text: &mut Text)
     ensures same { text.new ≡ blanks }
 {
-    *text = [0x20u8; 104];
+    *text = [BLANK; 104];
 }
 
 // A blank at a place, if it is one of the text.
@@ -85,10 +84,8 @@ fn clear_line(text: &mut Text, start: usize, column: u8, end: u8)
     requires { start < 65536 }
     ensures same { text.new ≡ sets text.old (start + column) (replicate (end - column) blank) }
 {
-    let mut i = column;
-    while i < end {
-        blank_at(text, start + wide(i));
-        i += 1;
+    for i in column..end {
+        blank_at(text, start + i as usize);
     }
 }
 
@@ -99,24 +96,18 @@ fn marks_of(n: u8) -> [bool; 5]
 {
     let mut marks = [false; 5];
     if n != 0 {
-        marks[wide(n - 1)] = true;
+        marks[n as usize - 1] = true;
     }
     marks
 }
 
-fn no_codes() -> [u8; 7]
-    ensures same { result ≡ padded 7 [] }
-{
-    [0u8; 7]
-}
-
+#[tactic(auto, unfolding(lists::specs::Padded::padded))]
 fn no_label() -> Label
     ensures same { result ≡ label_of [] }
 {
-    let codes = no_codes();
     Label {
         len: 0,
-        codes: codes,
+        codes: [0; 7],
     }
 }
 
@@ -125,15 +116,15 @@ fn label_of(f: &[u8]) -> Label
     requires { length (drop 3 f.now) ≤ 7 }
     ensures same { result ≡ label_of (drop 3 f.now) }
 {
-    let mut codes = no_codes();
-    let mut used = 0;
-    while used + 3 < f.len() {
-        codes[used] = f[used + 3];
-        used += 1;
+    if f.len() < 3 {
+        return no_label();
     }
+    let n = f.len() - 3;
+    let mut codes = [0; 7];
+    codes[..n].copy_from_slice(&f[3..]);
     Label {
-        len: used as u8,
-        codes: codes,
+        len: n as u8,
+        codes,
     }
 }
 
@@ -141,16 +132,7 @@ fn label_of(f: &[u8]) -> Label
 fn kept(row: u8, column: u8) -> u8
     ensures same { result ≡ kept_in row column }
 {
-    if row == 6 {
-        return column % 32;
-    }
-    column
-}
-
-fn wide(b: u8) -> usize
-    ensures same { result ≡ b }
-{
-    b as usize
+    if row == 6 { column % 32 } else { column }
 }
 
 // A picture row from column 0 takes the columns; every column past them stays. A row above 6 is passed over.
@@ -161,13 +143,9 @@ fn draw(picture: &mut Picture, row: u8, columns: Columns)
     if 6 < row {
         return;
     }
-    let start = wide(row) * MOST_COLUMNS;
-    let count = wide(columns.len);
-    let mut i = 0;
-    while i < count {
-        let column = columns.bytes[i];
-        picture[start + i] = kept(row, column);
-        i += 1;
+    let start = row as usize * MOST_COLUMNS;
+    for i in 0..columns.len as usize {
+        picture[start + i] = kept(row, columns.bytes[i]);
     }
 }
 
@@ -188,39 +166,19 @@ fn changed(mut p: Settings, text: &mut Text, c: Command) -> Settings
             p.screen.column = 0;
         }
         Command::Position(line, place) => {
-            let row = line as u8;
-            let column = place as u8;
-            p.screen.row = row;
-            p.screen.column = column;
+            p.screen.row = line as u8;
+            p.screen.column = place as u8;
         }
         Command::LabelsEmpty => {
             p.left = no_label();
             p.right = no_label();
         }
-        Command::IconS(n) => {
-            let value = n as u8;
-            p.icons.s = value;
-        }
-        Command::IconU(n) => {
-            let value = n as u8;
-            p.icons.u = value;
-        }
-        Command::IconF(n) => {
-            let value = n as u8;
-            p.icons.f = value;
-        }
-        Command::IconR(n) => {
-            let value = n as u8;
-            p.icons.r = value;
-        }
-        Command::IconP(n) => {
-            let value = n as u8;
-            p.icons.p = value;
-        }
-        Command::IconW(n) => {
-            let value = n as u8;
-            p.icons.w = value;
-        }
+        Command::IconS(n) => p.icons.s = n as u8,
+        Command::IconU(n) => p.icons.u = n as u8,
+        Command::IconF(n) => p.icons.f = n as u8,
+        Command::IconR(n) => p.icons.r = n as u8,
+        Command::IconP(n) => p.icons.p = n as u8,
+        Command::IconW(n) => p.icons.w = n as u8,
         Command::Private(n) => p.volume = effect_modes::at_level(p.volume, PRIVATE, n as u8),
         Command::Handsfree(n) => p.volume = effect_modes::at_level(p.volume, HANDSFREE, n as u8),
         Command::HandsfreeOfNote(n) => p.volume = effect_modes::at_level(
@@ -228,15 +186,10 @@ fn changed(mut p: Settings, text: &mut Text, c: Command) -> Settings
         ),
         Command::Mute(n) => p.volume = with_mute(p.volume, n as u8),
         Command::KeyTimes(first, second) => {
-            let time1 = first as u8;
-            let time2 = second as u8;
-            p.times.time1.0 = time1;
-            p.times.time2.0 = time2;
+            p.times.time1.0 = first as u8;
+            p.times.time2.0 = second as u8;
         }
-        Command::Buzzer(n) => {
-            let value = n as u8;
-            p.buzzer.0 = value;
-        }
+        Command::Buzzer(n) => p.buzzer.0 = n as u8,
         Command::Light(n) => p.backlight = light_at(p.backlight, n as u8),
         Command::LightOn => {
             p.backlight.mode = ON;
@@ -244,30 +197,21 @@ fn changed(mut p: Settings, text: &mut Text, c: Command) -> Settings
         }
         // Only IEA starts the seconds; IES keeps those that are left.
         Command::LightAutoStart => {
-            let left = p.backlight.duration.0;
             p.backlight.mode = AUTO;
-            p.backlight.left.0 = left;
+            p.backlight.left = p.backlight.duration;
         }
         Command::LightAuto => p.backlight.mode = AUTO,
         Command::DefaultDuration => p.backlight.duration.0 = DEFAULT_DURATION,
         Command::KeypadSet => p.backlight.keypad = true,
         Command::KeypadCleared => p.backlight.keypad = false,
-        Command::Contrast(n) => {
-            let value = n as u8;
-            p.contrast = value;
-        }
-        Command::ContrastAsked => (),
-        Command::HookAsked => (),
-        Command::VersionAsked => (),
+        Command::Contrast(n) => p.contrast = n as u8,
+        Command::ContrastAsked | Command::HookAsked | Command::VersionAsked => (),
         Command::ClearLine => {
             let start = record::row_start(p.screen.mode, p.screen.row);
             let end = record::row_end(p.screen.mode);
             clear_line(text, start, p.screen.column, end);
         }
-        Command::Inverse(n) => {
-            let marks = marks_of(n as u8);
-            p.inverse = marks;
-        }
+        Command::Inverse(n) => p.inverse = marks_of(n as u8),
     }
     p
 }
@@ -290,9 +234,10 @@ fn obey_command(p: Settings, text: &mut Text, c: Command) -> Settings
 {
     let rows = command_form::rows_named(p.screen.mode);
     if command_form::in_range(c, rows) {
-        return changed(p, text, c);
+        changed(p, text, c)
+    } else {
+        p
     }
-    p
 }
 
 fn obey_label(mut p: Settings, side: Side, f: &[u8]) -> Settings
@@ -308,13 +253,14 @@ fn obey_label(mut p: Settings, side: Side, f: &[u8]) -> Settings
 }
 
 // A frame that is no picture, read in its edition.
-fn read_in(sister: bool, class: &Classes, next: &NextStates, frame: &[u8]) -> Reading
+fn read_in(sister: bool, class: &Classes, next: &NextStates, frame: &[u8]) -> Option<Reading>
     ensures same { result ≡ read_in sister class.now next.now frame.now }
 {
     if sister {
-        return sister_command::read_shared(frame);
+        sister_command::read_shared(frame)
+    } else {
+        command::read_lent(class, next, frame)
     }
-    command::read_lent(class, next, frame)
 }
 
 // Obeys a frame: the text and the picture in place, the settings handed back.
@@ -331,31 +277,28 @@ pub fn obey(
     ensures obeys { (e : Edition) → Obeys (order_found (read_in sister class.now next.now frame.now) frame.now) (core settings text.old picture.old e) result (core result.settings text.new picture.new e) }
 {
     if picture_frame::opens_picture(frame) {
-        let drawn = picture_frame::read_picture(frame);
-        let columns = drawn.columns;
-        if columns.len == 0 {
+        let Some(drawn) = picture_frame::read_picture(frame) else {
             return Obeyed {
-                settings: settings,
+                settings,
                 answer: Answer::QuestionMark,
             };
-        }
-        draw(picture, drawn.row, columns);
+        };
+        draw(picture, drawn.row, drawn.columns);
         return Obeyed {
-            settings: settings,
+            settings,
             answer: Answer::Silence,
         };
     }
-    let reading = read_in(sister, class, next, frame);
-    match reading {
-        Reading::Bad => Obeyed {
-            settings: settings,
+    match read_in(sister, class, next, frame) {
+        None => Obeyed {
+            settings,
             answer: Answer::QuestionMark,
         },
-        Reading::Plain(c) => Obeyed {
+        Some(Reading::Plain(c)) => Obeyed {
             settings: obey_command(settings, text, c),
             answer: answer_for(c),
         },
-        Reading::Label(side) => Obeyed {
+        Some(Reading::Label(side)) => Obeyed {
             settings: obey_label(settings, side, frame),
             answer: Answer::Silence,
         },

@@ -1,18 +1,11 @@
 -- What is looked for in bytes: how many have changed, and whether any is no line end. Assumes nothing.
-use Rattle.std.specs.Prelude.{ℕ, ◌+◌, Bool, cond, not, ◌||◌, List, [], ◌∷◌, ◌==◌}
-use Rattle.std.proofs.Math.Seq.{slice}
+use Rattle.std.specs.Prelude.{ℕ, Bool, not, ◌||◌, List, ◌==◌, count_by, zip}
 use Rattle.lists.specs.Codes.{carriage_return, line_feed}
 use Rattle.lists.specs.Every.{every}
 
 -- at how many places two lists differ, as far as both go
 abbrev pub differing : List ℕ → List ℕ → ℕ
-differing [] ys = 0
-differing (x ∷ xs) [] = 0
-differing (x ∷ xs) (y ∷ ys) = cond (x == y) 0 1 + differing xs ys
-
--- how many bytes have changed from one place up to another
-abbrev pub changes_in : List ℕ → List ℕ → ℕ → ℕ → ℕ
-changes_in before after from to = differing (slice from to before) (slice from to after)
+differing before after = count_by (λ p. not (p.0 == p.1)) (zip before after)
 
 abbrev pub is_line_end : ℕ → Bool
 is_line_end code = code == carriage_return || code == line_feed

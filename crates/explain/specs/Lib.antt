@@ -1,4 +1,4 @@
 pub mod Changes
 pub mod Commands
-pub mod Sheet
 pub mod Tally
+pub mod Values

@@ -1,32 +1,23 @@
 -- What is counted along a stream. Assumes nothing.
-use Rattle.std.specs.Prelude.{ℕ, ◌+◌, ◌-◌, ◌%◌, ◌^◌, Bool, false, cond, ◌||◌, ◌==◌, nat_lt}
+use Rattle.std.specs.Prelude.{ℕ, ◌+◌, ◌-◌, ◌%◌, ◌^◌, Bool, false, true, cond, Option, Some, ◌==◌, nat_lt}
 use Rattle.parts.specs.declared.PartAt.{PartAt}
+use Rattle.explain.specs.declared.tally.Fate.{Fate}
 use Rattle.explain.specs.declared.tally.Tally.{Tally}
 
--- what becomes of a part: its line in the tables of words. Unfinished is a frame that is still open where the stream ends
-abbrev pub stored : ℕ
-stored = 0
+-- a fate's place among the eight
+abbrev pub place_of : Fate → ℕ
+place_of Fate.Stored = 0
+place_of Fate.Skipped = 1
+place_of Fate.Abandoned = 2
+place_of Fate.Open = 3
+place_of Fate.Bad = 4
+place_of Fate.PassedOver = 5
+place_of Fate.Obeyed = 6
+place_of Fate.Refused = 7
 
-abbrev pub skipped : ℕ
-skipped = 1
-
-abbrev pub abandoned : ℕ
-abandoned = 2
-
-abbrev pub unfinished : ℕ
-unfinished = 3
-
-abbrev pub bad : ℕ
-bad = 4
-
-abbrev pub passed_over_fate : ℕ
-passed_over_fate = 5
-
-abbrev pub obeyed : ℕ
-obeyed = 6
-
-abbrev pub refused : ℕ
-refused = 7
+-- whether two fates are one
+abbrev pub same_fate : Fate → Fate → Bool
+same_fate a b = place_of a == place_of b
 
 -- a sum of counts, of which 64 bits are kept: no stream is so long that more are needed
 abbrev pub sum : ℕ → ℕ → ℕ
@@ -40,26 +31,32 @@ length_of front dropped = sum (front.body_end - front.body) dropped
 abbrev pub more_if : Bool → ℕ → ℕ → ℕ
 more_if counts count n = cond counts (sum count n) count
 
--- where the tail stands: at a part that is unfinished, and else where it stood before
-abbrev pub tail_place_after : Tally → ℕ → ℕ
-tail_place_after t fate = cond (fate == unfinished) t.place t.tail_place
+-- where the tail stands: at a part that is open, and else where it stood before
+abbrev pub tail_after : Tally → Fate → Option ℕ
+tail_after t fate = cond (same_fate fate Fate.Open) (Some t.place) t.tail
 
--- the tally behind a part, by what became of it: it began at this place of the window, and so many bytes answered it. A frame that is bad,
--- refused or abandoned is always answered
-unfoldable pub tally_after : Tally → ℕ → ℕ → PartAt → ℕ → Tally
+-- whether so many bytes that answered a part, or what became of it, make an answer: a frame that is bad, refused or abandoned is always
+-- answered
+abbrev pub is_answered : Fate → ℕ → Bool
+is_answered Fate.Abandoned written = true
+is_answered Fate.Bad written = true
+is_answered Fate.Refused written = true
+is_answered fate written = nat_lt 0 written
+
+-- the tally behind a part, by what became of it: it began at this place of the window, and so many bytes answered it
+unfoldable pub tally_after : Tally → Fate → ℕ → PartAt → ℕ → Tally
 tally_after t fate at front written =
     record {
       place = sum t.place (sum (front.end - at) t.dropped);
       dropped = 0;
       others = false;
-      text = more_if (fate == stored) t.text (length_of front t.dropped);
-      skipped = more_if (fate == skipped) t.skipped (length_of front t.dropped);
-      obeyed = more_if (fate == obeyed) t.obeyed 1;
-      passed_over = more_if (fate == passed_over_fate) t.passed_over 1;
-      refused = more_if (fate == refused) t.refused 1;
-      bad = more_if (fate == bad) t.bad 1;
-      abandoned = more_if (fate == abandoned) t.abandoned 1;
-      answers = more_if (((nat_lt 0 written || fate == refused) || fate == bad) || fate == abandoned) t.answers 1;
-      tail = t.tail || (fate == unfinished);
-      tail_place = tail_place_after t fate;
+      text = more_if (same_fate fate Fate.Stored) t.text (length_of front t.dropped);
+      skipped = more_if (same_fate fate Fate.Skipped) t.skipped (length_of front t.dropped);
+      obeyed = more_if (same_fate fate Fate.Obeyed) t.obeyed 1;
+      passed_over = more_if (same_fate fate Fate.PassedOver) t.passed_over 1;
+      refused = more_if (same_fate fate Fate.Refused) t.refused 1;
+      bad = more_if (same_fate fate Fate.Bad) t.bad 1;
+      abandoned = more_if (same_fate fate Fate.Abandoned) t.abandoned 1;
+      answers = more_if (is_answered fate written) t.answers 1;
+      tail = tail_after t fate;
     }

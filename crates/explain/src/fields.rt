@@ -1,16 +1,15 @@
 // The small fields of the record by name: what a field is called, what its value is called, what has changed. The words are read aloud
 // on the telephone, so a field has the same words in every line.
-ghost use Rattle.std.specs.Prelude.{◌≡◌, ◌+◌, ◌<◌, ◌≤◌, length};
-ghost use Rattle.explain.specs.Sheet.{row_marked, sheet_of};
+ghost use Rattle.std.specs.Prelude.{◌≡◌, ◌<◌, IfSome, position};
+ghost use Rattle.explain.specs.Values.{whether, number_value, word_value, mark_value, label_value, value_of};
 
-use crate::part_line::{Part, changes, say_cell, say_codes, say_comma, wide};
-use crate::words::{CLOSING, OPENING, TO, say_words};
+use crate::part_line::{say, say_codes, say_comma, say_count};
+use crate::words;
 use program::Host;
 use record::{LONGEST_LABEL, Label, Small};
 
-// A field has a line of the table of words, in this order. Those that a frame sets together stand together, and the labels behind all
-// others. Behind the fields stand numbers of a frame that have a range of their own: some go by the text mode, and the last ones are
-// the sister's. Nothing stands where a command sets none.
+// Those that a frame sets together stand together, and the labels behind all others. Behind the fields stand numbers of a frame that
+// have a range of their own: some go by the text mode, and the last ones are the sister's.
 #[derive(Clone, Copy)]
 pub enum Field {
     Mode,
@@ -44,354 +43,298 @@ pub enum Field {
     Column,
     PictureRow,
     Row,
-    NoRow,
     Mark,
-    NoMark,
     SisterMode,
     SisterCursor,
     SisterTime1,
     SisterDuration,
     SisterIconU,
-    Nothing,
 }
 
-const FIELDS: usize = 28;
-
-const LEFT_LABEL: usize = 26;
-
-// Which line of the table a field has.
-fn line_of(field: Field) -> usize {
-    match field {
-        Field::Mode => 0,
-        Field::Overlay => 1,
-        Field::Position => 2,
-        Field::Volume => 3,
-        Field::Hidden => 4,
-        Field::Mute => 5,
-        Field::Time1 => 6,
-        Field::Time2 => 7,
-        Field::Pwm => 8,
-        Field::Backlight => 9,
-        Field::SecondsLeft => 10,
-        Field::Duration => 11,
-        Field::Keypad => 12,
-        Field::Display => 13,
-        Field::Cursor => 14,
-        Field::IconS => 15,
-        Field::IconU => 16,
-        Field::IconF => 17,
-        Field::IconR => 18,
-        Field::IconP => 19,
-        Field::IconW => 20,
-        Field::Buzzer => 21,
-        Field::Contrast => 22,
-        Field::Inverse => 23,
-        Field::Brightness => 24,
-        Field::Speaker => 25,
-        Field::LeftLabel => 26,
-        Field::RightLabel => 27,
-        Field::Column => 28,
-        Field::PictureRow => 29,
-        Field::Row => 30,
-        Field::NoRow => 31,
-        Field::Mark => 32,
-        Field::NoMark => 33,
-        Field::SisterMode => 34,
-        Field::SisterCursor => 35,
-        Field::SisterTime1 => 36,
-        Field::SisterDuration => 37,
-        Field::SisterIconU => 38,
-        Field::Nothing => 39,
-    }
-}
-
-// The fields from a first to a last one: those that a frame sets.
-#[derive(Clone, Copy)]
-pub struct Fields {
-    pub first: Field,
-    pub last: Field,
-}
-
-pub const EVERY_FIELD: Fields = Fields {
-    first: Field::Mode,
-    last: Field::RightLabel,
-};
+// All that have a value.
+pub const EVERY_FIELD: &[Field] = &[
+    Field::Mode,
+    Field::Overlay,
+    Field::Position,
+    Field::Volume,
+    Field::Hidden,
+    Field::Mute,
+    Field::Time1,
+    Field::Time2,
+    Field::Pwm,
+    Field::Backlight,
+    Field::SecondsLeft,
+    Field::Duration,
+    Field::Keypad,
+    Field::Display,
+    Field::Cursor,
+    Field::IconS,
+    Field::IconU,
+    Field::IconF,
+    Field::IconR,
+    Field::IconP,
+    Field::IconW,
+    Field::Buzzer,
+    Field::Contrast,
+    Field::Inverse,
+    Field::Brightness,
+    Field::Speaker,
+    Field::LeftLabel,
+    Field::RightLabel,
+];
 
 // Words.
 
-// Which words of a line: the name, what the number takes, and from here on those of the values.
-const NAME: usize = 0;
-
-const TAKES: usize = 1;
-
-const VALUES: usize = 2;
-
 // An overlay and a mark are named with their value, since there may be none.
-fn say_of(host: &Host, line: usize, which: usize, number: u64) {
-    say_cell(
-        host,
-        b"mode |takes 0, 1, 5, 6, 10 or 11 to 18|#|\n\
-        ||no overlay|overlay #|\n\
-        position ||0,#|1,#|2,#|3,#|4,#|\n\
-        volume |takes 0 to 10|none|private #|handsfree #|\n\
-        hidden ||no|yes|\n\
-        mute |takes 0 or 1|off|on|\n\
-        Time1 |takes 4 to 50|#|\n\
-        Time2 |takes 0 or 4 to 50|#|\n\
-        PWM ||off|on|\n\
-        backlight ||off|on|auto|\n\
-        seconds left ||#|\n\
-        duration |takes 1 to 255, and 0 is backlight off|#|\n\
-        keypad flag ||clear|set|\n\
-        display ||off|on|\n\
-        cursor ||not shown|shown|\n\
-        icon S |takes 0 or 1|#|\n\
-        icon U |takes 0, 1 or 255|#|\n\
-        icon F |takes 0 to 6|#|\n\
-        icon R |takes 0 or 1|#|\n\
-        icon P |takes 0 to 19|#|\n\
-        icon W |takes 0 to 3|#|\n\
-        buzzer |takes 0 to 255|#|\n\
-        contrast |takes 1 to 20|#|\n\
-        ||no inverse mark|inverse mark on row #|\n\
-        brightness |takes 0 to 100|#|\n\
-        speaker volume |takes 0 to 7|#|\n\
-        left label |\n\
-        right label |\n\
-        column |takes 0 to 15|\n\
-        picture row |takes 0 to 6|\n\
-        row |takes 0 to #|\n\
-        no row |can be named|\n\
-        inverse mark |takes 0 to #|\n\
-        inverse mark |takes only 0|\n\
-        mode |takes 0 to 12|\n\
-        cursor |takes 0 or 1|\n\
-        Time1 |takes 4 to 50, or 0 where Time2 is 0|\n\
-        duration |takes 1 to 250, and 0 is backlight off|\n\
-        icon U |takes 0 to 2|\n",
-        line,
-        which,
-        number,
-    );
+fn name_of(field: Field) -> &'static [u8] {
+    match field {
+        Field::Mode | Field::SisterMode => b"mode ",
+        Field::Overlay | Field::Inverse => b"",
+        Field::Position => b"position ",
+        Field::Volume => b"volume ",
+        Field::Hidden => b"hidden ",
+        Field::Mute => b"mute ",
+        Field::Time1 | Field::SisterTime1 => b"Time1 ",
+        Field::Time2 => b"Time2 ",
+        Field::Pwm => b"PWM ",
+        Field::Backlight => b"backlight ",
+        Field::SecondsLeft => b"seconds left ",
+        Field::Duration | Field::SisterDuration => b"duration ",
+        Field::Keypad => b"keypad flag ",
+        Field::Display => b"display ",
+        Field::Cursor | Field::SisterCursor => b"cursor ",
+        Field::IconS => b"icon S ",
+        Field::IconU | Field::SisterIconU => b"icon U ",
+        Field::IconF => b"icon F ",
+        Field::IconR => b"icon R ",
+        Field::IconP => b"icon P ",
+        Field::IconW => b"icon W ",
+        Field::Buzzer => b"buzzer ",
+        Field::Contrast => b"contrast ",
+        Field::Brightness => b"brightness ",
+        Field::Speaker => b"speaker volume ",
+        Field::LeftLabel => b"left label ",
+        Field::RightLabel => b"right label ",
+        Field::Column => b"column ",
+        Field::PictureRow => b"picture row ",
+        Field::Row => b"row ",
+        Field::Mark => b"inverse mark ",
+    }
+}
+
+// Where # stands at the end, a number is said in its place, here and below.
+fn range_of(field: Field) -> &'static [u8] {
+    match field {
+        Field::Mode => b"takes 0, 1, 5, 6, 10 or 11 to 18",
+        Field::Volume => b"takes 0 to 10",
+        Field::Mute | Field::IconS | Field::IconR | Field::SisterCursor => b"takes 0 or 1",
+        Field::Time1 => b"takes 4 to 50",
+        Field::Time2 => b"takes 0 or 4 to 50",
+        Field::Duration => b"takes 1 to 255, and 0 is backlight off",
+        Field::IconU => b"takes 0, 1 or 255",
+        Field::IconF | Field::PictureRow => b"takes 0 to 6",
+        Field::IconP => b"takes 0 to 19",
+        Field::IconW => b"takes 0 to 3",
+        Field::Buzzer => b"takes 0 to 255",
+        Field::Contrast => b"takes 1 to 20",
+        Field::Brightness => b"takes 0 to 100",
+        Field::Speaker => b"takes 0 to 7",
+        Field::Column => b"takes 0 to 15",
+        Field::Row | Field::Mark => b"takes 0 to #",
+        Field::SisterMode => b"takes 0 to 12",
+        Field::SisterTime1 => b"takes 4 to 50, or 0 where Time2 is 0",
+        Field::SisterDuration => b"takes 1 to 250, and 0 is backlight off",
+        Field::SisterIconU => b"takes 0 to 2",
+        // No frame with these is passed over.
+        _ => b"",
+    }
+}
+
+// What the values are called, by number.
+fn values_of(field: Field) -> &'static [&'static [u8]] {
+    match field {
+        Field::Overlay => &[b"no overlay", b"overlay #"],
+        Field::Position => &[b"0,#", b"1,#", b"2,#", b"3,#", b"4,#"],
+        Field::Volume => &[b"none", b"private #", b"handsfree #"],
+        Field::Hidden => &[b"no", b"yes"],
+        Field::Mute | Field::Pwm | Field::Display => &[b"off", b"on"],
+        Field::Backlight => &[b"off", b"on", b"auto"],
+        Field::Keypad => &[b"clear", b"set"],
+        Field::Cursor => &[b"not shown", b"shown"],
+        Field::Inverse => &[b"no inverse mark", b"inverse mark on row #"],
+        _ => &[b"#"],
+    }
+}
+
+fn say_numbered(host: &Host, words: &[u8], number: u64) {
+    match words.strip_suffix(b"#") {
+        Some(before) => say_count(host, before, number),
+        None => say(host, words),
+    }
 }
 
 // What the number of a field takes, said where one is passed over.
 pub fn say_takes(host: &Host, field: Field, greatest: u64) {
-    let line = line_of(field);
-    say_of(host, line, NAME, 0);
-    say_of(host, line, TAKES, greatest);
+    say(host, name_of(field));
+    say_numbered(host, range_of(field), greatest);
 }
 
 // Values.
 
-// The settings as numbers, field after field. A field has two: which of its words is said, and the number that stands in them. A
-// label has its length and codes.
-pub type Sheet = [u8; SHEET];
+// What is said of a field's value: which of its words and the number that stands in them or, of a label, its codes.
+#[derive(Clone, Copy, PartialEq, Eq)]
+pub enum Value {
+    Words {
+        which: u8,
+        number: u8,
+    },
+    Codes {
+        length: u8,
+        codes: [u8; LONGEST_LABEL],
+    },
+}
 
-const SHEET: usize = 68;
-
-pub const MODE_AT: usize = 1;
-
-pub const ROW_AT: usize = 4;
-
-pub const COLUMN_AT: usize = 5;
-
-const LABEL: usize = 8;
-
-const ROWS: usize = 5;
-
-// Which text row has the mark; past the last one if none has.
-fn marked(marks: [bool; ROWS]) -> u8
-    ensures { result ≡ row_marked marks }
+// The words are the number.
+fn number(number: u8) -> Option<Value>
+    ensures { result ≡ number_value number }
 {
-    for row in 0..ROWS {
-        if marks[row] {
-            return row as u8;
+    Some(Value::Words { which: 0, number })
+}
+
+// The words have no number.
+fn word(which: u8) -> Option<Value>
+    ensures { result ≡ word_value which }
+{
+    Some(Value::Words { which, number: 0 })
+}
+
+// The second words if something is so, and else the first.
+fn whether(is: bool) -> Option<Value>
+    ensures { result ≡ word_value (whether is) }
+{
+    word(is as u8)
+}
+
+// Which text row has the mark.
+fn row_marked(marks: &[bool; 5]) -> Option<usize>
+    ensures row { result ≡ position (λ mark. mark) marks.now }
+    ensures bound { IfSome result (λ row. row < 5) }
+{
+    marks.iter().position(|mark| *mark)
+}
+
+fn mark(marks: &[bool; 5]) -> Option<Value>
+    ensures { result ≡ mark_value marks.now }
+{
+    match row_marked(marks) {
+        Some(row) => Some(Value::Words {
+            which: 1,
+            number: row as u8,
+        }),
+        None => word(0),
+    }
+}
+
+fn label(label: Label) -> Option<Value>
+    ensures { result ≡ label_value label }
+{
+    // By a variable: an array that is moved from field to field is not proved yet.
+    let codes = label.codes;
+    Some(Value::Codes {
+        length: label.len,
+        codes,
+    })
+}
+
+// What there is of a field that has no value is only what its number takes.
+pub fn value_of(s: &Small, field: Field) -> Option<Value>
+    ensures same { result ≡ value_of s.now field }
+{
+    let p = &s.settings;
+    match field {
+        Field::Mode => number(p.screen.mode),
+        Field::Overlay => Some(Value::Words {
+            which: (0 < p.screen.overlay) as u8,
+            number: p.screen.overlay,
+        }),
+        Field::Position => Some(Value::Words {
+            which: p.screen.row,
+            number: p.screen.column,
+        }),
+        Field::Volume => Some(Value::Words {
+            which: p.volume.which,
+            number: p.volume.level,
+        }),
+        Field::Hidden => whether(p.volume.hidden),
+        Field::Mute => whether(p.volume.mute),
+        Field::Time1 => number(p.times.time1.0),
+        Field::Time2 => number(p.times.time2.0),
+        Field::Pwm => whether(s.edition.pwm),
+        Field::Backlight => word(p.backlight.mode),
+        Field::SecondsLeft => number(p.backlight.left.0),
+        Field::Duration => number(p.backlight.duration.0),
+        Field::Keypad => whether(p.backlight.keypad),
+        Field::Display => whether(p.screen.display),
+        Field::Cursor => whether(p.shown),
+        Field::IconS => number(p.icons.s),
+        Field::IconU => number(p.icons.u),
+        Field::IconF => number(p.icons.f),
+        Field::IconR => number(p.icons.r),
+        Field::IconP => number(p.icons.p),
+        Field::IconW => number(p.icons.w),
+        Field::Buzzer => number(p.buzzer.0),
+        Field::Contrast => number(p.contrast),
+        Field::Inverse => mark(&p.inverse),
+        Field::Brightness => number(s.edition.brightness),
+        Field::Speaker => number(s.edition.speaker),
+        Field::LeftLabel => label(p.left),
+        Field::RightLabel => label(p.right),
+        _ => None,
+    }
+}
+
+fn say_value(host: &Host, field: Field, value: Option<Value>) {
+    match value {
+        Some(Value::Words { which, number }) => {
+            if let Some(words) = values_of(field).get(which as usize) {
+                say_numbered(host, words, number as u64);
+            }
         }
-    }
-    ROWS as u8
-}
-
-// The codes of a label, of which there are seven.
-fn codes_of(label: Label) -> [u8; LONGEST_LABEL]
-    ensures { (result ≡ label.codes) × (length result ≡ 7) }
-{
-    label.codes
-}
-
-pub fn sheet_of(s: Small) -> Sheet
-    ensures same { result ≡ sheet_of s }
-{
-    let p = s.settings;
-    let marks = p.inverse;
-    let mark = marked(marks);
-    let left = p.left;
-    let right = p.right;
-    let left_codes = codes_of(left);
-    let right_codes = codes_of(right);
-    [
-        0,
-        p.screen.mode,
-        (0 < p.screen.overlay) as u8,
-        p.screen.overlay,
-        p.screen.row,
-        p.screen.column,
-        p.volume.which,
-        p.volume.level,
-        p.volume.hidden as u8,
-        0,
-        p.volume.mute as u8,
-        0,
-        0,
-        p.times.time1.0,
-        0,
-        p.times.time2.0,
-        s.edition.pwm as u8,
-        0,
-        p.backlight.mode,
-        0,
-        0,
-        p.backlight.left.0,
-        0,
-        p.backlight.duration.0,
-        p.backlight.keypad as u8,
-        0,
-        p.screen.display as u8,
-        0,
-        p.shown as u8,
-        0,
-        0,
-        p.icons.s,
-        0,
-        p.icons.u,
-        0,
-        p.icons.f,
-        0,
-        p.icons.r,
-        0,
-        p.icons.p,
-        0,
-        p.icons.w,
-        0,
-        p.buzzer.0,
-        0,
-        p.contrast,
-        (mark < ROWS as u8) as u8,
-        mark,
-        0,
-        s.edition.brightness,
-        0,
-        s.edition.speaker,
-        left.len,
-        left_codes[0],
-        left_codes[1],
-        left_codes[2],
-        left_codes[3],
-        left_codes[4],
-        left_codes[5],
-        left_codes[6],
-        right.len,
-        right_codes[0],
-        right_codes[1],
-        right_codes[2],
-        right_codes[3],
-        right_codes[4],
-        right_codes[5],
-        right_codes[6],
-    ]
-}
-
-// Where the numbers of a field stand.
-fn numbers_of(line: usize) -> Part
-    requires { line < 28 }
-    ensures { (result.start + 2 ≤ result.end) × (result.end ≤ 68) }
-{
-    if line < LEFT_LABEL {
-        return Part {
-            start: 2 * line,
-            end: 2 * line + 2,
-        };
-    }
-    let start = 2 * LEFT_LABEL + LABEL * (line - LEFT_LABEL);
-    Part {
-        start: start,
-        end: start + LABEL,
-    }
-}
-
-// The first number is the label's length.
-fn say_label(host: &Host, sheet: &Sheet, start: usize, end: usize)
-    requires { (start < end) × (end ≤ 68) }
-{
-    let length = wide(sheet[start]) as usize;
-    say_words(host, OPENING);
-    for i in start + 1..end {
-        if i - start <= length {
-            let one = [sheet[i]];
-            say_codes(host, &one);
+        Some(Value::Codes { length, codes }) => {
+            say(host, words::OPENING);
+            say_codes(host, &codes[..(length as usize).min(LONGEST_LABEL)]);
+            say(host, words::CLOSING);
         }
+        None => {}
     }
-    say_words(host, CLOSING);
-}
-
-fn say_value(host: &Host, line: usize, sheet: &Sheet, numbers: Part)
-    requires { (numbers.start + 2 ≤ numbers.end) × (numbers.end ≤ 68) }
-{
-    let start = numbers.start;
-    if line < LEFT_LABEL {
-        let words = wide(sheet[start]) as usize;
-        say_of(host, line, VALUES + words, wide(sheet[start + 1]));
-        return;
-    }
-    say_label(host, sheet, start, numbers.end);
 }
 
 // Changes.
 
-// A field with its value and, if it has changed, the value before; where only changes are wanted, nothing if it has not. Says whether
-// anything has been said by then.
-fn say_field(
-    host: &Host,
-    line: usize,
-    was: &Sheet,
-    is: &Sheet,
-    only_changes: bool,
-    said: bool,
-) -> bool
-    requires { line < 28 }
-{
-    let numbers = numbers_of(line);
-    let changed = 0 < changes(was, is, numbers.start, numbers.end);
-    if only_changes & !changed {
-        return said;
+// The fields that have changed, each with the value before. Says whether anything has been said by then.
+pub fn say_changes(host: &Host, fields: &[Field], was: &Small, is: &Small, said: bool) -> bool {
+    let mut any = said;
+    for &field in fields {
+        let before = value_of(was, field);
+        let now = value_of(is, field);
+        if before == now {
+            continue;
+        }
+        say_comma(host, any);
+        say(host, name_of(field));
+        say_value(host, field, before);
+        say(host, words::TO);
+        say_value(host, field, now);
+        any = true;
     }
-    say_comma(host, said);
-    say_of(host, line, NAME, 0);
-    if changed {
-        say_value(host, line, was, numbers);
-        say_words(host, TO);
-    }
-    say_value(host, line, is, numbers);
-    true
+    any
 }
 
-pub fn say_fields(
-    host: &Host,
-    fields: Fields,
-    was: &Sheet,
-    is: &Sheet,
-    only_changes: bool,
-    said: bool,
-) -> bool {
-    let first_field = fields.first;
-    let last_field = fields.last;
-    let first = line_of(first_field);
-    let last = line_of(last_field);
-    let mut now = said;
-    for line in 0..FIELDS {
-        if (first <= line) & (line <= last) {
-            now = say_field(host, line, was, is, only_changes, now);
-        }
+// The fields with their values, whether these have changed or not.
+pub fn say_values(host: &Host, fields: &[Field], is: &Small) {
+    for (k, &field) in fields.iter().enumerate() {
+        say_comma(host, k > 0);
+        say(host, name_of(field));
+        say_value(host, field, value_of(is, field));
     }
-    now
 }

@@ -24,142 +24,107 @@ mod telling;
 mod text;
 mod words;
 
-ghost use Rattle.std.specs.Prelude.{◌+◌, ◌<◌, ◌≤◌, length};
+ghost use Rattle.std.specs.Prelude.{◌<◌, ◌≤◌, IfSome, length};
 
+use doings::Handset;
 use parts::{Kind, PartAt, part_at};
-use program::{Host, Input, Piece};
+use program::{Host, Input};
 use record::Record;
-use std::num::wrapping_add_u64 as more;
 use tally::{NOTHING_COUNTED, Tally, say_tally};
-use telling::{Progress, has_others, tell_front};
+use telling::{has_others, tell_front};
 
-const TEXT: usize = 104;
-
-const PICTURE: usize = 672;
+// The program's name, for complaints.
+const NAME: &[u8] = b"explain";
 
 // Of a part that has not ended by the window's end so many bytes are kept: an ESC and one byte more than a frame may have, so that it
 // is still overlong, and more than any row takes.
 const KEPT: usize = 252;
 
-// Nothing says that the input ends, so its pieces are counted down.
-const MOST_PIECES: u64 = 0xFFFF_FFFF_FFFF_FFFF;
-
-// The runs: text bytes that follow each other, and skipped ones; a frame belongs to none.
-const NO_RUN: u8 = 0;
-
-const TEXT_RUN: u8 = 1;
-
-const SKIPPED_RUN: u8 = 2;
-
-// What came of the parts that a window has told, and how many bytes these have.
-#[derive(Clone, Copy)]
-struct Told {
-    progress: Progress,
-    bytes: usize,
-}
-
 // Parts.
 
-// Which run a part belongs to.
-fn run_of(kind: Kind) -> u8 {
+// Text bytes that follow each other, or skipped ones.
+#[derive(Clone, Copy, PartialEq, Eq)]
+enum Run {
+    Text,
+    Skipped,
+}
+
+// Which run a part belongs to; a frame belongs to none.
+fn run_of(kind: Kind) -> Option<Run> {
     match kind {
-        Kind::Text => TEXT_RUN,
-        Kind::Skipped => SKIPPED_RUN,
-        _ => NO_RUN,
+        Kind::Text => Some(Run::Text),
+        Kind::Skipped => Some(Run::Skipped),
+        _ => None,
     }
 }
 
 // Where the bytes of a run end that begins before this place.
-fn run_end(window: &[u8], from: usize, run: u8) -> usize
+fn run_end(window: &[u8], from: usize, run: Run) -> usize
     requires { from ≤ length window.now }
     ensures { (from ≤ result) × (result ≤ length window.now) }
 {
-    let mut i = from;
-    while i < window.len() {
-        let part = part_at(window, i);
-        let kind = part.kind;
-        if run_of(kind) != run {
-            return i;
-        }
-        i += 1;
-    }
-    i
+    (from..window.len())
+        .find(|&i| part_at(window, i).and_then(|part| run_of(part.kind)) != Some(run))
+        .unwrap_or(window.len())
 }
 
 // What stands at a place, where a run is one thing. Its body is what is shown.
-fn front_at(window: &[u8], at: usize) -> PartAt
-    requires { at < length window.now }
-    ensures { (at < result.end) × (result.end ≤ length window.now) × (result.body ≤ result.body_end) × (result.body_end ≤ result.end) }
+fn front_at(window: &[u8], at: usize) -> Option<PartAt>
+    ensures { IfSome result (λ front. (at < front.end) × (front.end ≤ length window.now) × (front.body ≤ front.body_end) × (front.body_end ≤ front.end)) }
 {
-    let part = part_at(window, at);
-    let kind = part.kind;
-    let run = run_of(kind);
-    if run == NO_RUN {
-        return part;
-    }
+    let part = part_at(window, at)?;
+    let Some(run) = run_of(part.kind) else {
+        return Some(part);
+    };
     let end = run_end(window, part.end, run);
-    PartAt {
-        kind: kind,
-        end: end,
+    Some(PartAt {
+        end,
         body: at,
         body_end: end,
-    }
+        ..part
+    })
 }
 
 // Whether bytes that are still to come may belong to a part of a window of this length.
 fn may_go_on(part: PartAt, length: usize, ended: bool) -> bool {
-    let kind = part.kind;
-    if let Kind::Closed = kind {
-        return false;
-    }
-    !ended & (part.end == length)
+    !ended && part.end == length && !matches!(part.kind, Kind::Closed)
 }
 
 // The window.
 
 // Of a part that has not ended no more is kept than is needed; the rest is counted.
-fn count_rest(mut tally: Tally, window: &[u8], at: usize) -> Tally
-    requires { at ≤ length window.now }
-{
-    if KEPT < window.len() - at {
-        let rest = at + KEPT;
-        tally.dropped = more(tally.dropped, (window.len() - rest) as u64);
-        tally.others = tally.others | has_others(&window[rest..]);
+fn count_rest(tally: Tally, held: &[u8]) -> Tally {
+    let Some(rest) = held.get(KEPT..) else {
+        return tally;
+    };
+    Tally {
+        dropped: tally.dropped.wrapping_add(rest.len() as u64),
+        others: tally.others || has_others(rest),
+        ..tally
     }
-    tally
 }
 
-// Tells all parts that have ended by the window's end, and where the stream has ended too what has not.
+// Tells all parts that have ended by the window's end, and where the stream has ended too what has not. Says how many bytes these have.
 fn tell_window(
     host: &Host,
-    before: Progress,
-    text: &mut [u8; TEXT],
-    picture: &mut [u8; PICTURE],
+    handset: &mut Handset,
+    tally: &mut Tally,
     window: &[u8],
     ended: bool,
     all: bool,
-) -> Told
-    ensures { result.bytes ≤ length window.now }
+) -> usize
+    ensures { result ≤ length window.now }
 {
-    let mut now = before;
     let mut at = 0;
-    while at < window.len() {
-        let front = front_at(window, at);
+    while let Some(front) = front_at(window, at) {
         if may_go_on(front, window.len(), ended) {
             break;
         }
-        now = tell_front(host, now, text, picture, window, at, front, all);
+        *tally = tell_front(host, handset, *tally, window, at, front, all);
         at = front.end;
     }
-    let small = now.small;
-    let progress = Progress {
-        small: small,
-        tally: count_rest(now.tally, window, at),
-    };
-    Told {
-        progress: progress,
-        bytes: at,
-    }
+    *tally = count_rest(*tally, &window[at..]);
+    at
 }
 
 // The bytes of the window from one place up to another move to its front, as far as they are kept; how many these are.
@@ -167,96 +132,68 @@ fn keep(window: &mut [u8], from: usize, to: usize) -> usize
     requires { (from ≤ to) × (to ≤ length window.old) }
     ensures { result ≤ 252 }
 {
-    let mut n = 0;
-    while n < KEPT {
-        let at = from + n;
-        if to <= at {
-            return n;
-        }
-        window[n] = window[at];
-        n += 1;
-    }
-    n
+    let kept = KEPT.min(to - from);
+    window.copy_within(from..from + kept, 0);
+    kept
 }
 
 // What there is before the first part.
-fn power_on(text: &mut [u8; TEXT], picture: &mut [u8; PICTURE], sister: bool) -> Progress {
-    let mut start = Record::power_on();
-    if sister {
-        start = Record::sister_power_on();
-    }
-    let blank_text = start.text;
-    let blank_picture = start.picture;
-    *text = blank_text;
-    *picture = blank_picture;
-    Progress {
-        small: record::small_of(start),
-        tally: NOTHING_COUNTED,
+fn power_on(sister: bool) -> Handset {
+    let record = if sister {
+        Record::sister_power_on()
+    } else {
+        Record::power_on()
+    };
+    // By variables: an array that is moved from field to field is not proved yet.
+    let text = record.text;
+    let picture = record.picture;
+    Handset {
+        small: record::small_of(record),
+        text,
+        picture,
     }
 }
 
-// Reads on behind what the window holds.
-fn refill(host: &Host, input: &mut Input, window: &mut [u8], held: usize) -> Piece
-    requires { held ≤ length window.old }
-    ensures { held + result.length ≤ length window.new }
-{
-    let rest = &mut window[held..];
-    program::read_piece(host, b"explain", input, rest)
-}
-
-// Of an input that fails nothing is summed up: what came before is not the stream.
+// Of an input that fails nothing is summed up: what came before is not the stream. Nothing says that the input ends, so its pieces are
+// counted.
 fn explain(host: &Host, input: &mut Input, all: bool, sister: bool) {
-    let mut text = [0u8; TEXT];
-    let mut picture = [0u8; PICTURE];
-    let mut now = power_on(&mut text, &mut picture, sister);
+    let mut handset = power_on(sister);
+    let mut tally = NOTHING_COUNTED;
     let mut window = [0u8; 4096];
     let mut held = 0;
-    let mut left = MOST_PIECES;
-    while 0 < left {
-        let read = refill(host, input, &mut window, held);
-        let n = read.length;
-        if read.failed {
+    for _ in 0..u64::MAX {
+        let Ok(n) = program::read_piece(host, NAME, input, &mut window[held..]) else {
             return;
-        }
+        };
         let end = held + n;
-        let told = tell_window(
-            host,
-            now,
-            &mut text,
-            &mut picture,
-            &window[..end],
-            n == 0,
-            all,
-        );
-        let used = told.bytes;
-        now = told.progress;
-        held = keep(&mut window, used, end);
-        if n == 0 {
+        let ended = n == 0;
+        let told = tell_window(host, &mut handset, &mut tally, &window[..end], ended, all);
+        if ended {
             break;
         }
-        left -= 1;
+        held = keep(&mut window, told, end);
     }
-    say_tally(host, now.tally, sister);
+    say_tally(host, &tally, sister);
 }
 
 fn main(rt: HostRuntime) {
     let host = Host::new(rt);
-    if program::accepts(
+    let accepted = program::accepts(
         &host,
-        b"explain",
+        NAME,
         b"usage: ./run explain [--all] [--sister] [FILE]\n\
         Reads a stream from FILE, or from standard input without one, and says of each part what it did.\n\
         --all gives line ends outside of frames a line too; --sister reads as the sister handset does.\n",
         b"--all\n--sister\n",
         true,
-    ) {
-        if let Some(mut input) = program::open_input(&host, b"explain") {
-            explain(
-                &host,
-                &mut input,
-                program::is_given(&host, b"--all\n"),
-                program::is_given(&host, b"--sister\n"),
-            );
-        }
+    );
+    if !accepted {
+        return;
     }
+    let Some(mut input) = program::open_input(&host, NAME) else {
+        return;
+    };
+    let all = program::is_given(&host, b"--all\n");
+    let sister = program::is_given(&host, b"--sister\n");
+    explain(&host, &mut input, all, sister);
 }

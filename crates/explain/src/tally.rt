@@ -1,32 +1,26 @@
 // What is counted along a stream, and the line that sums up.
-ghost use Rattle.std.specs.Prelude.{◌≡◌, ◌-◌};
-ghost use Rattle.explain.specs.Tally.{length_of, more_if, tail_place_after, tally_after};
+ghost use Rattle.std.specs.Prelude.{◌≡◌};
+ghost use Rattle.explain.specs.Tally.{is_answered, length_of, more_if, tally_after};
 
-use crate::part_line::say_place;
+use crate::part_line::{say, say_count, say_place};
 use crate::words;
-use crate::words::{say_count, say_words};
 use parts::PartAt;
 use program::Host;
-use std::num::wrapping_add_u64 as more;
 
-// What becomes of a part: its line in the tables of words.
-pub const STORED: usize = 0;
+// What becomes of a part. A frame is open that is not closed where the stream ends.
+#[derive(Clone, Copy, PartialEq, Eq)]
+pub enum Fate {
+    Stored,
+    Skipped,
+    Abandoned,
+    Open,
+    Bad,
+    PassedOver,
+    Obeyed,
+    Refused,
+}
 
-pub const SKIPPED: usize = 1;
-
-pub const ABANDONED: usize = 2;
-
-pub const OPEN: usize = 3;
-
-pub const BAD: usize = 4;
-
-pub const PASSED_OVER: usize = 5;
-
-pub const OBEYED: usize = 6;
-
-pub const REFUSED: usize = 7;
-
-// Of 64 bits each, which no stream fills.
+// Counts and places of 64 bits, which no stream fills.
 #[derive(Clone, Copy)]
 pub struct Tally {
     // The place of the part that comes next.
@@ -44,9 +38,8 @@ pub struct Tally {
     pub bad: u64,
     pub abandoned: u64,
     pub answers: u64,
-    // Whether there is a tail, and its place.
-    pub tail: bool,
-    pub tail_place: u64,
+    // The place of the tail.
+    pub tail: Option<u64>,
 }
 
 pub const NOTHING_COUNTED: Tally = Tally {
@@ -61,94 +54,109 @@ pub const NOTHING_COUNTED: Tally = Tally {
     bad: 0,
     abandoned: 0,
     answers: 0,
-    tail: false,
-    tail_place: 0,
+    tail: None,
 };
-
-// How many bytes stand from one place up to another: none if that is no further.
-fn bytes_between(from: usize, to: usize) -> u64
-    ensures { result ≡ to - from }
-{
-    if to < from {
-        return 0;
-    }
-    (to - from) as u64
-}
 
 // How long a part is that is shown by its body, with the bytes that are held no longer.
 pub fn length_of(front: PartAt, dropped: u64) -> u64
     ensures same { result ≡ length_of front dropped }
 {
-    more(bytes_between(front.body, front.body_end), dropped)
+    let held = front.body_end.saturating_sub(front.body);
+    (held as u64).wrapping_add(dropped)
 }
 
-// A count, with so many more if they are counted there.
-fn more_if(counts: bool, count: u64, n: u64) -> u64
-    ensures { result ≡ more_if counts count n }
+// Whether a part was answered: by so many bytes, or always by what became of it.
+fn is_answered(fate: Fate, written: usize) -> bool
+    ensures { result ≡ is_answered fate written }
 {
-    if counts {
-        return more(count, n);
+    match fate {
+        Fate::Abandoned | Fate::Bad | Fate::Refused => true,
+        _ => written > 0,
     }
-    count
 }
 
-// An open frame is the tail.
-fn tail_place(tally: Tally, fate: usize) -> u64
-    ensures { result ≡ tail_place_after tally fate }
+// A count, with one more if it is counted there.
+fn more_if(counts: bool, count: u64) -> u64
+    ensures { result ≡ more_if counts count 1 }
 {
-    if fate == OPEN {
-        return tally.place;
-    }
-    tally.tail_place
+    count.wrapping_add(counts as u64)
 }
 
 // A part that began at a place of the window and was answered by so many bytes. The next one stands behind it.
-pub fn counted(tally: Tally, fate: usize, at: usize, front: PartAt, written: usize) -> Tally
+#[tactic(auto, unfolding(crate::specs::Tally::tally_after))]
+pub fn counted(tally: Tally, fate: Fate, at: usize, front: PartAt, written: usize) -> Tally
     ensures same { result ≡ tally_after tally fate at front written }
 {
     let length = length_of(front, tally.dropped);
-    let whole = more(bytes_between(at, front.end), tally.dropped);
-    Tally {
-        place: more(tally.place, whole),
+    let held = front.end.saturating_sub(at);
+    let behind = Tally {
+        place: tally
+            .place
+            .wrapping_add((held as u64).wrapping_add(tally.dropped)),
         dropped: 0,
         others: false,
-        text: more_if(fate == STORED, tally.text, length),
-        skipped: more_if(fate == SKIPPED, tally.skipped, length),
-        obeyed: more_if(fate == OBEYED, tally.obeyed, 1),
-        passed_over: more_if(fate == PASSED_OVER, tally.passed_over, 1),
-        refused: more_if(fate == REFUSED, tally.refused, 1),
-        bad: more_if(fate == BAD, tally.bad, 1),
-        abandoned: more_if(fate == ABANDONED, tally.abandoned, 1),
-        answers: more_if(
-            (0 < written) | (fate == REFUSED) | (fate == BAD) | (fate == ABANDONED),
-            tally.answers,
-            1,
-        ),
-        tail: tally.tail | (fate == OPEN),
-        tail_place: tail_place(tally, fate),
+        answers: more_if(is_answered(fate, written), tally.answers),
+        ..tally
+    };
+    match fate {
+        Fate::Stored => Tally {
+            text: tally.text.wrapping_add(length),
+            ..behind
+        },
+        Fate::Skipped => Tally {
+            skipped: tally.skipped.wrapping_add(length),
+            ..behind
+        },
+        Fate::Abandoned => Tally {
+            abandoned: tally.abandoned.wrapping_add(1),
+            ..behind
+        },
+        Fate::Open => Tally {
+            tail: Some(tally.place),
+            ..behind
+        },
+        Fate::Bad => Tally {
+            bad: tally.bad.wrapping_add(1),
+            ..behind
+        },
+        Fate::PassedOver => Tally {
+            passed_over: tally.passed_over.wrapping_add(1),
+            ..behind
+        },
+        Fate::Obeyed => Tally {
+            obeyed: tally.obeyed.wrapping_add(1),
+            ..behind
+        },
+        Fate::Refused => Tally {
+            refused: tally.refused.wrapping_add(1),
+            ..behind
+        },
     }
 }
 
 // The line that sums up. Only the sister's record refuses frames, so only her line counts them.
-pub fn say_tally(host: &Host, t: Tally, sister: bool) {
-    let judged = more(t.passed_over, more(t.refused, t.bad));
+pub fn say_tally(host: &Host, t: &Tally, sister: bool) {
+    let closed = t
+        .obeyed
+        .wrapping_add(t.passed_over)
+        .wrapping_add(t.refused)
+        .wrapping_add(t.bad);
     say_place(host, t.place);
-    say_words(host, words::END);
+    say(host, words::END);
     say_count(host, words::TEXT_BYTES, t.text);
     say_count(host, words::SKIPPED_BYTES, t.skipped);
-    say_count(host, words::CLOSED_FRAMES, more(t.obeyed, judged));
-    say_count(host, words::OBEYED, t.obeyed);
-    say_count(host, words::PASSED_OVER, t.passed_over);
+    say_count(host, words::CLOSED_FRAMES, closed);
+    say_count(host, words::OF_THESE_OBEYED, t.obeyed);
+    say_count(host, words::OF_THESE_PASSED_OVER, t.passed_over);
     if sister {
-        say_count(host, words::REFUSED, t.refused);
+        say_count(host, words::OF_THESE_REFUSED, t.refused);
     }
-    say_count(host, words::BAD, t.bad);
+    say_count(host, words::OF_THESE_BAD, t.bad);
     say_count(host, words::ABANDONED_FRAMES, t.abandoned);
     say_count(host, words::ANSWERS, t.answers);
-    if t.tail {
-        say_count(host, words::TAIL_AT, t.tail_place);
-    } else {
-        say_words(host, words::NO_TAIL);
+    match t.tail {
+        Some(place) => say_count(host, words::TAIL_AT, place),
+        None => say(host, words::NO_TAIL),
     }
-    say_words(host, words::LINE_END);
+    say(host, words::LINE_END);
 }

@@ -1,280 +1,235 @@
 // What a part of the stream did: it is done to the record, told in a line, and counted.
-ghost use Rattle.std.specs.Prelude.{◌≡◌, ◌<◌, ◌≤◌, length};
+ghost use Rattle.std.specs.Prelude.{◌≡◌, ◌≤◌, length};
 ghost use Rattle.explain.specs.Changes.{has_others};
 
 use crate::commands::{field_out, own_field_out, say_range};
-use crate::doings::say_obeyed;
-use crate::fields::{Field, Sheet, say_takes, sheet_of};
-use crate::part_line::{ROOM, begin_line, changes, say_if_overlong};
-use crate::tally::{
-    ABANDONED, BAD, OBEYED, OPEN, PASSED_OVER, REFUSED, SKIPPED, STORED, Tally, counted, length_of,
-};
+use crate::doings::{Deed, Handset, say_obeyed};
+use crate::fields::{Field, say_takes};
+use crate::part_line::{begin_line, say, say_count, say_if_overlong};
+use crate::tally::{Fate, Tally, counted, length_of};
 use crate::text::say_stored;
-use crate::words::{CR, FATES, FATES_ENDS, LF, LINE_END, NOTHING_CHANGED, say_count, say_words};
+use crate::words;
 use command::Reading;
 use lists::{CARRIAGE_RETURN, LINE_FEED};
 use parts::{Kind, PartAt};
 use program::Host;
-use record::{Edition, Small};
+use record::{Edition, LONGEST_FRAME, Small};
 use sister_command::SisterReading;
-use std::num::wrapping_add_u64 as more;
-use stream::FedLent;
 use verdict::Verdict;
 
-const TEXT: usize = 104;
-
-const PICTURE: usize = 672;
-
-const FRAME: usize = record::LONGEST_FRAME;
-
-// The record behind the parts that were told, but for its text and its picture, and what was counted of them.
-#[derive(Clone, Copy)]
-pub struct Progress {
-    pub small: Small,
-    pub tally: Tally,
-}
+// For answers: any room does that takes the longest one, the version's 29 bytes.
+const ROOM: usize = 64;
 
 // Parts that change nothing.
 
-// How a frame reads in the record's edition. What the sister alone has is bad here, as pictures are.
-fn reading_in(edition: Edition, frame: &[u8]) -> Reading {
+// How a frame reads in the record's edition. What the sister alone has is no reading here, as pictures are none.
+fn reading_in(edition: &Edition, frame: &[u8]) -> Option<Reading> {
     if edition.sister {
-        return sister_command::read_shared(frame);
+        sister_command::read_shared(frame)
+    } else {
+        command::read_command(frame)
     }
-    command::read_command(frame)
 }
 
 // A label has no number, so it is a picture or the sister's own.
 fn say_takes_else(host: &Host, frame: &[u8], out: u16) {
-    match sister_command::read_sister(frame) {
-        SisterReading::Own(c) => say_takes(host, own_field_out(c, out), 0),
-        _ => say_takes(host, Field::PictureRow, 0),
+    let field = match sister_command::read_sister(frame) {
+        Some(SisterReading::Own(c)) => own_field_out(c, out),
+        _ => Some(Field::PictureRow),
+    };
+    if let Some(field) = field {
+        say_takes(host, field, 0);
     }
 }
 
-fn say_passed_over(host: &Host, small: Small, frame: &[u8]) {
-    let verdict = verdict::judge_in(small.settings, small.edition, frame);
-    let Verdict::PassedOver(out) = verdict else {
+fn say_passed_over(host: &Host, small: &Small, frame: &[u8]) {
+    let Verdict::PassedOver(out) = verdict::judge_in(small.settings, small.edition, frame) else {
         return;
     };
-    match reading_in(small.edition, frame) {
-        Reading::Plain(c) => say_range(host, field_out(c, out), small.settings.screen.mode),
+    match reading_in(&small.edition, frame) {
+        Some(Reading::Plain(c)) => {
+            if let Some(field) = field_out(c, out) {
+                say_range(host, field, small.settings.screen.mode);
+            }
+        }
         _ => say_takes_else(host, frame, out),
     }
 }
 
-// An abandoned frame is answered at the ESC that stands behind it. The sister's question mark has a line end behind it.
-fn say_undone(host: &Host, fate: usize, place: u64, length: u64, sister: bool)
-    requires { fate < 8 }
-{
-    say_count(host, FATES + fate, more(more(place, 1), length));
-    if (fate == ABANDONED) | (fate == OPEN) | (fate == BAD) {
-        say_if_overlong(host, length);
+// The sister's question mark has a line end behind it.
+fn say_answered(host: &Host, sister: bool) {
+    say(host, words::ANSWERED_MARK);
+    if sister {
+        say(host, words::CR);
+        say(host, words::LF);
     }
-    say_words(host, FATES_ENDS + fate);
-    if sister & ((fate == ABANDONED) | (fate == BAD) | (fate == REFUSED)) {
-        say_words(host, CR);
-        say_words(host, LF);
+}
+
+// What became of a part that changes nothing. An abandoned frame is answered at the ESC that stands behind it.
+fn say_undone(host: &Host, fate: Fate, place: u64, length: u64, small: &Small, body: &[u8]) {
+    let sister = small.edition.sister;
+    match fate {
+        Fate::Stored | Fate::Obeyed => {}
+        Fate::Skipped => say(host, words::NOTHING_DONE),
+        Fate::Abandoned => {
+            let behind = place.wrapping_add(1).wrapping_add(length);
+            say_count(host, words::ABANDONED_AT, behind);
+            say_if_overlong(host, length);
+            say_answered(host, sister);
+        }
+        Fate::Open => {
+            say(host, words::STILL_OPEN);
+            say_if_overlong(host, length);
+            say(host, words::NOTHING_DONE_YET);
+        }
+        Fate::Bad => {
+            say(host, words::BAD);
+            say_if_overlong(host, length);
+            say_answered(host, sister);
+        }
+        Fate::PassedOver => {
+            say(host, words::PASSED_OVER);
+            say_passed_over(host, small, body);
+        }
+        Fate::Refused => {
+            say(host, words::REFUSED);
+            say_answered(host, sister);
+        }
+    }
+}
+
+fn changes_record(fate: Fate) -> bool {
+    matches!(fate, Fate::Stored | Fate::Obeyed)
+}
+
+// What stands at a place, by what becomes of it.
+fn name_of(fate: Fate) -> &'static [u8] {
+    match fate {
+        Fate::Stored => words::TEXT,
+        Fate::Skipped => words::SKIPPED,
+        Fate::Open => words::TAIL,
+        _ => words::FRAME,
     }
 }
 
 // Says what stands at a place and, of a part that changes nothing, what became of it.
-fn say_part(host: &Host, fate: usize, place: u64, length: u64, small: Small, body: &[u8])
-    requires { fate < 8 }
-{
-    begin_line(host, place, fate, body);
-    if (fate == STORED) | (fate == OBEYED) {
-        return;
+fn say_part(host: &Host, fate: Fate, place: u64, length: u64, small: &Small, body: &[u8]) {
+    begin_line(host, place, name_of(fate), body);
+    if !changes_record(fate) {
+        say_undone(host, fate, place, length, small, body);
+        say(host, words::LINE_END);
     }
-    say_undone(host, fate, place, length, small.edition.sister);
-    if fate == PASSED_OVER {
-        say_passed_over(host, small, body);
-    }
-    say_words(host, LINE_END);
 }
 
 // Whether any of these codes is no line end.
 pub fn has_others(codes: &[u8]) -> bool
     ensures same { result ≡ has_others codes.now }
 {
-    for i in 0..codes.len() {
-        if (codes[i] == CARRIAGE_RETURN) | (codes[i] == LINE_FEED) {
-            continue;
+    // A loop: with `any` this equation stayed open, since its clause is a relation.
+    for &code in codes {
+        if !matches!(code, CARRIAGE_RETURN | LINE_FEED) {
+            return true;
         }
-        return true;
     }
     false
 }
 
-// Says what stands at a place, and what becomes of it. Line ends alone have no line, unless all are to have one.
-fn say_front(
-    host: &Host,
-    window: &[u8],
-    front: PartAt,
-    small: Small,
-    tally: Tally,
-    all: bool,
-) -> usize
-    requires { (front.body ≤ front.body_end) × (front.body_end ≤ length window.now) }
-{
-    let start = front.body;
-    let end = front.body_end;
-    let kind = front.kind;
-    let body = &window[start..end];
-    let fate = fate_of(kind, small, body);
-    if all | tally.others | (fate != SKIPPED) | has_others(body) {
-        say_part(
-            host,
-            fate,
-            tally.place,
-            length_of(front, tally.dropped),
-            small,
-            body,
-        );
-    }
-    fate
-}
-
 // Parts that change the record.
 
-// Where the bytes end that are handed to the handset: of a part that changes nothing there are none.
-fn fed_end(fate: usize, start: usize, end: usize) -> usize
-    requires { start ≤ end }
-    ensures { (start ≤ result) × (result ≤ end) }
-{
-    if (fate == STORED) | (fate == OBEYED) {
-        return end;
-    }
-    start
-}
-
-// Hands bytes to the handset. Behind a whole part no frame is open.
-fn feed(
-    small: Small,
-    text: &mut [u8; TEXT],
-    picture: &mut [u8; PICTURE],
-    bytes: &[u8],
-    answers: &mut [u8; ROOM],
-) -> FedLent {
-    let mut frame = [0u8; FRAME];
-    stream::feed_lent(small, text, picture, &mut frame, bytes, answers)
-}
-
-fn changed_columns(before: &[u8; PICTURE], after: &[u8; PICTURE]) -> u64 {
-    changes(before, after, 0, PICTURE)
+// Hands bytes to the handset, and says how many answer them. Behind a whole part no frame is open.
+fn feed(handset: &mut Handset, bytes: &[u8], answers: &mut [u8; ROOM]) -> usize {
+    let mut frame = [0u8; LONGEST_FRAME];
+    let fed = stream::feed_lent(
+        handset.small,
+        &mut handset.text,
+        &mut handset.picture,
+        &mut frame,
+        bytes,
+        answers,
+    );
+    handset.small = fed.small;
+    fed.written
 }
 
 // What a part changed.
-fn say_done(
-    host: &Host,
-    fate: usize,
-    window: &[u8],
-    front: PartAt,
-    dropped: u64,
-    edition: Edition,
-    was: &Sheet,
-    is: &Sheet,
-    before: &[u8; TEXT],
-    after: &[u8; TEXT],
-    columns: u64,
-    answers: &[u8; ROOM],
-    written: usize,
-)
-    requires { (front.body ≤ front.body_end) × (front.body_end ≤ length window.now) }
-{
-    if fate == STORED {
-        say_stored(host, was, is, length_of(front, dropped));
-        say_words(host, LINE_END);
-    }
-    if fate == OBEYED {
-        let start = front.body;
-        let end = front.body_end;
-        let frame = &window[start..end];
-        let done = say_obeyed(
+fn say_done(host: &Host, fate: Fate, body: &[u8], length: u64, deed: &Deed) {
+    if fate == Fate::Stored {
+        say_stored(
             host,
-            reading_in(edition, frame),
-            frame,
-            was,
-            is,
-            before,
-            after,
-            columns,
-            answers,
-            written,
+            &deed.was.small.settings.screen,
+            &deed.is.small.settings.screen,
+            length,
         );
-        if !done {
-            say_words(host, NOTHING_CHANGED);
+    } else {
+        let reading = reading_in(&deed.was.small.edition, body);
+        if !say_obeyed(host, reading, body, deed) {
+            say(host, words::NOTHING_CHANGED);
         }
-        say_words(host, LINE_END);
     }
+    say(host, words::LINE_END);
+}
+
+// Does what a part says, tells it, and says how many bytes answer it.
+fn obey(
+    host: &Host,
+    handset: &mut Handset,
+    fate: Fate,
+    bytes: &[u8],
+    body: &[u8],
+    length: u64,
+) -> usize {
+    let was = *handset;
+    let mut answers = [0u8; ROOM];
+    let written = feed(handset, bytes, &mut answers);
+    let deed = Deed {
+        was: &was,
+        is: handset,
+        answer: &answers[..written.min(ROOM)],
+    };
+    say_done(host, fate, body, length, &deed);
+    written
 }
 
 // Any part.
 
-fn judged(small: Small, frame: &[u8]) -> usize
-    ensures { result < 8 }
-{
-    match verdict::judge_in(small.settings, small.edition, frame) {
-        Verdict::Bad => BAD,
-        Verdict::PassedOver(_) => PASSED_OVER,
-        Verdict::Obeyed => OBEYED,
-        Verdict::Refused => REFUSED,
-    }
-}
-
 // What becomes of a part in a record, by its body.
-fn fate_of(kind: Kind, small: Small, body: &[u8]) -> usize
-    ensures { result < 8 }
-{
+fn fate_of(kind: Kind, small: &Small, body: &[u8]) -> Fate {
     match kind {
-        Kind::Text => STORED,
-        Kind::Skipped => SKIPPED,
-        Kind::Closed => judged(small, body),
-        Kind::Abandoned => ABANDONED,
-        _ => OPEN,
+        Kind::Text => Fate::Stored,
+        Kind::Skipped => Fate::Skipped,
+        Kind::Closed => match verdict::judge_in(small.settings, small.edition, body) {
+            Verdict::Bad => Fate::Bad,
+            Verdict::PassedOver(_) => Fate::PassedOver,
+            Verdict::Obeyed => Fate::Obeyed,
+            Verdict::Refused => Fate::Refused,
+        },
+        Kind::Abandoned => Fate::Abandoned,
+        Kind::Tail => Fate::Open,
     }
 }
 
-// Does, tells and counts the part that begins at a place of the window.
+// Does, tells and counts the part that begins at a place of the window. Line ends alone have no line, unless all are to have one.
 pub fn tell_front(
     host: &Host,
-    before: Progress,
-    text: &mut [u8; TEXT],
-    picture: &mut [u8; PICTURE],
+    handset: &mut Handset,
+    tally: Tally,
     window: &[u8],
     at: usize,
     front: PartAt,
     all: bool,
-) -> Progress
+) -> Tally
     requires { (at ≤ front.end) × (front.end ≤ length window.now) × (front.body ≤ front.body_end) × (front.body_end ≤ front.end) }
 {
-    let mut answers = [0u8; ROOM];
-    let old_text = *text;
-    let old_picture = *picture;
-    let fate = say_front(host, window, front, before.small, before.tally, all);
-    let was = sheet_of(before.small);
-    let end = fed_end(fate, at, front.end);
-    let fed = feed(before.small, text, picture, &window[at..end], &mut answers);
-    let is = sheet_of(fed.small);
-    let columns = changed_columns(&old_picture, picture);
-    say_done(
-        host,
-        fate,
-        window,
-        front,
-        before.tally.dropped,
-        before.small.edition,
-        &was,
-        &is,
-        &old_text,
-        text,
-        columns,
-        &answers,
-        fed.written,
-    );
-    let after = fed.small;
-    Progress {
-        small: after,
-        tally: counted(before.tally, fate, at, front, fed.written),
+    let body = &window[front.body..front.body_end];
+    let length = length_of(front, tally.dropped);
+    let fate = fate_of(front.kind, &handset.small, body);
+    if all || tally.others || fate != Fate::Skipped || has_others(body) {
+        say_part(host, fate, tally.place, length, &handset.small, body);
     }
+    let written = if changes_record(fate) {
+        obey(host, handset, fate, &window[at..front.end], body, length)
+    } else {
+        0
+    };
+    counted(tally, fate, at, front, written)
 }

@@ -1,34 +1,24 @@
 // What became of the text: codes that were stored in a line, and lines that were cleared.
-use crate::fields::{COLUMN_AT, MODE_AT, ROW_AT, Sheet};
-use crate::part_line::{changes, say_columns, say_comma, say_number, wide};
+use crate::part_line::{say, say_columns, say_comma, say_count, say_number};
 use crate::words;
-use crate::words::{say_count, say_words};
 use program::Host;
-use record::LARGE;
+use record::{LARGE, Screen, Text};
 
-// The text rows are lines 0 to 4 and, behind them, the large line.
-const LARGE_LINE: u8 = 5;
-
-const LINES: u8 = 6;
-
+// The text rows, of so many codes each. Behind them stands the large line, which is no row.
 const ROW: usize = 16;
 
-const TEXT: usize = 104;
+const ROWS_END: usize = 80;
 
-// Which line the cursor stands in.
-fn line_of(s: &Sheet) -> u8 {
-    if s[MODE_AT] == LARGE {
-        return LARGE_LINE;
-    }
-    s[ROW_AT]
+// Which row the cursor stands in; none in the large line.
+fn row_of(screen: &Screen) -> Option<u8> {
+    (screen.mode != LARGE).then_some(screen.row)
 }
 
-fn say_line(host: &Host, line: u8) {
-    if line == LARGE_LINE {
-        say_words(host, words::LARGE_LINE);
-        return;
+fn say_line(host: &Host, row: Option<u8>) {
+    match row {
+        Some(row) => say_count(host, words::ROW, row as u64),
+        None => say(host, words::LARGE_LINE),
     }
-    say_count(host, words::ROW, line as u64);
 }
 
 // Stored codes.
@@ -36,72 +26,66 @@ fn say_line(host: &Host, line: u8) {
 fn say_dropped(host: &Host, n: u64) {
     say_number(host, n);
     if n == 1 {
-        say_words(host, words::CODE_DROPPED);
-        return;
+        say(host, words::CODE_DROPPED);
+    } else {
+        say(host, words::CODES_DROPPED);
     }
-    say_words(host, words::CODES_DROPPED);
 }
 
 // Of so many codes, which began at the cursor and ended before a column, those that found no place were dropped.
-pub fn say_stored(host: &Host, was: &Sheet, is: &Sheet, length: u64) {
-    let column = wide(was[COLUMN_AT]);
-    let end = wide(is[COLUMN_AT]);
-    say_line(host, line_of(was));
+pub fn say_stored(host: &Host, was: &Screen, is: &Screen, length: u64) {
+    let column = was.column as u64;
+    let end = is.column as u64;
+    say_line(host, row_of(was));
     if end <= column {
-        say_words(host, words::IS_FULL);
-        say_words(host, words::COLON);
+        say(host, words::IS_FULL);
+        say(host, words::COLON);
         say_dropped(host, length);
         return;
     }
-    say_words(host, words::COMMA);
+    say(host, words::COMMA);
     say_columns(host, column, end - 1);
     let stored = end - column;
     if stored < length {
-        say_words(host, words::COMMA);
+        say(host, words::COMMA);
         say_dropped(host, length - stored);
     }
 }
 
 // Cleared lines.
 
-// Where the codes of a line end: the large line has the rest.
-fn line_end(line: u8) -> usize {
-    if line < LARGE_LINE {
-        return (line as usize + 1) * ROW;
+// A line, if it has changed. Says whether any line has been said by then.
+fn say_if_cleared(host: &Host, row: Option<u8>, before: &[u8], after: &[u8], said: bool) -> bool {
+    if before == after {
+        return said;
     }
-    TEXT
-}
-
-// Whether a line has changed.
-fn line_differs(before: &[u8; TEXT], after: &[u8; TEXT], line: u8) -> bool {
-    0 < changes(before, after, line as usize * ROW, line_end(line))
+    say_comma(host, said);
+    say_line(host, row);
+    say(host, words::CLEARED);
+    true
 }
 
 // The lines that have changed, and whether there are any.
-pub fn say_cleared_lines(host: &Host, before: &[u8; TEXT], after: &[u8; TEXT]) -> bool {
+pub fn say_cleared_lines(host: &Host, before: &Text, after: &Text) -> bool {
+    let rows_before = before[..ROWS_END].chunks_exact(ROW);
+    let rows_after = after[..ROWS_END].chunks_exact(ROW);
     let mut said = false;
-    for line in 0..LINES {
-        if line_differs(before, after, line) {
-            say_comma(host, said);
-            say_line(host, line);
-            say_words(host, words::CLEARED);
-            said = true;
-        }
+    for (row, (was, is)) in (0..).zip(rows_before.zip(rows_after)) {
+        said = say_if_cleared(host, Some(row), was, is, said);
     }
-    said
+    say_if_cleared(host, None, &before[ROWS_END..], &after[ROWS_END..], said)
 }
 
 // The cursor's line, from the cursor on; and whether that changed it. At the line's end nothing is left to clear.
-pub fn say_cleared_line(host: &Host, before: &[u8; TEXT], after: &[u8; TEXT], s: &Sheet) -> bool {
-    let column = wide(s[COLUMN_AT]);
-    say_line(host, line_of(s));
-    if wide(record::row_end(s[MODE_AT])) <= column {
-        say_words(host, words::IS_FULL);
+pub fn say_cleared_line(host: &Host, before: &Text, after: &Text, screen: &Screen) -> bool {
+    say_line(host, row_of(screen));
+    if record::row_end(screen.mode) <= screen.column {
+        say(host, words::IS_FULL);
         return false;
     }
-    say_words(host, words::CLEARED);
-    if 0 < column {
-        say_count(host, words::FROM_COLUMN, column);
+    say(host, words::CLEARED);
+    if screen.column > 0 {
+        say_count(host, words::FROM_COLUMN, screen.column as u64);
     }
-    0 < changes(before, after, 0, TEXT)
+    before != after
 }

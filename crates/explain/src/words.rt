@@ -1,180 +1,131 @@
-// What is said, but for the words of fields, by name: the words themselves stand in the table below, in the same order. The first
-// ones are for parts, by what becomes of them: what stands there, what was done, and how that ends.
-use crate::part_line::say_entry;
-use program::Host;
+// What is said, but for the words of fields, by name: these are read aloud on the telephone, so a thing has the same words in every line.
 
-pub const FATES: usize = 8;
+pub const COMMA: &[u8] = b", ";
 
-pub const FATES_ENDS: usize = 16;
+pub const COLON: &[u8] = b": ";
 
-pub const COMMA: usize = 24;
+pub const BLANKS: &[u8] = b"  ";
 
-pub const COLON: usize = 25;
+pub const LINE_END: &[u8] = b"\n";
 
-pub const BLANKS: usize = 26;
+pub const DOTS: &[u8] = b"..  ";
 
-pub const LINE_END: usize = 27;
+pub const ESC: &[u8] = b"ESC ";
 
-pub const DOTS: usize = 28;
+pub const CR: &[u8] = b" CR";
 
-pub const ESC: usize = 29;
+pub const LF: &[u8] = b" LF";
 
-pub const CR: usize = 30;
+// What stands at a place.
 
-pub const LF: usize = 31;
+pub const TEXT: &[u8] = b"text     ";
 
-pub const ANSWERED: usize = 32;
+pub const SKIPPED: &[u8] = b"skipped  ";
 
-pub const COLUMN: usize = 33;
+pub const FRAME: &[u8] = b"frame    ";
 
-pub const COLUMNS: usize = 34;
+pub const TAIL: &[u8] = b"tail     ";
 
-pub const TO: usize = 35;
+pub const END: &[u8] = b"end      ";
 
-pub const MORE_THAN: usize = 36;
+// What became of it.
 
-pub const ROW: usize = 37;
+pub const NOTHING_DONE: &[u8] = b"nothing done";
 
-pub const LARGE_LINE: usize = 38;
+pub const ABANDONED_AT: &[u8] = b"abandoned by the ESC at ";
 
-pub const IS_FULL: usize = 39;
+pub const STILL_OPEN: &[u8] = b"still open";
 
-pub const CODE_DROPPED: usize = 40;
+pub const BAD: &[u8] = b"bad";
 
-pub const CODES_DROPPED: usize = 41;
+pub const PASSED_OVER: &[u8] = b"passed over: ";
 
-pub const CLEARED: usize = 42;
+pub const REFUSED: &[u8] = b"refused by the state it is in";
 
-pub const FROM_COLUMN: usize = 43;
+pub const ANSWERED_MARK: &[u8] = b": answered ?";
 
-pub const ALL_CLEARED: usize = 44;
+pub const NOTHING_DONE_YET: &[u8] = b": nothing done yet";
 
-pub const PICTURE_ROW: usize = 45;
+pub const ANSWERED: &[u8] = b": answered ";
 
-pub const CHANGED: usize = 46;
+pub const MORE_THAN: &[u8] = b" bytes, more than ";
 
-pub const NOTHING_CHANGED: usize = 47;
+// Rows and columns.
 
-pub const CONTRAST_ASKED: usize = 48;
+pub const COLUMN: &[u8] = b"column ";
 
-pub const HOOK_ASKED: usize = 49;
+pub const COLUMNS: &[u8] = b"columns ";
 
-pub const VERSION_ASKED: usize = 50;
+pub const TO: &[u8] = b" to ";
 
-pub const ASKED: usize = 51;
+pub const ROW: &[u8] = b"row ";
 
-pub const RESTART: usize = 52;
+pub const LARGE_LINE: &[u8] = b"large line";
 
-pub const DONE: usize = 53;
+pub const IS_FULL: &[u8] = b" is full";
 
-pub const OPENING: usize = 54;
+pub const CODE_DROPPED: &[u8] = b" code dropped";
 
-pub const CLOSING: usize = 55;
+pub const CODES_DROPPED: &[u8] = b" codes dropped";
 
-pub const IN_MODE: usize = 56;
+pub const CLEARED: &[u8] = b" cleared";
 
-pub const TEXT_BYTES: usize = 57;
+pub const FROM_COLUMN: &[u8] = b" from column ";
 
-pub const SKIPPED_BYTES: usize = 58;
+pub const ALL_CLEARED: &[u8] = b"all text cleared, ";
 
-pub const CLOSED_FRAMES: usize = 59;
+pub const PICTURE_ROW: &[u8] = b"picture row ";
 
-pub const OBEYED: usize = 60;
+// What an obeyed frame did.
 
-pub const PASSED_OVER: usize = 61;
+pub const CHANGED: &[u8] = b" changed";
 
-pub const REFUSED: usize = 62;
+pub const NOTHING_CHANGED: &[u8] = b": nothing changed";
 
-pub const BAD: usize = 63;
+pub const CONTRAST_ASKED: &[u8] = b"contrast asked";
 
-pub const ABANDONED_FRAMES: usize = 64;
+pub const HOOK_ASKED: &[u8] = b"hook asked";
 
-pub const ANSWERS: usize = 65;
+pub const VERSION_ASKED: &[u8] = b"version asked";
 
-pub const TAIL_AT: usize = 66;
+pub const ASKED: &[u8] = b"asked";
 
-pub const NO_TAIL: usize = 67;
+pub const RESTART: &[u8] = b"restart to power-on, stored numbers kept";
 
-pub const END: usize = 68;
+pub const DONE: &[u8] = b"obeyed";
 
-// Words with a number behind them.
-pub fn say_count(host: &Host, words: usize, n: u64) {
-    say_entry(
-        host,
-        b"text     |\
-        skipped  |\
-        frame    |\
-        tail     |\
-        frame    |\
-        frame    |\
-        frame    |\
-        frame    |\
-        |\
-        nothing done|\
-        abandoned by the ESC at #|\
-        still open|\
-        bad|\
-        passed over: |\
-        |\
-        refused by the state it is in|\
-        |\
-        |\
-        : answered ?|\
-        : nothing done yet|\
-        : answered ?|\
-        |\
-        |\
-        : answered ?|\
-        , |\
-        : |\
-        \x20 |\
-        \n|\
-        ..  |\
-        ESC |\
-        \x20CR|\
-        \x20LF|\
-        : answered |\
-        column #|\
-        columns #|\
-        \x20to |\
-        \x20bytes, more than #|\
-        row #|\
-        large line|\
-        \x20is full|\
-        \x20code dropped|\
-        \x20codes dropped|\
-        \x20cleared|\
-        \x20from column #|\
-        all text cleared, |\
-        picture row #|\
-        \x20changed|\
-        : nothing changed|\
-        contrast asked|\
-        hook asked|\
-        version asked|\
-        asked|\
-        restart to power-on, stored numbers kept|\
-        obeyed|\
-        [|\
-        ]|\
-        \x20in mode #|\
-        text bytes #|\
-        , skipped bytes #|\
-        , closed frames #|\
-        \x20(obeyed #|\
-        , passed over #|\
-        , refused #|\
-        , bad #|\
-        ), abandoned frames #|\
-        , answers #|\
-        , tail at #|\
-        , no tail|\
-        end      |",
-        words,
-        n,
-    );
-}
+// Fields and what their numbers take.
 
-pub fn say_words(host: &Host, words: usize) {
-    say_count(host, words, 0);
-}
+pub const OPENING: &[u8] = b"[";
+
+pub const CLOSING: &[u8] = b"]";
+
+pub const IN_MODE: &[u8] = b" in mode ";
+
+pub const NO_ROW: &[u8] = b"no row can be named";
+
+pub const NO_MARK: &[u8] = b"inverse mark takes only 0";
+
+// The line that sums up.
+
+pub const TEXT_BYTES: &[u8] = b"text bytes ";
+
+pub const SKIPPED_BYTES: &[u8] = b", skipped bytes ";
+
+pub const CLOSED_FRAMES: &[u8] = b", closed frames ";
+
+pub const OF_THESE_OBEYED: &[u8] = b" (obeyed ";
+
+pub const OF_THESE_PASSED_OVER: &[u8] = b", passed over ";
+
+pub const OF_THESE_REFUSED: &[u8] = b", refused ";
+
+pub const OF_THESE_BAD: &[u8] = b", bad ";
+
+pub const ABANDONED_FRAMES: &[u8] = b"), abandoned frames ";
+
+pub const ANSWERS: &[u8] = b", answers ";
+
+pub const TAIL_AT: &[u8] = b", tail at ";
+
+pub const NO_TAIL: &[u8] = b", no tail";

@@ -1,18 +1,17 @@
 -- A reader of frames: its commands, how each is spelt, its table, and how the first bytes and the numbers of an accepted frame pick the
 -- command. What follows from the tests is proved here once for every reader: it agrees with the grammar, a frame spells one command,
 -- a command has one spelling. Assumes nothing.
-use Prim.Native.Nat.{ℕ, zero, suc, ◌<◌, ◌≤◌}
-use Rattle.std.proofs.Common.{arith, true≢false, sym, ap₂, ◌∙◌, subst, leb-true, le-leb}
-use Rattle.std.specs.Prelude.{Bool, true, ◌&&◌, false, ◌↔◌, ◌≡◌, refl, leb, length}
+use Prim.Native.Nat.{ℕ, zero, suc, ◌≤◌}
+use Rattle.std.proofs.Common.{arith, true≢false, sym, ap₂, ◌∙◌, subst, leb-true}
+use Rattle.std.specs.Prelude.{Bool, true, ◌&&◌, false, ◌↔◌, ◌≡◌, refl, leb, length, Option, Some, None, option_and_then}
 use Rattle.std.proofs.Math.Bool.{cond}
 use mathlib.Core.List.{List, [], ◌∷◌, ◌++◌, map}
 use Rattle.std.proofs.Math.Path.{ap}
-use Rattle.std.proofs.lemmas.Bool.{lt-leb}
+use Rattle.std.proofs.lemmas.Option.{none-some}
 use Rattle.lists.specs.Both.{both}
 use Rattle.lists.specs.Tests.{by_test}
 use Rattle.numeral.specs.Laws.{one_spelling}
 use Rattle.frame_table.specs.declared.Numbers.{Numbers}
-use Rattle.frame_table.specs.declared.Found.{Found}
 use Rattle.frame_table.specs.Pieces.{Piece, sign, number, digit, text, columns, Matches, end, signs, digits}
 use Rattle.frame_table.specs.Kinds.{Kind, of_kind, first_of, others_of}
 use Rattle.frame_table.specs.Rest.{Mark, fits, fits_append, fits_none}
@@ -21,7 +20,7 @@ use Rattle.frame_table.specs.Numbers.{pair, numbers_from, numbers_told, begins_e
 use Rattle.frame_table.specs.Opens.{heads, opens, Every, opened}
 use Rattle.frame_table.specs.Table.{Table, state_from, accepts, listed, whole, right}
 use Rattle.frame_table.specs.Accepts.{same_marks_lem, accepts_right}
-use Rattle.frame_table.specs.Run.{found_in}
+use Rattle.frame_table.specs.Run.{accepted_in}
 
 -- so many of two numbers: none, the first, or both
 abbrev pub numbered : ℕ → ℕ → ℕ → List ℕ
@@ -31,16 +30,10 @@ numbered (suc (suc k)) m n = m ∷ n ∷ []
 
 pub record Reader : Type 1 where
   pub Command : Type 0
-  -- what the reader answers: bad, or a command
-  pub Reading : Type 0
-  pub bad : Reading
-  pub plain : Command → Reading
-  pub never_bad : (c : Command) → plain c ≡ bad → ⊥
-  pub same_plain : (c c' : Command) → plain c ≡ plain c' → c ≡ c'
   -- how a command is spelt, and the command of an accepted frame by so many first bytes and its numbers
   pub form : Command → List Piece
   pub depth : ℕ
-  pub pick : List ℕ → Numbers → Reading
+  pub pick : List ℕ → Numbers → Option Command
   -- the first bytes of frames that are no commands: labels and pictures
   pub others : List ℕ → Bool
   -- each kind of command, by its numbers
@@ -61,12 +54,12 @@ module _ (e : Reader) where
   abbrev pub Spells : e.Command → List ℕ → Type 0
   Spells c f = Matches (e.form c) f
 
-  -- WHAT THE READER FINDS, by a table of classes and one of next states; and by its own
-  unfoldable pub read_with : List ℕ → List ℕ → List ℕ → e.Reading
+  -- WHAT THE READER FINDS, by a table of classes and one of next states; and by its own: a command, or None in a bad frame
+  unfoldable pub read_with : List ℕ → List ℕ → List ℕ → Option e.Command
   read_with class next f =
-      cond (leb e.table.good (state_from class next e.table.states 1 f)) (e.pick (heads e.depth f) (numbers_from (pair 0 0) f)) e.bad
+      cond (leb e.table.good (state_from class next e.table.states 1 f)) (e.pick (heads e.depth f) (numbers_from (pair 0 0) f)) None
 
-  abbrev pub reading : List ℕ → e.Reading
+  abbrev pub reading : List ℕ → Option e.Command
   reading f = read_with e.table.class e.table.next f
 
   -- The tests of a kind with two numbers. Its form is signs and numbers, it is in the table, each of its numbers begins anew; whatever first
@@ -80,7 +73,7 @@ module _ (e : Reader) where
 
   pub record Test : Type 0 where
     pub known : Bool
-    pub picks : List e.Reading
+    pub picks : List (Option e.Command)
     pub others : List Bool
     pub marked : List Mark
     pub numbers : List ℕ
@@ -103,7 +96,7 @@ module _ (e : Reader) where
       let c = k m n in
       record {
         known = true;
-        picks = map (λ (w : List ℕ). e.plain c) (opens_of c);
+        picks = map (λ (w : List ℕ). Some c) (opens_of c);
         others = map (λ (w : List ℕ). false) (opens_of c);
         marked = marks k;
         numbers = numbered (how_many (marks k)) m n;
@@ -116,17 +109,17 @@ module _ (e : Reader) where
     pub kinds_right : (m n : ℕ) → map (test m n) e.kinds ≡ map (passed m n) e.kinds
     pub kind : (c : e.Command) (f : List ℕ) → Spells c f → Kind e.kinds c
 
--- the reading by where two tables lead: refused, or picked
-module _ (e : Reader) (class next f : List ℕ) (r : Found) (same : r ≡ found_in class next e.table.states f) where
-  by_found : read_with e class next f ≡ cond (leb e.table.good r.state) (e.pick (heads e.depth f) r.numbers) e.bad
-  unfolding read_with found_in
-  by_found = ap (λ (x : Found). cond (leb e.table.good x.state) (e.pick (heads e.depth f) x.numbers) e.bad) (sym same)
+-- the reading by what two tables accept: refused, or picked
+module _ (e : Reader) (class next f : List ℕ) where
+  by_accepted : read_with e class next f ≡ option_and_then (e.pick (heads e.depth f)) (accepted_in class next e.table.states e.table.good f)
+  unfolding read_with accepted_in
+  by_accepted = by_test (leb e.table.good (state_from class next e.table.states 1 f)) (λ h. rw h) (λ h. rw h)
 
-  pub read_refused : r.state < e.table.good → e.bad ≡ read_with e class next f
-  read_refused h = sym (by_found ∙ rw (lt-leb e.table.good r.state h))
+  pub read_refused : accepted_in class next e.table.states e.table.good f ≡ None → None ≡ read_with e class next f
+  read_refused h = sym (by_accepted ∙ rw h)
 
-  pub read_picked : {x : e.Reading} → e.table.good ≤ r.state → x ≡ e.pick (heads e.depth f) r.numbers → x ≡ read_with e class next f
-  read_picked h q = q ∙ sym (by_found ∙ rw (le-leb e.table.good r.state h))
+  pub read_picked : {r : Numbers} {x : Option e.Command} → accepted_in class next e.table.states e.table.good f ≡ Some r → x ≡ e.pick (heads e.depth f) r → x ≡ read_with e class next f
+  read_picked h q = q ∙ sym (by_accepted ∙ rw h)
 
 one_match : (ps : List Piece) {f g : List ℕ} → is_plain ps ≡ true → Matches ps f → Matches ps g → f ≡ g
 one_match [] h end end = refl
@@ -168,6 +161,9 @@ two_of (a ∷ b ∷ []) (suc zero) h l = absurd (omega arith)
 two_of (a ∷ b ∷ []) (suc (suc k)) h l = record { m = a; n = b; same = refl }
 two_of (a ∷ b ∷ c ∷ more) k h l = absurd (omega arith)
 
+same_command : {C : Type 0} (c c' : C) → Some c ≡ Some c' → c ≡ c'
+same_command c c' h = cc
+
 module _ (e : Reader) (t : Tested e) where
   accepted : (f : List ℕ) → accepts e.table f ≡ fits (whole (forms_of e)) f
   accepted f = accepts_right (forms_of e) e.examples e.table t.table_right f
@@ -177,7 +173,7 @@ module _ (e : Reader) (t : Tested e) where
     plain : is_plain (e.form c) ≡ true
     listed : listed (marks_of (e.form c)) (forms_of e) ≡ true
     begins : begins_each (pair 0 0) (e.form c) ≡ true
-    picks : map (λ (w : List ℕ). e.pick w (numbers_told (pair 0 0) (e.form c))) (opens e.depth 0 (marks_of (e.form c))) ≡ map (λ (w : List ℕ). e.plain c) (opens e.depth 0 (marks_of (e.form c)))
+    picks : map (λ (w : List ℕ). e.pick w (numbers_told (pair 0 0) (e.form c))) (opens e.depth 0 (marks_of (e.form c))) ≡ map (λ (w : List ℕ). Some c) (opens e.depth 0 (marks_of (e.form c)))
     others : map e.others (opens e.depth 0 (marks_of (e.form c))) ≡ map (λ (w : List ℕ). false) (opens e.depth 0 (marks_of (e.form c)))
 
   passes : {c : e.Command} → Kind e.kinds c → Passed c
@@ -186,7 +182,7 @@ module _ (e : Reader) (t : Tested e) where
       subst Passed r.is (of_test (r.maker k.m k.n) (ap (λ (x : Test e). x.known) r.same) (ap (λ (x : Test e). x.picks) r.same) (ap (λ (x : Test e). x.others) r.same))
     where
       of_test : (c : e.Command) → is_known e c ≡ true
-          → map (λ (w : List ℕ). e.pick w (numbers_told (pair 0 0) (e.form c))) (opens e.depth 0 (marks_of (e.form c))) ≡ map (λ (w : List ℕ). e.plain c) (opens e.depth 0 (marks_of (e.form c)))
+          → map (λ (w : List ℕ). e.pick w (numbers_told (pair 0 0) (e.form c))) (opens e.depth 0 (marks_of (e.form c))) ≡ map (λ (w : List ℕ). Some c) (opens e.depth 0 (marks_of (e.form c)))
           → map e.others (opens e.depth 0 (marks_of (e.form c))) ≡ map (λ (w : List ℕ). false) (opens e.depth 0 (marks_of (e.form c)))
           → Passed c
       of_test c h p o =
@@ -200,13 +196,13 @@ module _ (e : Reader) (t : Tested e) where
   fit : (c : e.Command) {f : List ℕ} → Spells e c f → fits_one 0 (marks_of (e.form c)) f ≡ true
   fit c {f} s = matched_fits (spelt_passes c f s).plain s
 
-  pub complete : (c : e.Command) (f : List ℕ) → Spells e c f → reading e f ≡ e.plain c
+  pub complete : (c : e.Command) (f : List ℕ) → Spells e c f → reading e f ≡ Some c
   unfolding read_with accepts
   complete c f s =
       let w = spelt_passes c f s in
-      let P : List ℕ → Type 0 = λ x. e.pick x (numbers_told (pair 0 0) (e.form c)) ≡ e.plain c in
+      let P : List ℕ → Type 0 = λ x. e.pick x (numbers_told (pair 0 0) (e.form c)) ≡ Some c in
       rw (accepted f ∙ listed_fits (marks_of (e.form c)) (forms_of e) f w.listed (fit c s), numbers_read (pair 0 0) w.plain w.begins s)
-      (opened e.depth P 0 (marks_of (e.form c)) f (each_picked _ (e.plain c) (opens e.depth 0 (marks_of (e.form c))) w.picks) (fit c s))
+      (opened e.depth P 0 (marks_of (e.form c)) f (each_picked _ (Some c) (opens e.depth 0 (marks_of (e.form c))) w.picks) (fit c s))
 
   -- A command's first bytes are no label's and no picture's.
   pub no_other : (c : e.Command) (f : List ℕ) → Spells e c f → e.others (heads e.depth f) ≡ false
@@ -242,12 +238,12 @@ module _ (e : Reader) (t : Tested e) where
       (λ m n. let t = first_of (same m n) in (ap (λ (x : Test e). x.marked) t, ap (λ (x : Test e). x.numbers) t, ap (λ (x : Test e). x.known) t)) g)
       (λ g. spelt_in ks f (λ m n. others_of (same m n)) g)
 
-  refused : (f : List ℕ) → accepts e.table f ≡ false → reading e f ≡ e.bad
+  refused : (f : List ℕ) → accepts e.table f ≡ false → reading e f ≡ None
   unfolding read_with accepts
   refused f g = rw g
 
   -- What is read is bad, or a command that is spelt.
-  pub by_reading : (P : e.Reading → Type 0) (f : List ℕ) → P e.bad → ((c : e.Command) → Spells e c f → P (e.plain c)) → P (reading e f)
+  pub by_reading : (P : Option e.Command → Type 0) (f : List ℕ) → P None → ((c : e.Command) → Spells e c f → P (Some c)) → P (reading e f)
   by_reading P f b g =
       by_test (accepts e.table f)
       (λ h. let r = spelt_in e.kinds f t.kinds_right (sym (accepted f) ∙ h) in
@@ -255,17 +251,15 @@ module _ (e : Reader) (t : Tested e) where
       (λ h. subst P (sym (refused f h)) b)
 
   -- THE READER FINDS A COMMAND EXACTLY WHERE THE FRAME SPELLS IT.
-  pub agree : (c : e.Command) (f : List ℕ) → (reading e f ≡ e.plain c) ↔ Spells e c f
-  agree c f = (sound (reading e f) refl, complete c f)
+  pub agree : (c : e.Command) (f : List ℕ) → (reading e f ≡ Some c) ↔ Spells e c f
+  agree c f = (sound, complete c f)
     where
-      sound : (x : e.Reading) → reading e f ≡ x → x ≡ e.plain c → Spells e c f
-      sound x same h =
-          by_reading (λ (y : e.Reading). y ≡ e.plain c → Spells e c f) f (λ b. absurd (e.never_bad c (sym b)))
-          (λ d s b. subst (λ (y : e.Command). Spells e y f) (e.same_plain d c b) s) (same ∙ h)
+      sound : reading e f ≡ Some c → Spells e c f
+      sound = by_reading (λ (x : Option e.Command). x ≡ Some c → Spells e c f) f (λ b. absurd (none-some c b)) (λ d s b. subst (λ (y : e.Command). Spells e y f) (same_command d c b) s)
 
   -- A frame spells one command at most.
   pub one_command : (c c' : e.Command) (f : List ℕ) → Spells e c f → Spells e c' f → c ≡ c'
-  one_command c c' f s s' = e.same_plain c c' (sym (complete c f s) ∙ complete c' f s')
+  one_command c c' f s s' = same_command c c' (sym (complete c f s) ∙ complete c' f s')
 
   -- A command has one spelling at most.
   pub one_frame : (c : e.Command) (f g : List ℕ) → Spells e c f → Spells e c g → f ≡ g

@@ -1,5 +1,6 @@
 -- What the reader finds in a frame over a table, and the laws of its loop. Assumes nothing.
-use Rattle.std.specs.Prelude.{ℕ, suc, ◌+◌, ◌-◌, ◌<◌, ◌≤◌, List, true, false, ◌≡◌, length, get_or, drop}
+use Rattle.std.specs.Prelude.{ℕ, suc, ◌+◌, ◌-◌, ◌<◌, ◌≤◌, List, true, false, ◌≡◌, leb, length, get_or, drop, Option}
+use Rattle.std.specs.Bool.{then_some}
 use Prim.Native.Char.{code}
 use Rattle.std.proofs.Common.{add-one, sym, ap, ap₂, drop_of_length-le, drop-cons}
 use borrow.Author.Tests.{eq-eqb, ne_eqb}
@@ -15,6 +16,10 @@ found_from class next states s r f = record { state = state_from class next stat
 
 unfoldable pub found_in : List ℕ → List ℕ → ℕ → List ℕ → Found
 found_in class next states f = found_from class next states 1 (pair 0 0) f
+
+-- the numbers of a frame that leads to a state in which one may end, from the first such state on
+unfoldable pub accepted_in : List ℕ → List ℕ → ℕ → ℕ → List ℕ → Option Numbers
+accepted_in class next states good f = then_some (leb good (state_from class next states 1 f)) (numbers_from (pair 0 0) f)
 
 -- the numbers after a byte, by what it is
 module _ (b m n : ℕ) where

@@ -3,10 +3,9 @@
 #![tactic(auto)]
 
 ghost use Rattle.std.specs.Prelude.{◌≡◌, ◌≤◌, ◌%◌};
-ghost use Rattle.numeral.specs.Numeral.{is_digit};
-ghost use Rattle.frame_table.specs.Numbers.{with_digit};
+ghost use Rattle.frame_table.specs.Numbers.{with_digit, numbers_after};
 ghost use Rattle.frame_table.specs.Table.{state_after};
-ghost use Rattle.frame_table.specs.Run.{found_in};
+ghost use Rattle.frame_table.specs.Run.{found_in, accepted_in};
 
 // The tables hold letters, so that they can be read aloud: @ is 0, A is 1, B is 2 and so on.
 pub type Classes = [u8; 256];
@@ -42,53 +41,59 @@ fn state_after(class: &Classes, next: &[u8], states: u8, state: usize, b: u8) ->
     ensures small { result ≤ 63 }
 {
     let row = letter(class[b as usize]) as u32 * states as u32;
-    let at = row as usize + state;
-    if at < next.len() {
-        letter(next[at]) as usize
-    } else {
-        0
-    }
-}
-
-fn is_digit(b: u8) -> bool
-    ensures same { result ≡ is_digit b }
-{
-    (b'0' <= b) & (b <= b'9')
+    letter(next.get(row as usize + state).copied().unwrap_or(0)) as usize
 }
 
 // No table takes a number of so many digits that it runs over.
 fn with_digit(n: u16, digit: u8) -> u16
     ensures same { result ≡ with_digit n digit }
 {
-    ((n as u32 * 10 + digit as u32) % 65536) as u16
+    n.wrapping_mul(10).wrapping_add(u16::from(digit))
+}
+
+// A digit goes to the last number, and a ';' begins another.
+#[tactic(auto, unfolding(crate::specs::Numbers::numbers_after))]
+fn numbers_after(b: u8, numbers: Numbers) -> Numbers
+    ensures same { result ≡ numbers_after b numbers }
+{
+    match b {
+        b'0'..=b'9' => Numbers {
+            last: with_digit(numbers.last, b - b'0'),
+            ..numbers
+        },
+        b';' => Numbers {
+            before: numbers.last,
+            last: 0,
+        },
+        _ => numbers,
+    }
 }
 
 // The state to which a frame leads, and its numbers.
+#[tactic(auto, using(crate::specs::Run::turned), unfolding(crate::specs::Run::found_in))]
 pub fn run(class: &Classes, next: &[u8], states: u8, f: &[u8]) -> Found
     ensures same { result ≡ found_in class.now next.now states f.now }
 {
     let mut state = START;
-    let mut before = 0;
-    let mut last = 0;
-    let mut i = 0;
-    while i < f.len() {
-        let b = f[i];
+    let mut numbers = Numbers { before: 0, last: 0 };
+    for &b in f {
         state = state_after(class, next, states, state, b);
-        i += 1;
-        if is_digit(b) {
-            last = with_digit(last, b - b'0');
-            continue;
-        }
-        if b == b';' {
-            before = last;
-            last = 0;
-        }
+        numbers = numbers_after(b, numbers);
     }
-    Found {
-        state: state,
-        numbers: Numbers {
-            before: before,
-            last: last,
-        },
-    }
+    Found { state, numbers }
+}
+
+// The numbers of a frame that leads to a state in which one may end, from the first such state on.
+#[tactic(auto, unfolding(crate::specs::Run::found_in, crate::specs::Run::accepted_in))]
+pub fn accepted(
+    class: &Classes,
+    next: &[u8],
+    states: u8,
+    first_good: usize,
+    f: &[u8],
+) -> Option<Numbers>
+    ensures same { result ≡ accepted_in class.now next.now states first_good f.now }
+{
+    let found = run(class, next, states, f);
+    (first_good <= found.state).then_some(found.numbers)
 }

@@ -8,7 +8,7 @@ use Rattle.sister_command.specs.declared.SisterCommand.TheVariants as Her
 use Rattle.sister_command.specs.declared.Question.TheVariants as Ask
 use Rattle.sister_command.specs.declared.Step.TheVariants as Steps
 use Rattle.sister_command.specs.declared.LightChange.TheVariants as To
-use Rattle.groups.specs.Groups.{Group, CursorShown, LeftLabel, RightLabel, IconU, PictureRow, Backlight, Contrast, Speaker, Hook, Ptt, code, groups_of, belongs, none_in_common}
+use Rattle.groups.specs.Groups.{Group, LeftLabel, RightLabel, PictureRow, Backlight, Contrast, Speaker, Hook, Ptt, code, groups_of, none_in_common}
 
 -- a picture frame of a row
 abbrev row : ℕ → AnyOrder

@@ -1,6 +1,6 @@
 // The proved calls behind include/handset.h: door/handset.c takes what a program in C lends, makes one of these calls, and stores what
-// it hands back. Each hands on a library's call. A record crosses in parts: what is small by value, its three arrays lent. An enum
-// crosses as a number, by the tables of `handset_numbers`.
+// it hands back. Each hands on a library's call. A record crosses in parts: what is small by value, its three arrays lent. How a
+// call ended crosses by `record::paper_number`, every other enum by the tables of `handset_numbers`.
 #![tactic(auto)]
 
 ghost use Rattle.std.specs.Prelude.{◌≡◌, length};
@@ -12,8 +12,8 @@ ghost use Rattle.key_log.specs.Log.{outcome, handed_back, buffer_after};
 ghost use Rattle.seconds.specs.Seconds.{passed, light_passed};
 ghost use Rattle.parts.specs.Parts.{part_at};
 ghost use Rattle.hook.specs.Hook.{hooked};
-ghost use Rattle.seen.specs.Rows.{row_seen, sms_seen, volume_seen};
-ghost use Rattle.seen.specs.Columns.{column_seen};
+ghost use Rattle.seen.specs.Rows.{no_bar, no_label, nothing_seen, row_seen, sms_seen, volume_seen};
+ghost use Rattle.seen.specs.Columns.{no_place, column_seen};
 ghost use Rattle.answer_room.specs.Needed.{room_needed};
 ghost use Rattle.writer_ranges.specs.Fitting.{is_label, is_row};
 ghost use Rattle.command.specs.Order.{label, draw};
@@ -22,13 +22,15 @@ ghost use Rattle.writer.specs.Writing.{frame_of, room_after, written_of};
 ghost use Rattle.verdict.specs.Verdict.{verdict_of};
 ghost use Rattle.choice.specs.Choice.{choice_of};
 ghost use Rattle.handset_numbers.specs.Numbers.{phase_of, side_of};
-ghost use Rattle.handset.specs.Calls.{fed_with, after_with, count_with, fed_in, logged_in, passed_in, hooked_in, counted_in, written_in, judged_in, choice_in, part_in, light_in, sms_in, volume_in, bar_in, row_in, column_in, command_written, command_room, is_own_kind, own_written, own_room, sister_written, sister_room, judged_with, judged_of};
+ghost use Rattle.handset.specs.Calls.{fed_with, after_with, count_with, fed_in, logged_in, passed_in, hooked_in, counted_in, written_in, judged_in, choice_in, part_in, light_in, sms_with, sms_in, volume_with, volume_in, bar_in, row_with, row_in, column_with, column_in, command_written, command_room, is_own_kind, own_written, own_room, sister_written, sister_room, judged_with, judged_of};
 
-use record::{Backlight, FrameBytes, Label, Number, Picture, Record, Small, Text};
+use handset_numbers::Numbered;
+use record::{
+    Backlight, FrameBytes, InParts, Label, Number, Picture, Record, Refusal, Small, Text,
+};
 use seconds::LightPassed;
-use seen::{Bar, ColumnSeen, Row};
+use seen::{Bar, ColumnSeen, Labels, Owner, Row, Shown, SmsPanel, VolumePanel};
 use verdict::Verdict;
-use writer::Written;
 
 // The last kind of command.
 const LAST_COMMAND: u8 = 32;
@@ -38,8 +40,10 @@ const FIRST_OWN: u8 = 64;
 
 const LAST_OWN: u8 = 96;
 
-// The paper's number for a command out of range.
-const COMMAND_OUT_OF_RANGE: usize = 2;
+// What C is told where no rule is broken, and where no part stands.
+const NO_RULE: usize = 0;
+
+const NO_PART: u8 = 0;
 
 // How a stream call or a key log ended: the paper's number, the record without its arrays, how many bytes or entries were used, how many
 // answer bytes or key codes were written.
@@ -216,6 +220,16 @@ fn count_with(counted: Number, count: usize) -> ProvedCount
     }
 }
 
+// A count, or its refusal's number and 0.
+fn counted_in(counted: Result<usize, Refusal>) -> ProvedCount
+    ensures same { result ≡ counted_in counted }
+{
+    match counted {
+        Ok(count) => count_with(Number::Done, count),
+        Err(refusal) => count_with(refusal.into(), 0),
+    }
+}
+
 // Power-on.
 
 // Puts a record's arrays where they are lent, and hands back the rest.
@@ -225,6 +239,7 @@ fn put_apart(r: Record, text: &mut Text, picture: &mut Picture, frame: &mut Fram
     ensures picture { picture.new ≡ r.picture }
     ensures frame { frame.new ≡ r.frame.bytes }
 {
+    // By locals: the check refuses an array field that is stored straight.
     let codes = r.text;
     let columns = r.picture;
     let bytes = r.frame.bytes;
@@ -282,7 +297,12 @@ pub fn proved_in_range<'a>(
 ) -> bool
     ensures same { result ≡ in_range (together small text.now picture.now frame.now) }
 {
-    record_ranges::in_range_lent(small, text, picture, frame)
+    record_ranges::in_range_lent(InParts {
+        small,
+        text,
+        picture,
+        frame,
+    })
 }
 
 // Bytes from the cord.
@@ -301,9 +321,7 @@ pub fn proved_feed(
     ensures buffer { answers.new ≡ answers_after (together small text.old picture.old frame.old) bytes.now answers.old }
 {
     let f = stream::feed_lent(small, text, picture, frame, bytes, answers);
-    let number = f.number;
-    let after = f.small;
-    fed_with(number, after, f.used, f.written)
+    fed_with(f.number, f.small, f.used, f.written)
 }
 
 // Keys: a tick and an edge for each entry.
@@ -319,10 +337,14 @@ pub fn proved_take_log<'a>(
     ensures same { result ≡ logged_in (handed_back (outcome (together small text.now picture.now frame.now) ticks.now edges.now (length codes.old))) }
     ensures buffer { codes.new ≡ buffer_after (outcome (together small text.now picture.now frame.now) ticks.now edges.now (length codes.old)) codes.old }
 {
-    let l = key_log::take_log_lent(small, text, picture, frame, ticks, edges, codes);
-    let number = l.number;
-    let after = l.small;
-    fed_with(number, after, l.used, l.written)
+    let parts = InParts {
+        small,
+        text,
+        picture,
+        frame,
+    };
+    let l = key_log::take_log_lent(parts, ticks, edges, codes);
+    fed_with(l.number, l.record, l.used, l.written)
 }
 
 // A second passes.
@@ -334,10 +356,13 @@ pub fn proved_second<'a>(
 ) -> ProvedAfter
     ensures same { result ≡ passed_in (passed (together small text.now picture.now frame.now)) }
 {
-    let q = seconds::second_lent(small, text, picture, frame);
-    let number = q.number;
-    let after = q.small;
-    after_with(number, after)
+    let q = seconds::second_lent(InParts {
+        small,
+        text,
+        picture,
+        frame,
+    });
+    after_with(q.number, q.after)
 }
 
 // The entry in place, on a copy.
@@ -347,7 +372,7 @@ fn second_of(b: Backlight) -> LightPassed
     let mut lent = b;
     let number = seconds::second_in_place(&mut lent);
     LightPassed {
-        number: number,
+        number,
         backlight: lent,
     }
 }
@@ -357,11 +382,9 @@ pub fn proved_light_second(light: Backlight) -> ProvedLight
     ensures same { result ≡ light_in (light_passed light) }
 {
     let q = second_of(light);
-    let number = q.number;
-    let after = q.backlight;
     ProvedLight {
-        number: record::paper_number(number),
-        light: after,
+        number: record::paper_number(q.number),
+        light: q.backlight,
     }
 }
 
@@ -375,10 +398,14 @@ pub fn proved_hook<'a>(
 ) -> ProvedAfter
     ensures same { result ≡ hooked_in (hooked (together small text.now picture.now frame.now) on) }
 {
-    let q = hook::hook_lent(small, text, picture, frame, on);
-    let number = q.number;
-    let after = q.small;
-    after_with(number, after)
+    let parts = InParts {
+        small,
+        text,
+        picture,
+        frame,
+    };
+    let q = hook::hook_lent(parts, on);
+    after_with(q.number, q.after)
 }
 
 // How much room the answers to these bytes can need.
@@ -391,9 +418,13 @@ pub fn proved_room_needed<'a>(
 ) -> ProvedCount
     ensures same { result ≡ counted_in (room_needed (together small text.now picture.now frame.now) bytes.now) }
 {
-    let q = answer_room::room_needed_lent(small, text, picture, frame, bytes);
-    let number = q.number;
-    count_with(number, q.bytes)
+    let parts = InParts {
+        small,
+        text,
+        picture,
+        frame,
+    };
+    counted_in(answer_room::room_needed_lent(parts, bytes))
 }
 
 fn judged_with(ended: Number, v: Verdict) -> ProvedJudged
@@ -419,7 +450,13 @@ pub fn proved_judge_in<'a>(
 ) -> ProvedJudged
     ensures same { result ≡ judged_of (together small text.now picture.now frame.now) bytes.now }
 {
-    if record_ranges::in_range_lent(small, text, picture, frame) {
+    let parts = InParts {
+        small,
+        text,
+        picture,
+        frame,
+    };
+    if record_ranges::in_range_lent(parts) {
         let v = verdict::judge_in(small.settings, small.edition, bytes);
         return judged_with(Number::Done, v);
     }
@@ -427,6 +464,27 @@ pub fn proved_judge_in<'a>(
 }
 
 // What is seen. phase 0 is lit, any other the pause of a flashing icon.
+
+fn sms_with(n: Number, panel: SmsPanel) -> ProvedPanel
+    ensures same { result ≡ sms_with n panel }
+{
+    ProvedPanel {
+        number: record::paper_number(n),
+        seen: HandsetPanel {
+            panel: handset_numbers::sms_number(panel),
+            level: 0,
+        },
+    }
+}
+
+fn sms_in(seen: Result<SmsPanel, Refusal>) -> ProvedPanel
+    ensures same { result ≡ sms_in seen }
+{
+    match seen {
+        Ok(panel) => sms_with(Number::Done, panel),
+        Err(refusal) => sms_with(refusal.into(), SmsPanel::Nothing),
+    }
+}
 
 pub fn proved_sms_seen<'a>(
     small: Small,
@@ -437,21 +495,31 @@ pub fn proved_sms_seen<'a>(
 ) -> ProvedPanel
     ensures same { result ≡ sms_in (sms_seen (together small text.now picture.now frame.now) (phase_of phase)) }
 {
-    let q = seen::sms_seen_lent(
+    let parts = InParts {
         small,
         text,
         picture,
         frame,
-        handset_numbers::phase_of(phase),
-    );
-    let number = q.number;
-    let panel = q.panel;
+    };
+    sms_in(seen::sms_seen_lent(parts, handset_numbers::phase_of(phase)))
+}
+
+fn volume_with(n: Number, panel: VolumePanel) -> ProvedPanel
+    ensures same { result ≡ volume_with n panel }
+{
+    let Numbered(panel, level) = handset_numbers::volume_numbers(panel);
     ProvedPanel {
-        number: record::paper_number(number),
-        seen: HandsetPanel {
-            panel: handset_numbers::sms_number(panel),
-            level: 0,
-        },
+        number: record::paper_number(n),
+        seen: HandsetPanel { panel, level },
+    }
+}
+
+fn volume_in(seen: Result<VolumePanel, Refusal>) -> ProvedPanel
+    ensures same { result ≡ volume_in seen }
+{
+    match seen {
+        Ok(panel) => volume_with(Number::Done, panel),
+        Err(refusal) => volume_with(refusal.into(), VolumePanel::Nothing),
     }
 }
 
@@ -463,59 +531,97 @@ pub fn proved_volume_seen<'a>(
 ) -> ProvedPanel
     ensures same { result ≡ volume_in (volume_seen (together small text.now picture.now frame.now)) }
 {
-    let q = seen::volume_seen_lent(small, text, picture, frame);
-    let number = q.number;
-    let panel = q.panel;
-    let told = handset_numbers::volume_numbers(panel);
-    ProvedPanel {
-        number: record::paper_number(number),
-        seen: HandsetPanel {
-            panel: told.0,
-            level: told.1,
-        },
-    }
+    volume_in(seen::volume_seen_lent(InParts {
+        small,
+        text,
+        picture,
+        frame,
+    }))
 }
 
 fn bar_in(bar: Bar) -> HandsetBar
     ensures same { result ≡ bar_in bar }
 {
-    let sms = bar.sms;
-    let panel = bar.volume;
-    let volume = handset_numbers::volume_numbers(panel);
+    let Numbered(volume, level) = handset_numbers::volume_numbers(bar.volume);
     HandsetBar {
         f: bar.f,
         p: bar.p,
         r: bar.r,
-        sms: handset_numbers::sms_number(sms),
-        volume: volume.0,
-        level: volume.1,
+        sms: handset_numbers::sms_number(bar.sms),
+        volume,
+        level,
     }
 }
 
-fn row_in(row: Row) -> ProvedRow
-    ensures same { result ≡ row_in row }
+fn row_with(n: Number, row: Row) -> ProvedRow
+    ensures same { result ≡ row_with n row }
 {
-    let number = row.number;
-    let owner = row.owner;
+    let Numbered(owner, place) = handset_numbers::owner_numbers(row.owner);
+    // Locals: the check refuses an array field that goes straight into a literal.
     let codes = row.codes;
     let columns = row.columns;
-    let labels = row.labels;
-    let left = labels.left;
-    let right = labels.right;
-    let told = handset_numbers::owner_numbers(owner);
     ProvedRow {
-        number: record::paper_number(number),
+        number: record::paper_number(n),
         seen: HandsetRow {
-            owner: told.0,
-            place: told.1,
+            owner,
+            place,
             inverse: row.inverse,
-            codes: codes,
-            columns: columns,
+            codes,
+            columns,
             bar: bar_in(row.bar),
-            left: left,
-            right: right,
-            w: labels.w,
+            left: row.labels.left,
+            right: row.labels.right,
+            w: row.labels.w,
         },
+    }
+}
+
+// Where a question is refused C gets zeros.
+fn no_bar() -> Bar
+    ensures { result ≡ no_bar }
+{
+    Bar {
+        f: 0,
+        p: 0,
+        r: 0,
+        sms: SmsPanel::Nothing,
+        volume: VolumePanel::Nothing,
+    }
+}
+
+fn no_label() -> Label
+    ensures { result ≡ no_label }
+{
+    Label {
+        len: 0,
+        codes: [0u8; 7],
+    }
+}
+
+#[tactic(auto, unfolding(seen::specs::Rows::no_columns))]
+fn nothing_seen() -> Row
+    ensures { result ≡ nothing_seen }
+{
+    Row {
+        owner: Owner::Nothing,
+        codes: [0u8; 16],
+        columns: [0u8; 96],
+        bar: no_bar(),
+        labels: Labels {
+            left: no_label(),
+            right: no_label(),
+            w: 0,
+        },
+        inverse: false,
+    }
+}
+
+fn row_in(seen: Result<Row, Refusal>) -> ProvedRow
+    ensures same { result ≡ row_in seen }
+{
+    match seen {
+        Ok(row) => row_with(Number::Done, row),
+        Err(refusal) => row_with(refusal.into(), nothing_seen()),
     }
 }
 
@@ -529,34 +635,51 @@ pub fn proved_row_seen<'a>(
 ) -> ProvedRow
     ensures same { result ≡ row_in (row_seen (together small text.now picture.now frame.now) row (phase_of phase)) }
 {
-    row_in(seen::row_seen_lent(
+    let parts = InParts {
         small,
         text,
         picture,
         frame,
-        row,
-        handset_numbers::phase_of(phase),
-    ))
+    };
+    let phase = handset_numbers::phase_of(phase);
+    row_in(seen::row_seen_lent(parts, row, phase))
 }
 
-fn column_in(c: ColumnSeen) -> ProvedColumn
-    ensures same { result ≡ column_in c }
+fn column_with(n: Number, c: ColumnSeen) -> ProvedColumn
+    ensures same { result ≡ column_with n c }
 {
-    let number = c.number;
-    let owner = c.owner;
-    let shown = c.shown;
-    let told = handset_numbers::owner_numbers(owner);
-    let stands = handset_numbers::shown_numbers(shown);
+    let Numbered(owner, place) = handset_numbers::owner_numbers(c.owner);
+    let Numbered(shown, value) = handset_numbers::shown_numbers(c.shown);
     ProvedColumn {
-        number: record::paper_number(number),
+        number: record::paper_number(n),
         seen: HandsetColumn {
-            owner: told.0,
-            place: told.1,
-            shown: stands.0,
-            value: stands.1,
+            owner,
+            place,
+            shown,
+            value,
             inverse: c.inverse,
             bar: bar_in(c.bar),
         },
+    }
+}
+
+fn no_place() -> ColumnSeen
+    ensures { result ≡ no_place }
+{
+    ColumnSeen {
+        owner: Owner::Nothing,
+        shown: Shown::Nothing,
+        bar: no_bar(),
+        inverse: false,
+    }
+}
+
+fn column_in(seen: Result<ColumnSeen, Refusal>) -> ProvedColumn
+    ensures same { result ≡ column_in seen }
+{
+    match seen {
+        Ok(column) => column_with(Number::Done, column),
+        Err(refusal) => column_with(refusal.into(), no_place()),
     }
 }
 
@@ -571,25 +694,17 @@ pub fn proved_column_seen<'a>(
 ) -> ProvedColumn
     ensures same { result ≡ column_in (column_seen (together small text.now picture.now frame.now) row column (phase_of phase)) }
 {
-    column_in(seen::column_seen_lent(
+    let parts = InParts {
         small,
         text,
         picture,
         frame,
-        row,
-        column,
-        handset_numbers::phase_of(phase),
-    ))
+    };
+    let phase = handset_numbers::phase_of(phase);
+    column_in(seen::column_seen_lent(parts, row, column, phase))
 }
 
 // Writers.
-
-fn written_in(w: Written) -> ProvedCount
-    ensures same { result ≡ written_in w }
-{
-    let number = w.number;
-    count_with(number, w.count)
-}
 
 // A kind of command that is not known is a command out of range.
 pub fn proved_write_command(kind: u8, a: u16, b: u16, room: &mut [u8]) -> ProvedCount
@@ -597,12 +712,9 @@ pub fn proved_write_command(kind: u8, a: u16, b: u16, room: &mut [u8]) -> Proved
     ensures left { room.new ≡ command_room kind a b room.old }
 {
     if LAST_COMMAND < kind {
-        return ProvedCount {
-            number: COMMAND_OUT_OF_RANGE,
-            count: 0,
-        };
+        return counted_in(Err(Refusal::CommandOutOfRange));
     }
-    written_in(writer::write_command(handset_numbers::command_of(kind, a, b), room))
+    counted_in(writer::write_command(handset_numbers::command_of(kind, a, b), room))
 }
 
 fn is_own_kind(kind: u8) -> bool
@@ -616,12 +728,9 @@ fn write_own_kind(kind: u8, a: u16, b: u16, room: &mut [u8]) -> ProvedCount
     ensures left { room.new ≡ own_room kind a b room.old }
 {
     if is_own_kind(kind) {
-        return written_in(writer::write_own(handset_numbers::sister_command_of(kind, a, b), room));
+        return counted_in(writer::write_own(handset_numbers::sister_command_of(kind, a, b), room));
     }
-    ProvedCount {
-        number: COMMAND_OUT_OF_RANGE,
-        count: 0,
-    }
+    counted_in(Err(Refusal::CommandOutOfRange))
 }
 
 // In the sister's spelling: a command of her own, or one that both editions have.
@@ -632,21 +741,21 @@ pub fn proved_write_sister_command(kind: u8, a: u16, b: u16, room: &mut [u8]) ->
     if LAST_COMMAND < kind {
         return write_own_kind(kind, a, b, room);
     }
-    written_in(writer::write_shared(handset_numbers::command_of(kind, a, b), room))
+    counted_in(writer::write_shared(handset_numbers::command_of(kind, a, b), room))
 }
 
 pub fn proved_write_label(side: u8, codes: &[u8], room: &mut [u8]) -> ProvedCount
     ensures same { result ≡ written_in (written_of (is_label codes.now) (frame_of (spelling (label (side_of side) codes.now))) room.old) }
     ensures left { room.new ≡ room_after (is_label codes.now) (frame_of (spelling (label (side_of side) codes.now))) room.old }
 {
-    written_in(writer::write_label(handset_numbers::side_of(side), codes, room))
+    counted_in(writer::write_label(handset_numbers::side_of(side), codes, room))
 }
 
 pub fn proved_write_picture_row(row: u8, columns: &[u8], room: &mut [u8]) -> ProvedCount
     ensures same { result ≡ written_in (written_of (is_row row columns.now) (frame_of (spelling (draw row columns.now))) room.old) }
     ensures left { room.new ≡ room_after (is_row row columns.now) (frame_of (spelling (draw row columns.now))) room.old }
 {
-    written_in(writer::write_picture_row(row, columns, room))
+    counted_in(writer::write_picture_row(row, columns, room))
 }
 
 // Questions about a stream.
@@ -666,24 +775,34 @@ pub fn proved_judge(mode: u8, frame: &[u8]) -> ProvedVerdict
 pub fn proved_check_choice(bytes: &[u8]) -> ProvedChoice
     ensures same { result ≡ choice_in (choice_of bytes.now) }
 {
-    let c = choice::check(bytes);
-    let rule = c.rule;
-    ProvedChoice {
-        rule: handset_numbers::rule_number(rule) as usize,
-        offset: c.offset,
+    match choice::check(bytes) {
+        Ok(()) => ProvedChoice {
+            rule: NO_RULE,
+            offset: 0,
+        },
+        Err(broken) => ProvedChoice {
+            rule: handset_numbers::rule_number(broken.rule) as usize,
+            offset: broken.offset,
+        },
     }
 }
 
-// The part of a stream that stands at a place.
+// The part of a stream that stands at a place. Where there is none, all three places are the one that was asked for.
 pub fn proved_part_at(bytes: &[u8], place: usize) -> HandsetPart
-    ensures same { result ≡ part_in (part_at bytes.now place) }
+    ensures same { result ≡ part_in place (part_at bytes.now place) }
 {
-    let p = parts::part_at(bytes, place);
-    let kind = p.kind;
-    HandsetPart {
-        kind: handset_numbers::kind_number(kind),
-        end: p.end,
-        body: p.body,
-        body_end: p.body_end,
+    match parts::part_at(bytes, place) {
+        None => HandsetPart {
+            kind: NO_PART,
+            end: place,
+            body: place,
+            body_end: place,
+        },
+        Some(part) => HandsetPart {
+            kind: handset_numbers::kind_number(part.kind),
+            end: part.end,
+            body: part.body,
+            body_end: part.body_end,
+        },
     }
 }

@@ -297,7 +297,7 @@ pub extern "C" fn proved_check_choice(bytes: &[u8]) -> ProvedChoice
 // The part of a stream that stands at a place.
 #[unsafe(no_mangle)]
 pub extern "C" fn proved_part_at(bytes: &[u8], place: usize) -> HandsetPart
-    ensures same { result ≡ part_in (part_at bytes.now place) }
+    ensures same { result ≡ part_in place (part_at bytes.now place) }
 {
     handset::proved_part_at(bytes, place)
 }

@@ -165,7 +165,6 @@ verdict_numbers Verdicts.Obeyed = record { 0 = 2; 1 = 0 }
 verdict_numbers Verdicts.Refused = record { 0 = 3; 1 = 0 }
 
 abbrev pub kind_number : Kind → ℕ
-kind_number Kinds.None = 0
 kind_number Kinds.Text = 1
 kind_number Kinds.Skipped = 2
 kind_number Kinds.Closed = 3

@@ -1,5 +1,6 @@
 // Enums by number, as they cross to C: a function for each table of specs/Numbers.antt, and nothing else. The rules of the
 // choice screen have the numbers that `choice` gives them. include/handset.h has the same tables.
+// No `From` and no `as u8`: C's numbers stand here alone, not with the enums, and docs/PROMISES.md names each function.
 #![tactic(auto)]
 
 ghost use Rattle.std.specs.Prelude.{◌≡◌};
@@ -24,20 +25,20 @@ pub struct NumberedVerdict(pub u8, pub u16);
 pub fn phase_of(n: u8) -> Phase
     ensures same { result ≡ phase_of n }
 {
-    if n == 0 {
-        return Phase::Lit;
+    match n {
+        0 => Phase::Lit,
+        _ => Phase::Pause,
     }
-    Phase::Pause
 }
 
 // 0 is left, any other right.
 pub fn side_of(n: u8) -> Side
     ensures same { result ≡ side_of n }
 {
-    if n == 0 {
-        return Side::Left;
+    match n {
+        0 => Side::Left,
+        _ => Side::Right,
     }
-    Side::Right
 }
 
 // A command by its kind; any kind above the others is the last.
@@ -187,12 +188,11 @@ pub fn verdict_numbers(verdict: Verdict) -> NumberedVerdict
     }
 }
 
-// The rules of the choice screen; 0 is none.
+// Of a rule that is broken; 0, for none, is `handset`'s.
 pub fn rule_number(rule: Rule) -> u8
     ensures same { result ≡ rule_number rule }
 {
     match rule {
-        Rule::None => 0,
         Rule::NoScreen => 1,
         Rule::LabelMissing => 2,
         Rule::QuestionMark => 3,
@@ -200,11 +200,11 @@ pub fn rule_number(rule: Rule) -> u8
     }
 }
 
+// Of a part that stands somewhere; 0, for none, is `handset`'s.
 pub fn kind_number(kind: Kind) -> u8
     ensures same { result ≡ kind_number kind }
 {
     match kind {
-        Kind::None => 0,
         Kind::Text => 1,
         Kind::Skipped => 2,
         Kind::Closed => 3,

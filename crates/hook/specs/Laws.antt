@@ -30,6 +30,6 @@ unfolding hooked
 hook_alone r on = by_test (in_range r) (λ e. rw e) (λ e. rw e)
 
 -- Put together again with the arrays, what a call hands back where they were lent is what it hands back of a record.
-pub lent_back : (r : Record) (on : Bool) → record { number = (lent_of (hooked r on)).number; after = with_settings r (lent_of (hooked r on)).small.settings } ≡ hooked r on
+pub lent_back : (r : Record) (on : Bool) → record { number = (lent_of (hooked r on)).number; after = with_settings r (lent_of (hooked r on)).after.settings } ≡ hooked r on
 unfolding hooked
 lent_back r on = by_test (in_range r) (λ e. rw e) (λ e. rw e)

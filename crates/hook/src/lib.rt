@@ -2,62 +2,47 @@
 #![tactic(auto)]
 
 ghost use Rattle.std.specs.Prelude.{◌≡◌};
-ghost use Rattle.record.specs.Parts.{together};
+ghost use Rattle.record.specs.Parts.{whole};
 ghost use Rattle.hook.specs.Hook.{hooked, lent_of};
 
-use record::{FrameBytes, Number, Picture, Record, Small, Text};
+use record::{InParts, Number, Record, Small};
 use record_ranges::in_range_lent;
 
+// The number, and what comes back: the record, or its small fields where the arrays were lent.
 #[derive(Clone, Copy)]
-pub struct Hooked {
+pub struct Hooked<R> {
     pub number: Number,
-    pub after: Record,
-}
-
-// As Hooked, where the arrays were lent.
-#[derive(Clone, Copy)]
-pub struct HookedLent {
-    pub number: Number,
-    pub small: Small,
+    pub after: R,
 }
 
 // `on` is whether it is on-hook now. It changes no array, so they are only lent to be judged.
-pub fn hook_lent<'a>(
-    small: Small,
-    text: &'a Text,
-    picture: &'a Picture,
-    frame: &'a FrameBytes,
-    on: bool,
-) -> HookedLent
-    ensures same { result ≡ lent_of (hooked (together small text.now picture.now frame.now) on) }
+#[tactic(auto, unfolding(crate::specs::Hook::hooked))]
+pub fn hook_lent(parts: InParts<'_>, on: bool) -> Hooked<Small>
+    ensures same { result ≡ lent_of (hooked (whole parts.entry) on) }
 {
-    let ok = in_range_lent(small, text, picture, frame);
-    if !ok {
-        return HookedLent {
+    let mut after = parts.small;
+    if !in_range_lent(parts) {
+        return Hooked {
             number: Number::FieldOutOfRange,
-            small: small,
+            after,
         };
     }
-    let mut after = small;
     after.settings.hook = on;
-    HookedLent {
+    Hooked {
         number: Number::Done,
-        small: after,
+        after,
     }
 }
 
 // The same on a record by value.
-pub fn hook(r: Record, on: bool) -> Hooked
+pub fn hook(r: Record, on: bool) -> Hooked<Record>
     ensures same { result ≡ hooked r on }
 {
-    let small = record::small_of(r);
-    let q = hook_lent(small, &r.text, &r.picture, &r.frame.bytes, on);
-    let number = q.number;
-    let settings = q.small.settings;
+    let q = hook_lent(r.in_parts(), on);
     Hooked {
-        number: number,
+        number: q.number,
         after: Record {
-            settings: settings,
+            settings: q.after.settings,
             ..r
         },
     }

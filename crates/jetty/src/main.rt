@@ -3,25 +3,21 @@
 // computed from the labels that were shown.
 #![tactic(auto)]
 
+ghost use Rattle.std.specs.Prelude.{◌≤◌, length};
+
 use program::Host;
 use record::{Label, Record};
+use stream::Fed;
 
 fn say(host: &Host, words: &[u8]) {
     program::write(host, b"jetty", words);
 }
 
-fn say_codes(host: &Host, codes: &[u8], n: usize) {
-    for i in 0..n {
-        if i < codes.len() {
-            let one = [codes[i]];
-            say(host, &one);
-        }
-    }
-}
-
-fn say_label(host: &Host, label: Label) {
+fn say_label(host: &Host, label: &Label) {
     say(host, b"[");
-    say_codes(host, &label.codes, label.len as usize);
+    for code in label.codes.iter().take(label.len as usize) {
+        say(host, &[*code]);
+    }
     say(host, b"]");
 }
 
@@ -32,115 +28,92 @@ fn say_number(host: &Host, n: usize) {
     program::write_number(host, b"jetty", n as u64);
 }
 
-#[derive(Clone, Copy)]
-struct Shown {
-    record: Record,
-    marks: usize,
-}
-
 // One call, with room for every answer that these frames can get.
-fn send(r: Record, bytes: &[u8]) -> Shown {
-    let mut answers = [0u8; 8];
-    let fed = stream_by_value::feed(r, bytes, &mut answers);
-    let after = fed.record;
-    Shown {
-        record: after,
-        marks: fed.written,
-    }
+fn send(r: Record, bytes: &[u8]) -> Fed {
+    let mut answers = [0; 8];
+    stream_by_value::feed(r, bytes, &mut answers)
 }
 
-fn left_label(r: Record) -> Label {
-    let p = r.settings;
-    p.left
+fn same_label(a: &Label, b: &Label) -> bool {
+    a.len == b.len && a.codes == b.codes
 }
 
-fn same_label(a: Label, b: Label) -> bool {
-    let mut same = a.len == b.len;
-    for i in 0..7 {
-        same = same & (a.codes[i] == b.codes[i]);
-    }
-    same
-}
-
-// What one cut showed: whether a label other than the old or the new one stood between, and whether the new one stood after.
+// The left label that one cut showed between the two calls, and after them.
 #[derive(Clone, Copy)]
 struct Cut {
-    wrong_between: bool,
-    right_after: bool,
+    between: Label,
+    after: Label,
 }
 
-fn cut_at(host: &Host, start: Record, frame: &[u8], k: usize, old: Label, new: Label) -> Cut {
-    let mut cut = Cut {
-        wrong_between: true,
-        right_after: false,
-    };
-    if k <= frame.len() {
-        let first = send(start, &frame[..k]);
-        let half = first.record;
-        let between = left_label(half);
-        let second = send(half, &frame[k..]);
-        let whole = second.record;
-        let after = left_label(whole);
-        say(host, b"cut after ");
-        say_number(host, k);
-        say(host, b" bytes: between ");
-        say_label(host, between);
-        say(host, b", after ");
-        say_label(host, after);
-        say(host, b"\n");
-        let known = same_label(between, old) | same_label(between, new);
-        cut = Cut {
-            wrong_between: !known,
-            right_after: same_label(after, new),
-        };
+impl Cut {
+    // Whether no label other than the old or the new one stood between, and the new one stood after.
+    fn is_good(&self, old: &Label, new: &Label) -> bool {
+        (same_label(&self.between, old) || same_label(&self.between, new))
+            && same_label(&self.after, new)
     }
-    cut
 }
 
-fn replay(host: &Host, start: Record, frame: &[u8], old: Label, new: Label) {
-    let mut wrong = false;
-    let mut right = true;
+fn cut_at(start: Record, frame: &[u8], k: usize) -> Cut
+    requires { k ≤ length frame.now }
+{
+    let (first, second) = frame.split_at(k);
+    let half = send(start, first).record;
+    let whole = send(half, second).record;
+    Cut {
+        between: half.settings.left,
+        after: whole.settings.left,
+    }
+}
+
+fn say_cut(host: &Host, k: usize, cut: &Cut) {
+    say(host, b"cut after ");
+    say_number(host, k);
+    say(host, b" bytes: between ");
+    say_label(host, &cut.between);
+    say(host, b", after ");
+    say_label(host, &cut.after);
+    say(host, b"\n");
+}
+
+fn replay(host: &Host, start: Record, frame: &[u8], old: &Label, new: &Label) {
+    let mut good = true;
     for k in 0..frame.len() {
-        let cut = cut_at(host, start, frame, k, old, new);
-        wrong = wrong | cut.wrong_between;
-        right = right & cut.right_after;
+        let cut = cut_at(start, frame, k);
+        say_cut(host, k, &cut);
+        good &= cut.is_good(old, new);
     }
-    if !wrong & right {
+    if good {
         say(
             host,
             b"verdict: no cut shows a label other than the old or the new one, and every cut ends in the new one\n",
         );
-        return;
+    } else {
+        say(
+            host,
+            b"verdict: WRONG, a cut shows another label or does not end in the new one\n",
+        );
     }
-    say(
-        host,
-        b"verdict: WRONG, a cut shows another label or does not end in the new one\n",
-    );
 }
 
 fn show(host: &Host) {
-    let was = send(Record::power_on(), b"\x1BIK1Mine\r\n");
-    let start = was.record;
-    let old = left_label(start);
+    let start = send(Record::power_on(), b"\x1BIK1Mine\r\n").record;
     let frame = b"\x1BIK1Older\r\n";
-    let uncut = send(start, frame);
-    let after = uncut.record;
-    let new = left_label(after);
+    let old = start.settings.left;
+    let new = send(start, frame).record.settings.left;
     say(host, b"old label ");
-    say_label(host, old);
+    say_label(host, &old);
     say(host, b", new label ");
-    say_label(host, new);
+    say_label(host, &new);
     say(host, b"\n");
-    replay(host, start, frame, old, new);
+    replay(host, start, frame, &old, &new);
     let long = send(start, b"\x1BIK1Keep mine\r\n");
-    let kept = long.record;
     say(
         host,
         b"Keep mine has nine codes and is no label: question marks",
     );
-    say_number(host, long.marks);
+    say_number(host, long.written);
     say(host, b", label still ");
-    say_label(host, left_label(kept));
+    say_label(host, &long.record.settings.left);
     say(host, b"\n");
 }
 

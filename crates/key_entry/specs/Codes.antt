@@ -1,9 +1,9 @@
 -- The keys and the codes they send: document 01's order, the codes of the note's section 3.3.1. Assumes nothing.
-use Rattle.std.specs.Prelude.{ℕ, cond, List, [], ◌∷◌, ◌==◌, slice_index_or}
+use Rattle.std.specs.Prelude.{Option, None, Some, ℕ, cond, List, [], ◌∷◌, ◌==◌, slice_index_or}
 use Rattle.key_entry.specs.declared.Stage.{Stage}
 use Rattle.key_entry.specs.declared.Stage.TheVariants.{Short, Long, Repeat}
 
--- 0 stands for none: it is no key's code
+-- in the table 0 stands for none: it is no key's code
 abbrev pub no_code : ℕ
 no_code = 0
 
@@ -56,10 +56,19 @@ codes =
     ∷ (0x4F ∷ 0xCF ∷ 0xEF ∷ [])
     ∷ []
 
+-- the number of the table at a key and a stage: 0 outside it
+abbrev pub number_at : ℕ → Stage → ℕ
+number_at key stage = slice_index_or (slice_index_or codes key []) (column_of stage) no_code
+
+-- what a number of the table says
+abbrev pub code_in : ℕ → Option ℕ
+code_in number = cond (number == no_code) None (Some number)
+
 -- the code of any key at a stage: none outside the table
-unfoldable pub code_of : ℕ → Stage → ℕ
-code_of key stage = slice_index_or (slice_index_or codes key []) (column_of stage) no_code
+unfoldable pub code_of : ℕ → Stage → Option ℕ
+code_of key stage = code_in (number_at key stage)
 
 -- what goes to the host: the code, and for none nothing
-abbrev pub sent : ℕ → List ℕ
-sent code = cond (code == no_code) [] (code ∷ [])
+abbrev pub sent : Option ℕ → List ℕ
+sent None = []
+sent (Some code) = code ∷ []

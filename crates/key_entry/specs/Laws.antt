@@ -1,5 +1,5 @@
 -- Laws of the key rules: the clock, the table, and what an entry leaves alone. Assumes nothing.
-use Rattle.std.specs.Prelude.{◌≡◌, ℕ, zero, suc, ◌+◌, ◌-◌, ◌%◌, ◌<◌, Bool, true, cond, not, ◌&&◌, List, [], ◌∷◌, map, length, get_or, ◌==◌, nat_eq, slice_index, slice_index_or, refl}
+use Rattle.std.specs.Prelude.{Option, None, Some, ◌≡◌, ℕ, zero, suc, ◌+◌, ◌-◌, ◌%◌, ◌<◌, Bool, true, cond, not, ◌&&◌, List, [], ◌∷◌, map, length, get_or, ◌==◌, nat_eq, slice_index, slice_index_or, refl}
 use Rattle.std.proofs.Common.{arith, mod-eq_of_lt, sym, ap, ◌∙◌, leb-true}
 use Rattle.std.proofs.Math.Nat.{mod-add-mod, add-mod_right}
 use Rattle.std.proofs.Math.ListN.{get_or-map}
@@ -16,7 +16,7 @@ use Rattle.record.specs.With.{with_seconds_left}
 use Rattle.key_entry.specs.declared.Keyed.{Keyed}
 use Rattle.key_entry.specs.declared.Stage.{Stage}
 use Rattle.key_entry.specs.declared.Stage.TheVariants.{Short, Long, Repeat}
-use Rattle.key_entry.specs.Codes.{no_code, codes, column_of, code_of, sent}
+use Rattle.key_entry.specs.Codes.{no_code, codes, column_of, number_at, code_of, sent}
 use Rattle.key_entry.specs.Rules.{Entry, is_press, is_release, is_poll, releases, elapsed, over, repeats, none_held, held_since, long_since, nothing, lit, release_code, keyed, with_keys, step}
 
 -- The wrapping subtract of two 16-bit readings is the remainder in the rules.
@@ -47,35 +47,34 @@ every_at test (x ∷ s) (suc i) h all = every_at test s i (omega arith) (both {a
 abbrev column : Stage → List ℕ
 column stage = map (λ (row : List ℕ). get_or row (column_of stage) no_code) codes
 
-in_column : (key : ℕ) (stage : Stage) → slice_index_or (column stage) key no_code ≡ code_of key stage
-unfolding code_of
+in_column : (key : ℕ) (stage : Stage) → slice_index_or (column stage) key no_code ≡ number_at key stage
 in_column key Short = get_or-map (λ (row : List ℕ). get_or row 0 no_code) codes key []
 in_column key Long = get_or-map (λ (row : List ℕ). get_or row 1 no_code) codes key []
 in_column key Repeat = get_or-map (λ (row : List ℕ). get_or row 2 no_code) codes key []
 
 is_code : ℕ → Bool
-is_code code = not (code == no_code)
+is_code number = not (number == no_code)
 
 sends : (key : ℕ) (stage : Stage) → length (column stage) ≡ 19 → key_in_range key ≡ true → every is_code (column stage) ≡ true
-    → sent (code_of key stage) ≡ code_of key stage ∷ []
-unfolding is_code
+    → sent (code_of key stage) ≡ number_at key stage ∷ []
+unfolding is_code code_of
 sends key stage long low all =
     let is : not ((slice_index_or (column stage) key no_code) == no_code) ≡ true
     = every_at is_code (column stage) key (omega (arith, leb-true key 18 low)) all in
-    ap (λ (b : Bool). cond b [] (code_of key stage ∷ [])) (ap (λ (n : ℕ). nat_eq n no_code) (sym (in_column key stage)) ∙ not-true _ is)
+    ap (λ (b : Bool). sent (cond b None (Some (number_at key stage)))) (ap (λ (n : ℕ). nat_eq n no_code) (sym (in_column key stage)) ∙ not-true _ is)
 
 -- Every key of the table has a short and a long code, and sends them.
 pub every_key_sends : (key : ℕ) → key_in_range key ≡ true
-    → (sent (code_of key Short) ≡ code_of key Short ∷ []) × (sent (code_of key Long) ≡ code_of key Long ∷ [])
+    → (sent (code_of key Short) ≡ number_at key Short ∷ []) × (sent (code_of key Long) ≡ number_at key Long ∷ [])
 unfolding is_code
 every_key_sends key low = (sends key Short refl low refl, sends key Long refl low refl)
 
 -- An entry does one of four things: nothing, a press, a release, or a poll that makes the stage long or keeps it so. What holds of
 -- these holds of every entry.
 pub one_of_four : (P : Keyed → Type 0) (held : Held) (times : Times) (light : Backlight) (now : ℕ) → P (nothing held light)
-    → ((key : ℕ) → key_in_range key ≡ true → P (record { held = held_since key now; backlight = lit light; code = no_code }))
+    → ((key : ℕ) → key_in_range key ≡ true → P (record { held = held_since key now; backlight = lit light; code = None }))
     → P (record { held = none_held; backlight = light; code = release_code held times now })
-    → ((code : ℕ) → held.down ≡ true → P (record { held = long_since held now; backlight = light; code = code }))
+    → ((code : Option ℕ) → held.down ≡ true → P (record { held = long_since held now; backlight = light; code = code }))
     → (edge : ℕ) → P (keyed held times light now edge)
 unfolding keyed
 one_of_four P held times light now same press release poll edge =

@@ -1,5 +1,5 @@
 -- What an entry of a key log does, in document 01's words ("Keys and seconds"). Assumes nothing.
-use Rattle.std.specs.Prelude.{ℕ, ◌+◌, ◌-◌, ◌*◌, ◌%◌, Bool, true, false, cond, not, ◌&&◌, ◌||◌, ◌==◌, nat_le}
+use Rattle.std.specs.Prelude.{Option, None, ℕ, ◌+◌, ◌-◌, ◌*◌, ◌%◌, Bool, true, false, cond, not, ◌&&◌, ◌||◌, ◌==◌, nat_le, is_some}
 use Rattle.record.specs.declared.Record.{Record}
 use Rattle.record.specs.declared.Held.{Held}
 use Rattle.record.specs.declared.Times.{Times}
@@ -9,7 +9,7 @@ use Rattle.record.specs.Range.{auto, key_in_range}
 use Rattle.record.specs.With.{with_held, with_settings, with_backlight, with_seconds_left}
 use Rattle.turns.specs.Taking.{Taken}
 use Rattle.key_entry.specs.declared.Keyed.{Keyed}
-use Rattle.key_entry.specs.Codes.{no_code, code_of, sent}
+use Rattle.key_entry.specs.Codes.{code_of, sent}
 use Rattle.key_entry.specs.declared.Stage.TheVariants.{Short, Long, Repeat}
 
 -- an entry: a tick reading of 10 ms, 0 to 65,535, and an edge byte
@@ -76,7 +76,7 @@ long_since held now = record { down = held.down; key = held.key; tick = record {
 
 -- THE RULES. Each gives the held key and the backlight, and the code that is sent or none
 abbrev pub nothing : Held → Backlight → Keyed
-nothing held light = record { held = held; backlight = light; code = no_code }
+nothing held light = record { held = held; backlight = light; code = None }
 
 -- in auto, left becomes the duration
 abbrev pub lit : Backlight → Backlight
@@ -87,7 +87,7 @@ abbrev pub pressed : Held → Backlight → ℕ → ℕ → Keyed
 pressed held light now key =
     cond held.down
     (nothing held light)
-    (record { held = held_since key now; backlight = lit light; code = no_code })
+    (record { held = held_since key now; backlight = lit light; code = None })
 
 -- poll, stage short, elapsed at least 10 times Time1: long code, stage long, held tick becomes now
 abbrev pub polled_short : Held → Times → Backlight → ℕ → Keyed
@@ -99,7 +99,7 @@ polled_short held times light now =
 -- poll, stage long: Time2 not 0, the key has a repeat code, elapsed at least 10 times Time2 ..
 abbrev pub repeats : Held → Times → ℕ → Bool
 repeats held times now =
-    not (times.time2.0 == 0) && not (code_of held.key Repeat == no_code) && over times.time2 now held.tick.0
+    not (times.time2.0 == 0) && is_some (code_of held.key Repeat) && over times.time2 now held.tick.0
 
 -- .. repeat code, held tick becomes now
 abbrev pub polled_long : Held → Times → Backlight → ℕ → Keyed
@@ -116,9 +116,9 @@ polled held times light now =
     (nothing held light)
 
 -- release: stage short gives the short code below 10 times Time1, else the long; stage long gives nothing
-abbrev pub release_code : Held → Times → ℕ → ℕ
+abbrev pub release_code : Held → Times → ℕ → Option ℕ
 release_code held times now =
-    cond held.long no_code (cond (over times.time1 now held.tick.0) (code_of held.key Long) (code_of held.key Short))
+    cond held.long None (cond (over times.time1 now held.tick.0) (code_of held.key Long) (code_of held.key Short))
 
 -- held becomes none; release of a key not held: nothing
 abbrev pub released : Held → Times → Backlight → ℕ → ℕ → Keyed

@@ -5,12 +5,12 @@
 ghost use Rattle.std.specs.Prelude.{◌≡◌};
 ghost use Rattle.lists.specs.Every.{every};
 ghost use Rattle.key_entry.specs.Codes.{column_of, code_of};
-ghost use Rattle.key_entry.specs.Rules.{release_up_to, listed_up_to, elapsed as elapsedOf, in_ticks, over as overOf, nothing as nothingOf, lit, pressed, polled_short, polled_long, polled, release_code, released, keyed};
+ghost use Rattle.key_entry.specs.Rules.{release_up_to, listed_up_to, elapsed as elapsedOf, in_ticks, over as overOf, nothing as nothingOf, lit, pressed, long_since, polled_short, polled_long, polled, release_code, released, keyed};
 
 use record::{AUTO, Backlight, Held, Tenths, Tick, Times};
 
-// 0 stands for none: it is no key's code.
-pub const NONE: u8 = 0;
+// In the table 0 stands for none: it is no key's code.
+const NONE: u8 = 0;
 
 // Short, long and repeat code of keys 0 to 18, in document 01's order.
 const CODES: [[u8; 3]; 19] = [
@@ -35,8 +35,6 @@ const CODES: [[u8; 3]; 19] = [
     [0x4F, 0xCF, 0xEF], // ON/OFF
 ];
 
-const KEYS: usize = 19;
-
 pub const LAST_KEY: u8 = 18;
 
 // Edge bytes: a key's number is its press, 128 more its release, and 255 a poll.
@@ -57,83 +55,71 @@ pub enum Stage {
 pub struct Keyed {
     pub held: Held,
     pub backlight: Backlight,
-    pub code: u8,
+    pub code: Option<u8>,
 }
 
-fn column(stage: Stage) -> usize
-    ensures { result ≡ column_of stage }
-{
-    match stage {
-        Stage::Short => 0,
-        Stage::Long => 1,
-        Stage::Repeat => 2,
+impl Stage {
+    fn column(self) -> usize
+        ensures { result ≡ column_of self }
+    {
+        self as usize
     }
 }
 
 // The code of any key at a stage; none outside the table.
-fn code(key: u8, stage: Stage) -> u8
+#[tactic(auto, unfolding(crate::specs::Codes::code_of))]
+fn code(key: u8, stage: Stage) -> Option<u8>
     ensures { result ≡ code_of key stage }
 {
-    let row = key as usize;
-    let place = column(stage);
-    if row < KEYS {
-        return CODES[row][place];
+    let row = CODES.get(key as usize)?;
+    match row[stage.column()] {
+        NONE => None,
+        code => Some(code),
     }
-    NONE
 }
 
 // Ticks since the held reading, modulo 65,536.
+#[tactic(auto, unfolding(crate::specs::Rules::elapsed))]
 fn elapsed(now: u16, held: Tick) -> u16
     ensures { result ≡ elapsedOf now held.0 }
 {
-    std::num::wrapping_sub_u16(now, held.0)
+    now.wrapping_sub(held.0)
 }
 
 // A count of 100 ms in ticks of 10 ms.
 fn in_ticks(time: Tenths) -> u16
     ensures { result ≡ in_ticks time }
 {
-    let tenths = time.0;
-    10 * (tenths as u16)
+    10 * time.0 as u16
 }
 
 fn is_release(edge: u8, last: u8) -> bool
     ensures { result ≡ release_up_to last edge }
 {
-    if edge < RELEASES {
-        return false;
-    }
-    edge - RELEASES <= last
+    edge >= RELEASES && edge - RELEASES <= last
 }
 
 fn is_listed(edge: u8, last: u8) -> bool
     ensures { result ≡ listed_up_to last edge }
 {
-    let release = is_release(edge, last);
-    (edge <= last) | release | (edge == POLL)
+    (edge <= last) | is_release(edge, last) | (edge == POLL)
 }
 
-// Which edges are listed goes by the last number that a key, or what is logged beside the keys, can have. It looks at the whole log, also
-// past the place where the room for codes would end.
+// Which edges are listed goes by the last number that a key, or what is logged beside the keys, can have. One that is not listed counts
+// anywhere in the log, also past the place where the room for codes would end; at the first of them the answer is known.
 pub fn all_listed(edges: &[u8], last: u8) -> bool
     ensures same { result ≡ every (listed_up_to last) edges.now }
 {
-    let mut ok = true;
-    let mut i = 0;
-    while i < edges.len() {
-        ok = ok & is_listed(edges[i], last);
-        i += 1;
-    }
-    ok
+    edges.iter().all(|edge| is_listed(*edge, last))
 }
 
-fn nothing(held: Held, light: Backlight) -> Keyed
-    ensures { result ≡ nothingOf held light }
+fn nothing(held: Held, backlight: Backlight) -> Keyed
+    ensures { result ≡ nothingOf held backlight }
 {
     Keyed {
-        held: held,
-        backlight: light,
-        code: NONE,
+        held,
+        backlight,
+        code: None,
     }
 }
 
@@ -142,31 +128,42 @@ pub fn light_up(light: Backlight) -> Backlight
     ensures same { result ≡ lit light }
 {
     if light.mode == AUTO {
-        let duration = light.duration;
-        return Backlight {
-            left: duration,
+        Backlight {
+            left: light.duration,
             ..light
-        };
+        }
+    } else {
+        light
     }
-    light
 }
 
 fn press(held: Held, light: Backlight, now: u16, key: u8) -> Keyed
     ensures { result ≡ pressed held light now key }
 {
     if held.down {
-        return nothing(held, light);
+        nothing(held, light)
+    } else {
+        Keyed {
+            held: Held {
+                down: true,
+                key,
+                tick: Tick(now),
+                long: false,
+            },
+            backlight: light_up(light),
+            code: None,
+        }
     }
-    let brighter = light_up(light);
-    Keyed {
-        held: Held {
-            down: true,
-            key: key,
-            tick: Tick(now),
-            long: false,
-        },
-        backlight: brighter,
-        code: NONE,
+}
+
+// The held key is long from now on.
+fn long_since(held: Held, now: u16) -> Held
+    ensures { result ≡ long_since held now }
+{
+    Held {
+        tick: Tick(now),
+        long: true,
+        ..held
     }
 }
 
@@ -181,69 +178,60 @@ fn poll_short(held: Held, times: Times, light: Backlight, now: u16) -> Keyed
     ensures { result ≡ polled_short held times light now }
 {
     if over(times.time1, now, held.tick) {
-        let sent = code(held.key, Stage::Long);
-        return Keyed {
-            held: Held {
-                tick: Tick(now),
-                long: true,
-                ..held
-            },
+        Keyed {
+            held: long_since(held, now),
             backlight: light,
-            code: sent,
-        };
+            code: code(held.key, Stage::Long),
+        }
+    } else {
+        nothing(held, light)
     }
-    nothing(held, light)
 }
 
 fn poll_long(held: Held, times: Times, light: Backlight, now: u16) -> Keyed
     ensures { result ≡ polled_long held times light now }
 {
     let again = code(held.key, Stage::Repeat);
-    let due = over(times.time2, now, held.tick);
-    if (times.time2.0 != 0) & (again != NONE) & due {
-        return Keyed {
-            held: Held {
-                tick: Tick(now),
-                long: true,
-                ..held
-            },
+    if (times.time2.0 != 0) & again.is_some() & over(times.time2, now, held.tick) {
+        Keyed {
+            held: long_since(held, now),
             backlight: light,
             code: again,
-        };
+        }
+    } else {
+        nothing(held, light)
     }
-    nothing(held, light)
 }
 
 fn poll(held: Held, times: Times, light: Backlight, now: u16) -> Keyed
     ensures { result ≡ polled held times light now }
 {
-    if held.down {
-        if held.long {
-            return poll_long(held, times, light, now);
-        }
-        return poll_short(held, times, light, now);
+    if !held.down {
+        nothing(held, light)
+    } else if held.long {
+        poll_long(held, times, light, now)
+    } else {
+        poll_short(held, times, light, now)
     }
-    nothing(held, light)
 }
 
-fn release_code(held: Held, times: Times, now: u16) -> u8
+fn release_code(held: Held, times: Times, now: u16) -> Option<u8>
     ensures { result ≡ release_code held times now }
 {
     if held.long {
-        return NONE;
+        None
+    } else if over(times.time1, now, held.tick) {
+        code(held.key, Stage::Long)
+    } else {
+        code(held.key, Stage::Short)
     }
-    if over(times.time1, now, held.tick) {
-        return code(held.key, Stage::Long);
-    }
-    code(held.key, Stage::Short)
 }
 
 fn release(held: Held, times: Times, light: Backlight, now: u16, key: u8) -> Keyed
     ensures { result ≡ released held times light now key }
 {
     if held.down & (held.key == key) {
-        let sent = release_code(held, times, now);
-        return Keyed {
+        Keyed {
             held: Held {
                 down: false,
                 key: 0,
@@ -251,24 +239,25 @@ fn release(held: Held, times: Times, light: Backlight, now: u16, key: u8) -> Key
                 long: false,
             },
             backlight: light,
-            code: sent,
-        };
+            code: release_code(held, times, now),
+        }
+    } else {
+        nothing(held, light)
     }
-    nothing(held, light)
 }
 
 // One entry, by its edge.
+#[tactic(auto, unfolding(crate::specs::Rules::keyed))]
 pub fn take_entry(held: Held, times: Times, light: Backlight, now: u16, edge: u8) -> Keyed
     ensures same { result ≡ keyed held times light now edge }
 {
     if edge <= LAST_KEY {
-        return press(held, light, now, edge);
+        press(held, light, now, edge)
+    } else if is_release(edge, LAST_KEY) {
+        release(held, times, light, now, edge - RELEASES)
+    } else if edge == POLL {
+        poll(held, times, light, now)
+    } else {
+        nothing(held, light)
     }
-    if is_release(edge, LAST_KEY) {
-        return release(held, times, light, now, edge - RELEASES);
-    }
-    if edge == POLL {
-        return poll(held, times, light, now);
-    }
-    nothing(held, light)
 }

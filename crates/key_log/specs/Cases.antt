@@ -1,5 +1,5 @@
 -- Worked examples of the key log, each found by computing, and the note's table of codes. Assumes nothing.
-use Rattle.std.specs.Prelude.{ℕ, ◌+◌, ◌≡◌, refl, Bool, true, false}
+use Rattle.std.specs.Prelude.{ℕ, ◌+◌, ◌≡◌, refl, Bool, true, false, Option, None, Some}
 use Prim.Native.Char.{code}
 use Prim.Native.String.{String}
 use mathlib.Core.List.{List, [], ◌∷◌, ◌++◌, map, zip_with}
@@ -15,7 +15,7 @@ use Rattle.record.specs.PowerOn.{none_down, starting_with, power_on, former_powe
 use Rattle.record.specs.With.{with_held, with_edition, with_keys as withKeysDown}
 use Rattle.turns.specs.Room.{run}
 use Rattle.key_entry.specs.declared.Stage.TheVariants.{Short, Long, Repeat}
-use Rattle.key_entry.specs.Codes.{no_code, code_of}
+use Rattle.key_entry.specs.Codes.{code_of}
 use Rattle.key_entry.specs.Rules.{Entry, entry, releases, polls, elapsed, none_held, held_since, long_since, keyed, with_keys, step}
 use Rattle.sister_entry.specs.Keys.{bit_of, is_down, with_key, without_key}
 use Rattle.sister_entry.specs.Rules.{sign_of, held_since as heldAs, false_with, started, pressed_beside, key_pressed, left_down, key_released, due, long_since as herLongSince, polled, lifted, put_back, ptt_pressed, ptt_released, pressed, released, entered}
@@ -25,51 +25,51 @@ use Rattle.key_log.specs.Cuts.{ticks_of, edges_of}
 
 -- TABLE 7 OF THE NOTE (section 3.3.1): the letter and the number of the short code, the long and the repeat code; n.a. is none
 pub record Line : Type 0 where
-  pub letter : ℕ
-  pub skpm : ℕ
-  pub lkpm : ℕ
-  pub akpm : ℕ
+  pub letter : Option ℕ
+  pub skpm : Option ℕ
+  pub lkpm : Option ℕ
+  pub akpm : Option ℕ
 
-abbrev line : ℕ → ℕ → ℕ → ℕ → Line
-line letter skpm lkpm akpm = record { letter = letter; skpm = skpm; lkpm = lkpm; akpm = akpm }
+abbrev line : ℕ → ℕ → ℕ → Option ℕ → Line
+line letter skpm lkpm akpm = record { letter = Some letter; skpm = Some skpm; lkpm = Some lkpm; akpm = akpm }
 
 pub table7 : List Line
 table7 =
     -- Left-Soft-Key
-    line (code "L") 0x4C 0xCC 0xEC
+    line (code "L") 0x4C 0xCC (Some 0xEC)
     -- Right-Soft-Key
-    ∷ line (code "R") 0x52 0xD2 0xE2
+    ∷ line (code "R") 0x52 0xD2 (Some 0xE2)
     -- ESC (red key)
-    ∷ line (code "E") 0x45 0xC5 no_code
+    ∷ line (code "E") 0x45 0xC5 None
     -- ENTER (green key)
-    ∷ line (code "A") 0x41 0xC1 no_code
+    ∷ line (code "A") 0x41 0xC1 None
     -- Rocker UP
-    ∷ line (code "U") 0x55 0xD5 0xE5
+    ∷ line (code "U") 0x55 0xD5 (Some 0xE5)
     -- Rocker DOWN
-    ∷ line (code "D") 0x44 0xC4 0xE4
+    ∷ line (code "D") 0x44 0xC4 (Some 0xE4)
     -- Key "1" to "9"
-    ∷ line (code "1") 0x31 0xB1 0xF1
-    ∷ line (code "2") 0x32 0xB2 0xF2
-    ∷ line (code "3") 0x33 0xB3 0xF3
-    ∷ line (code "4") 0x34 0xB4 0xF4
-    ∷ line (code "5") 0x35 0xB5 0xF5
-    ∷ line (code "6") 0x36 0xB6 0xF6
-    ∷ line (code "7") 0x37 0xB7 0xF7
-    ∷ line (code "8") 0x38 0xB8 0xF8
-    ∷ line (code "9") 0x39 0xB9 0xF9
+    ∷ line (code "1") 0x31 0xB1 (Some 0xF1)
+    ∷ line (code "2") 0x32 0xB2 (Some 0xF2)
+    ∷ line (code "3") 0x33 0xB3 (Some 0xF3)
+    ∷ line (code "4") 0x34 0xB4 (Some 0xF4)
+    ∷ line (code "5") 0x35 0xB5 (Some 0xF5)
+    ∷ line (code "6") 0x36 0xB6 (Some 0xF6)
+    ∷ line (code "7") 0x37 0xB7 (Some 0xF7)
+    ∷ line (code "8") 0x38 0xB8 (Some 0xF8)
+    ∷ line (code "9") 0x39 0xB9 (Some 0xF9)
     -- Key "0"
-    ∷ line (code "0") 0x30 0xB0 0xF0
+    ∷ line (code "0") 0x30 0xB0 (Some 0xF0)
     -- Key "*"
-    ∷ line (code "*") 0x2A 0xAA 0xEA
+    ∷ line (code "*") 0x2A 0xAA (Some 0xEA)
     -- Key "#"
-    ∷ line (code "#") 0x23 0xA3 0xEB
+    ∷ line (code "#") 0x23 0xA3 (Some 0xEB)
     -- Key "ON/OFF"
-    ∷ line (code "O") 0x4F 0xCF 0xEF
+    ∷ line (code "O") 0x4F 0xCF (Some 0xEF)
     ∷ []
 
 -- the line of a key by the rules
 abbrev line_of : ℕ → Line
-line_of key = line (code_of key Short) (code_of key Short) (code_of key Long) (code_of key Repeat)
+line_of key = record { letter = code_of key Short; skpm = code_of key Short; lkpm = code_of key Long; akpm = code_of key Repeat }
 
 abbrev keys : List ℕ
 keys = 0 ∷ 1 ∷ 2 ∷ 3 ∷ 4 ∷ 5 ∷ 6 ∷ 7 ∷ 8 ∷ 9 ∷ 10 ∷ 11 ∷ 12 ∷ 13 ∷ 14 ∷ 15 ∷ 16 ∷ 17 ∷ 18 ∷ []

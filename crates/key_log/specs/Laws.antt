@@ -16,7 +16,6 @@ use Rattle.turns.specs.Room.{Ran, run, Stops}
 use Rattle.turns.proofs.Room.{run_keeps, run_stops, only_one, stops_exactly}
 use Rattle.turns.specs.Loop.{holding}
 use Rattle.key_log.specs.declared.Logged.{Logged}
-use Rattle.key_log.specs.declared.LoggedLent.{LoggedLent}
 use Rattle.key_entry.specs.Rules.{Entry, listed_up_to, step}
 use Rattle.sister_entry.specs.Rules.{before}
 use Rattle.sister_entry.specs.Ranges.{only_left}
@@ -54,7 +53,7 @@ pub all_listed_in : (sister : Bool) (edges : List ℕ) {last : ℕ} {all : Bool}
 all_listed_in sister edges e found = sym (found ∙ ap (λ (n : ℕ). every (listed_up_to n) edges) e)
 
 -- What is handed back and left in the buffer for an outcome is so for its equal.
-pub kept : (before : List ℕ) {l : LoggedLent} {after : List ℕ} {o p : Outcome} → o ≡ p → l ≡ lent_of (handed_back p) → after ≡ buffer_after p before
+pub kept : (before : List ℕ) {l : Logged Small} {after : List ℕ} {o p : Outcome} → o ≡ p → l ≡ lent_of (handed_back p) → after ≡ buffer_after p before
     → (l ≡ lent_of (handed_back o)) × (after ≡ buffer_after o before)
 kept before e back buffer = (back ∙ ap (λ (x : Outcome). lent_of (handed_back x)) (sym e), buffer ∙ ap (λ (x : Outcome). buffer_after x before) (sym e))
 
@@ -118,14 +117,14 @@ module _ (r : Record) (ticks edges : List ℕ) (room : ℕ) where
   log_stays = log_keeps (λ (s : Record). s.edition.sister ≡ r.edition.sister) (λ s e same. (step_stays s e).1 ∙ same) r ticks edges room refl
 
   -- So what comes back of lent arrays, put together with them, is the call's record.
-  pub lent_back : {l : LoggedLent} → l ≡ lent_of (handed_back (outcome r ticks edges room)) → together l.small r.text r.picture r.frame.bytes ≡ left
+  pub lent_back : {l : Logged Small} → l ≡ lent_of (handed_back (outcome r ticks edges room)) → together l.record r.text r.picture r.frame.bytes ≡ left
   lent_back e =
-      ap (λ (l : LoggedLent). together l.small r.text r.picture r.frame.bytes) e
+      ap (λ (l : Logged Small). together l.record r.text r.picture r.frame.bytes) e
       ∙ (λ j. together (small_of left) (arrays_stay j).text (arrays_stay j).picture (arrays_stay j).frame.bytes)
 
 -- THE CALL BY VALUE lends the arrays of the record, and puts the settings, the held key and the edition that come back into it.
-abbrev pub back_in : Record → LoggedLent → Logged
-back_in r l = record { number = l.number; «record» = with_keys_of r l.small; used = l.used; written = l.written }
+abbrev pub back_in : Record → Logged Small → Logged Record
+back_in r l = record { number = l.number; «record» = with_keys_of r l.record; used = l.used; written = l.written }
 
 module _ (r : Record) (ticks edges before : List ℕ) where
   -- how the log ends with these small fields beside the record's arrays
@@ -133,7 +132,7 @@ module _ (r : Record) (ticks edges before : List ℕ) where
   ended small = outcome (together small r.text r.picture r.frame.bytes) ticks edges (length before)
 
   -- With the record's own it ends as the call by value does.
-  pub by_value : {small : Small} {l : LoggedLent} {after : List ℕ} → small ≡ small_of r → l ≡ lent_of (handed_back (ended small)) → after ≡ buffer_after (ended small) before
+  pub by_value : {small : Small} {l : Logged Small} {after : List ℕ} → small ≡ small_of r → l ≡ lent_of (handed_back (ended small)) → after ≡ buffer_after (ended small) before
       → (back_in r l ≡ handed_back (outcome r ticks edges (length before))) × (after ≡ buffer_after (outcome r ticks edges (length before)) before)
   by_value {small} {l} own back buffer = (
     ap (back_in r) same ∙ (λ j. record { number = o.number; «record» = arrays_stay r ticks edges (length before) j; used = o.ran.used; written = length o.ran.answers }),
@@ -148,7 +147,7 @@ module _ (r : Record) (ticks edges before : List ℕ) where
 
 -- A LOG THAT IS DONE, by what it hands back and what then stands in the buffer that was lent: both are what its used entries do, the
 -- written count among them; all entries are used, or one more would send more than there is room for.
-pub record LogDone (r : Record) (log : List Entry) (lent : List ℕ) (back : Logged) (buffer : List ℕ) : Type 0 where
+pub record LogDone (r : Record) (log : List Entry) (lent : List ℕ) (back : Logged Record) (buffer : List ℕ) : Type 0 where
   pub number : back.number ≡ numbered 0
   pub after : back.record ≡ (reading step_in r (take back.used log)).state
   pub written : back.written ≡ length (reading step_in r (take back.used log)).answers
@@ -187,14 +186,14 @@ abbrev used_ran : Record → List Entry → ℕ → Ran Record
 used_ran r log used = let t = reading step_in r (take used log) in record { state = t.state; used = used; answers = t.answers }
 
 -- and nothing else is: neither another count nor another buffer.
-pub log_done_fixes : {r : Record} {log : List Entry} {lent : List ℕ} {back other : Logged} {buffer buffer' : List ℕ}
+pub log_done_fixes : {r : Record} {log : List Entry} {lent : List ℕ} {back other : Logged Record} {buffer buffer' : List ℕ}
     → LogDone r log lent back buffer → LogDone r log lent other buffer' → (back ≡ other) × (buffer ≡ buffer')
 log_done_fixes {r} {log} {lent} {back} {other} p q = (
   λ j. record { number = (p.number ∙ sym q.number) j; «record» = (p.after ∙ ap (λ (t : Ran Record). t.state) same ∙ sym q.after) j; used = (same j).used; written = (p.written ∙ ap (λ (t : Ran Record). length t.answers) same ∙ sym q.written) j },
   p.sent ∙ ap (λ (t : Ran Record). holding t.answers lent) same ∙ sym q.sent,
 )
   where
-    asked : {l : Logged} {b : List ℕ} → LogDone r log lent l b → Stops step_in r log (length lent) (used_ran r log l.used)
+    asked : {l : Logged Record} {b : List ℕ} → LogDone r log lent l b → Stops step_in r log (length lent) (used_ran r log l.used)
     asked d = record { within = d.within; does = refl; fits = subst (λ (n : ℕ). n ≤ length lent) d.written d.fits; stops = d.stops }
 
     same : used_ran r log back.used ≡ used_ran r log other.used

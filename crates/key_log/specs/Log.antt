@@ -14,7 +14,6 @@ use Rattle.record.specs.With.{with_backlight, with_hook, with_ptt, with_keys}
 use Rattle.turns.specs.Room.{Ran, run, stopped}
 use Rattle.turns.specs.Loop.{holding}
 use Rattle.key_log.specs.declared.Logged.{Logged}
-use Rattle.key_log.specs.declared.LoggedLent.{LoggedLent}
 use Rattle.key_entry.specs.Rules.{Entry, entry}
 use Rattle.sister_entry.specs.declared.SisterKeyed.{SisterKeyed}
 use Rattle.key_log.specs.Steps.{listed_in, step_in}
@@ -42,7 +41,7 @@ outcome r ticks edges room =
     (record { number = numbered 0; ran = run step_in r (entries ticks edges) room })))
 
 -- what the call hands back
-abbrev pub handed_back : Outcome → Logged
+abbrev pub handed_back : Outcome → Logged Record
 handed_back o = record { number = o.number; «record» = o.ran.state; used = o.ran.used; written = length o.ran.answers }
 
 -- the whole buffer at exit: the codes or messages sent, and past them what was lent
@@ -51,27 +50,27 @@ buffer_after o before = holding o.ran.answers before
 
 -- THE KEY LOG CALL ON LENT ARRAYS is the same call, of the record that the small fields and the arrays make: what comes back is that
 -- call's, but for the arrays, which stay as they are (Laws, lent-back)
-abbrev pub lent_of : Logged → LoggedLent
-lent_of l = record { number = l.number; small = small_of l.record; used = l.used; written = l.written }
+abbrev pub lent_of : Logged Record → Logged Small
+lent_of l = record { number = l.number; «record» = small_of l.record; used = l.used; written = l.written }
 
 -- What the inner functions do -------------------------------------------------------------------------------------
 
 -- a refusal hands the small fields back as they came
-abbrev pub refused_with : Number → Small → LoggedLent
-refused_with number small = record { number = number; small = small; used = 0; written = 0 }
+abbrev pub refused_with : Number → Small → Logged Small
+refused_with number small = record { number = number; «record» = small; used = 0; written = 0 }
 
 -- the work is done, with this held key and this backlight among the small fields
-abbrev pub done_with : Small → Held → Backlight → ℕ → ℕ → LoggedLent
+abbrev pub done_with : Small → Held → Backlight → ℕ → ℕ → Logged Small
 done_with small held light used written =
     record {
       number = numbered 0;
-      small = record { settings = with_backlight small.settings light; held = held; state = small.state; len = small.len; edition = small.edition };
+      «record» = record { settings = with_backlight small.settings light; held = held; state = small.state; len = small.len; edition = small.edition };
       used = used;
       written = written;
     }
 
 -- the same with what the sister's entries leave
-abbrev pub sister_done_with : Small → SisterKeyed → ℕ → ℕ → LoggedLent
+abbrev pub sister_done_with : Small → SisterKeyed → ℕ → ℕ → Logged Small
 sister_done_with small k used written =
     done_with
     (record { settings = with_hook small.settings k.hook; held = small.held; state = small.state; len = small.len; edition = with_ptt (with_keys small.edition k.keys) k.ptt })
@@ -82,6 +81,6 @@ abbrev pub taken_by : Record → List ℕ → List ℕ → ℕ → Outcome
 taken_by r ticks edges room = record { number = numbered 0; ran = run step_in r (entries ticks edges) room }
 
 -- the loop's part of the promise: whatever the arrays hold, what it hands back and leaves in the buffer is the run of the rules
-pub record Takes (l : LoggedLent) (small : Small) (ticks edges before after : List ℕ) : Type 0 where
+pub record Takes (l : Logged Small) (small : Small) (ticks edges before after : List ℕ) : Type 0 where
   pub back : (text picture bytes : List ℕ) → l ≡ lent_of (handed_back (taken_by (together small text picture bytes) ticks edges (length before)))
   pub buffer : (text picture bytes : List ℕ) → after ≡ buffer_after (taken_by (together small text picture bytes) ticks edges (length before)) before

@@ -1,5 +1,5 @@
 -- What an entry does by the record's edition, and which edges are listed in it. Assumes nothing.
-use Rattle.std.specs.Prelude.{ℕ, Bool, cond, List, [], ◌∷◌}
+use Rattle.std.specs.Prelude.{ℕ, Bool, cond, List, [], ◌∷◌, Option, None, Some}
 use Prim.Native.Char.{code}
 use Rattle.lists.specs.Codes.{escape, carriage_return, line_feed}
 use Rattle.record.specs.declared.Record.{Record}
@@ -8,7 +8,7 @@ use Rattle.turns.specs.Taking.{Taken}
 use Rattle.key_entry.specs.Rules.{Entry, last_key, listed_up_to, step}
 use Rattle.sister_entry.specs.declared.SisterKeyed.{SisterKeyed}
 use Rattle.sister_entry.specs.declared.Message.{Message}
-use Rattle.sister_entry.specs.declared.Message.TheVariants.{None, False, Event}
+use Rattle.sister_entry.specs.declared.Message.TheVariants.{False, Event}
 use Rattle.sister_entry.specs.Rules.{ptt_number, keyed}
 
 -- in the first edition the numbers end with key 18, in the sister's with PTT
@@ -19,10 +19,13 @@ abbrev pub listed_in : Bool → ℕ → Bool
 listed_in sister edge = listed_up_to (last_in sister) edge
 
 -- THE SISTER'S MESSAGES: nothing; ESC K F x CR LF; ESC K, the sign, the event, CR LF
-abbrev pub message_bytes : Message → List ℕ
+abbrev pub bytes_of : Message → List ℕ
+bytes_of False = escape ∷ code "K" ∷ code "F" ∷ code "x" ∷ carriage_return ∷ line_feed ∷ []
+bytes_of (Event sign event) = escape ∷ code "K" ∷ sign ∷ event ∷ carriage_return ∷ line_feed ∷ []
+
+abbrev pub message_bytes : Option Message → List ℕ
 message_bytes None = []
-message_bytes False = escape ∷ code "K" ∷ code "F" ∷ code "x" ∷ carriage_return ∷ line_feed ∷ []
-message_bytes (Event sign event) = escape ∷ code "K" ∷ sign ∷ event ∷ carriage_return ∷ line_feed ∷ []
+message_bytes (Some message) = bytes_of message
 
 -- the record with her keys, her backlight, her hook and her PTT, and all else as it was
 abbrev pub with_sister_keys : Record → SisterKeyed → Record

@@ -7,7 +7,7 @@
 #![tactic(auto)]
 
 use program::{Host, Input};
-use record::{Label, Record, Settings, Text};
+use record::{Icons, Label, Record, Settings, Text, Volume};
 
 fn say(host: &Host, words: &[u8]) {
     program::write(host, b"list_screen", words);
@@ -19,90 +19,71 @@ fn say_number(host: &Host, words: &[u8], n: u64) {
 }
 
 fn say_flag(host: &Host, words: &[u8], flag: bool) {
-    if flag {
-        say_number(host, words, 1);
-    } else {
-        say_number(host, words, 0);
-    }
+    say_number(host, words, u64::from(flag));
 }
 
-fn printable(code: u8) -> u8 {
-    if code < 0x20 {
-        return b'.';
-    }
-    if 0x7E < code {
-        return b'.';
-    }
-    code
-}
-
-// The first n codes, in brackets.
-fn say_codes(host: &Host, codes: &[u8], n: usize) {
+// Codes in brackets.
+fn say_codes(host: &Host, codes: &[u8]) {
     say(host, b"[");
-    for i in 0..n {
-        if i < codes.len() {
-            let one = [printable(codes[i])];
-            say(host, &one);
-        }
+    for code in codes {
+        say(host, &[program::printable(*code)]);
     }
     say(host, b"]\n");
 }
 
-fn say_label(host: &Host, words: &[u8], label: Label) {
+fn say_label(host: &Host, words: &[u8], label: &Label) {
     say(host, words);
-    say_codes(host, &label.codes, label.len as usize);
+    say_codes(
+        host,
+        label
+            .codes
+            .get(..label.len as usize)
+            .unwrap_or(&label.codes),
+    );
 }
 
-fn say_text(host: &Host, text: Text) {
-    for row in 0..5 {
+fn say_text(host: &Host, text: &Text) {
+    for (row, codes) in text.chunks(16).take(5).enumerate() {
         say_number(host, b"TEXT ", row as u64);
         say(host, b" ");
-        say_codes(host, &text[row * 16..row * 16 + 16], 16);
+        say_codes(host, codes);
     }
 }
 
-fn say_screen(host: &Host, p: Settings) {
-    let s = p.screen;
-    say_number(host, b"MODE ", s.mode as u64);
-    say_number(host, b" OVER ", s.overlay as u64);
-    say_flag(host, b" DISPLAY ", s.display);
-    say_flag(host, b"\nCURSOR ", p.shown);
-    say_number(host, b" ", s.row as u64);
-    say_number(host, b" ", s.column as u64);
+fn say_screen(host: &Host, settings: &Settings) {
+    let screen = &settings.screen;
+    say_number(host, b"MODE ", u64::from(screen.mode));
+    say_number(host, b" OVER ", u64::from(screen.overlay));
+    say_flag(host, b" DISPLAY ", screen.display);
+    say_flag(host, b"\nCURSOR ", settings.shown);
+    say_number(host, b" ", u64::from(screen.row));
+    say_number(host, b" ", u64::from(screen.column));
     say(host, b"\n");
 }
 
-fn say_icons(host: &Host, p: Settings) {
-    let i = p.icons;
-    say_number(host, b"ICONS ", i.s as u64);
-    say_number(host, b" ", i.u as u64);
-    say_number(host, b" ", i.f as u64);
-    say_number(host, b" ", i.r as u64);
-    say_number(host, b" ", i.p as u64);
-    say_number(host, b" ", i.w as u64);
+fn say_icons(host: &Host, i: &Icons) {
+    say(host, b"ICONS");
+    for n in [i.s, i.u, i.f, i.r, i.p, i.w] {
+        say_number(host, b" ", u64::from(n));
+    }
     say(host, b"\n");
 }
 
-fn say_volume(host: &Host, p: Settings) {
-    let v = p.volume;
-    say_number(host, b"VOLUME ", v.which as u64);
-    say_number(host, b" ", v.level as u64);
-    say_flag(host, b" ", v.mute);
-    say_flag(host, b" ", v.hidden);
+fn say_volume(host: &Host, volume: &Volume) {
+    say_number(host, b"VOLUME ", u64::from(volume.which));
+    say_number(host, b" ", u64::from(volume.level));
+    say_flag(host, b" ", volume.mute);
+    say_flag(host, b" ", volume.hidden);
     say(host, b"\n");
 }
 
-fn say_fields(host: &Host, r: Record) {
-    let p = r.settings;
-    let text = r.text;
-    let left = p.left;
-    let right = p.right;
-    say_screen(host, p);
-    say_text(host, text);
-    say_label(host, b"LEFT ", left);
-    say_label(host, b"RIGHT ", right);
-    say_icons(host, p);
-    say_volume(host, p);
+fn say_fields(host: &Host, r: &Record) {
+    say_screen(host, &r.settings);
+    say_text(host, &r.text);
+    say_label(host, b"LEFT ", &r.settings.left);
+    say_label(host, b"RIGHT ", &r.settings.right);
+    say_icons(host, &r.settings.icons);
+    say_volume(host, &r.settings.volume);
 }
 
 fn accepted(host: &Host) -> bool {
@@ -120,9 +101,10 @@ fn accepted(host: &Host) -> bool {
 // The record's own edition decides which frames are read.
 fn power_on_given(host: &Host) -> Record {
     if program::is_given(host, b"--sister\n") {
-        return Record::sister_power_on();
+        Record::sister_power_on()
+    } else {
+        Record::power_on()
     }
-    Record::power_on()
 }
 
 fn list(host: &Host, input: &mut Input) {
@@ -133,7 +115,7 @@ fn list(host: &Host, input: &mut Input) {
     }
     say_number(host, b"REPLIES ", heard.replies);
     say(host, b"\n");
-    say_fields(host, heard.record);
+    say_fields(host, &heard.record);
 }
 
 fn main(rt: HostRuntime) {

@@ -1,12 +1,17 @@
 -- How many elements of a list pass a test, and the law of the loop that counts them. Assumes nothing.
-use Rattle.std.specs.Prelude.{ℕ, ◌+◌, ◌<◌, ◌≤◌, ◌≡◌, Bool, true, false, cond, List, [], ◌∷◌, ◌++◌, length, get_or, drop}
+use Rattle.std.specs.Prelude.{ℕ, ◌+◌, ◌<◌, ◌≤◌, ◌≡◌, refl, Bool, true, false, cond, List, [], ◌∷◌, ◌++◌, length, get_or, drop, count_by}
 use Rattle.std.proofs.Common.{arith, add-one, ap, ◌∙◌, drop_of_length-le, drop-cons}
+use Rattle.std.proofs.lemmas.List.Recursion.{is_count_by}
 use Rattle.lists.specs.Tests.{by_test}
 
 -- how many elements pass
 abbrev pub counted : (ℕ → Bool) → List ℕ → ℕ
 counted test [] = 0
 counted test (x ∷ xs) = cond (test x) 1 0 + counted test xs
+
+-- They are what std counts.
+pub counted_by : (test : ℕ → Bool) (s : List ℕ) → counted test s ≡ count_by test s
+counted_by test = is_count_by (counted test) test refl (λ x xs. by_test (test x) (λ e. rw e (omega arith)) (λ e. rw e (omega arith)))
 
 pub counted_append : (test : ℕ → Bool) (xs ys : List ℕ) → counted test (xs ++ ys) ≡ counted test xs + counted test ys
 counted_append test [] ys = omega arith

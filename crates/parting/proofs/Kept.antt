@@ -6,7 +6,6 @@ use Rattle.std.proofs.lemmas.Bool.{lt-leb}
 use Rattle.lists.specs.Codes.{escape, carriage_return, blank}
 use Rattle.lists.specs.Tests.{either_way}
 use Rattle.turns.specs.Taking
-use Rattle.turns.specs.Room
 use Rattle.turns.proofs.Room as RoomLaws
 use Rattle.parting.specs.Rules.{Plain, Body, empty, Frame, no_frame, open_frame, overlong, limit, in_limit, keep, FrameInRange}
 use Rattle.parting.specs.Meaning.{Answered, Meaning, State, refuse}

@@ -3,17 +3,17 @@ use Rattle.std.specs.Prelude.{ℕ, ◌≡◌, refl, List, [], ◌∷◌, ◌++�
 use Rattle.lists.specs.Codes.{ascii, escape, carriage_return, line_feed}
 use Rattle.parting.specs.Cut.{cut}
 use Rattle.parts.specs.declared.Kind.{Kind}
-use Rattle.parts.specs.declared.Kind.TheVariants.{None, Text, Skipped, Closed, Abandoned, Tail}
+use Rattle.parts.specs.declared.Kind.TheVariants.{Text, Skipped, Closed, Abandoned, Tail}
 use Rattle.parts.specs.Parts.{part_at}
-use Rattle.parts.specs.Laws.{Found, parts_from, parts_of}
+use Rattle.parts.specs.Laws.{Found, found_then, parts_from, parts_of}
 
 -- a part at its place: its kind and end, where its body begins and ends
 abbrev at : ℕ → Kind → ℕ → ℕ → ℕ → Found
 at place kind end body bodyEnd = record { place = place; part = record { kind = kind; end = end; body = body; body_end = bodyEnd } }
 
--- what is asked for at one place
+-- what is found at one place, if anything
 abbrev asked : List ℕ → ℕ → List Found
-asked bytes place = record { place = place; part = part_at bytes place } ∷ []
+asked bytes place = found_then place (part_at bytes place) (λ end. [])
 
 abbrev crlf : List ℕ
 crlf = carriage_return ∷ line_feed ∷ []
@@ -47,9 +47,9 @@ cases =
     -- LF inside a frame belongs to it; a second CR belongs to none
     ∷ gives (parts_of (esc (ascii "K" ++ line_feed ∷ carriage_return ∷ carriage_return ∷ []))) (at 0 Closed 4 1 3 ∷ at 4 Skipped 5 5 5 ∷ [])
     -- at the end there is none, and past it
-    ∷ gives (asked [] 0) (at 0 None 0 0 0 ∷ [])
-    ∷ gives (asked (ascii "Hi") 2) (at 2 None 2 2 2 ∷ [])
-    ∷ gives (asked (ascii "Hi") 9) (at 9 None 9 9 9 ∷ [])
+    ∷ gives (asked [] 0) []
+    ∷ gives (asked (ascii "Hi") 2) []
+    ∷ gives (asked (ascii "Hi") 9) []
     -- inside a frame the rest is parted by itself
     ∷ gives (asked (esc (ascii "K" ++ carriage_return ∷ [])) 1) (at 1 Text 2 2 2 ∷ [])
     ∷ []

@@ -1,6 +1,6 @@
 -- LAWS OF THE PART AT A PLACE, by the rules of the parting. In all of them `Parting (drop place bytes) parted` says how the bytes from the
 -- place on are parted; place 0 is the whole stream. Assumes nothing.
-use Rattle.std.specs.Prelude.{ℕ, zero, suc, ◌+◌, ◌-◌, ◌≤◌, ◌<◌, ◌≡◌, refl, Bool, true, false, cond, ltb, length, take, drop}
+use Rattle.std.specs.Prelude.{ℕ, zero, suc, ◌+◌, ◌-◌, ◌≤◌, ◌<◌, ◌≡◌, refl, ltb, length, take, drop, Option, Some, None, is_none, unwrap_or}
 use Rattle.std.proofs.Common.{arith, sym, ap, ◌∙◌, subst, true≢false, length-append, length-drop, drop_of_length-le, drop-drop, drop_at, take-add, length-take-le, ltb-true, ltb-false}
 use mathlib.Core.List.Memᴰ
 use mathlib.Core.List.{List, [], ◌∷◌, ◌++◌, map, append_assoc, append-nil, Memᴰ}
@@ -10,10 +10,8 @@ use Rattle.lists.specs.Tests.{by_test}
 use Rattle.parting.specs.Rules.{Part, text, skipped, closed, abandoned, bytes_of, Parted, done, unfinished, then, Parting, ends, waits, goes_on, Placed, places, tail_place}
 use Rattle.parting.specs.Cut.{outside, cut}
 use Rattle.parting.proofs.Cut.{exists, only_cut}
-use Rattle.parts.specs.declared.Kind.{Kind}
-use Rattle.parts.specs.declared.Kind.TheVariants as Kinds
 use Rattle.parts.specs.declared.PartAt.{PartAt}
-use Rattle.parts.specs.Parts.{kind_of, body_of, none_at, tail_at, standing, first_part, part_at}
+use Rattle.parts.specs.Parts.{body_of, tail_at, standing, first_part, part_at}
 
 -- What is told is the first part of the parting, whichever parting that is.
 pub tells_first : (bytes : List ℕ) (place : ℕ) {parted : Parted} → Parting (drop place bytes) parted → part_at bytes place ≡ first_part place parted
@@ -39,11 +37,20 @@ behind (goes_on {rest} l f p) = record { rest = rest; stream_is = refl; parting 
 drop_on : (bytes : List ℕ) (place : ℕ) (first rest : List ℕ) → drop place bytes ≡ first ++ rest → drop (place + length first) bytes ≡ rest
 drop_on bytes place first rest e = sym (drop-drop (length first) place bytes) ∙ ap (drop (length first)) e ∙ drop-append_seam first rest
 
+-- what is told where one is told
+same_part : {told other : PartAt} {found : Option PartAt} → found ≡ Some told → found ≡ Some other → told ≡ other
+same_part {told} e f = ap (λ (o : Option PartAt). unwrap_or o told) (sym e ∙ f)
+
+none_is_some : {told : PartAt} → ◌≡◌ {A = Option PartAt} None (Some told) → ⊥
+none_is_some e = true≢false (ap (λ (found : Option PartAt). is_none found) e)
+
 -- Behind a part the rest is parted on.
-pub parted_on : (bytes : List ℕ) (place : ℕ) {part : Part} {parted : Parted} → Parting (drop place bytes) (then part parted) → Parting (drop (part_at bytes place).end bytes) parted
-parted_on bytes place {part} {parted} p =
+pub parted_on : (bytes : List ℕ) (place : ℕ) {part : Part} {parted : Parted} {told : PartAt} → Parting (drop place bytes) (then part parted) → part_at bytes place ≡ Some told
+    → Parting (drop told.end bytes) parted
+parted_on bytes place {part} {parted} p e =
     let b = behind p in
-    subst (λ (rest : List ℕ). Parting rest parted) (sym (ap (λ (told : PartAt). drop told.end bytes) (tells_first bytes place p) ∙ drop_on bytes place (bytes_of part) b.rest b.stream_is)) b.parting
+    subst (λ (rest : List ℕ). Parting rest parted)
+    (sym (ap (λ (told : PartAt). drop told.end bytes) (same_part e (tells_first bytes place p)) ∙ drop_on bytes place (bytes_of part) b.rest b.stream_is)) b.parting
 
 -- THE PARTS ONE AFTER THE OTHER -------------------------------------------------------------------------------------------
 
@@ -52,18 +59,15 @@ pub record Found : Type 0 where
   pub place : ℕ
   pub part : PartAt
 
-abbrev pub is_none : Kind → Bool
-is_none Kinds.None = true
-is_none Kinds.Text = false
-is_none Kinds.Skipped = false
-is_none Kinds.Closed = false
-is_none Kinds.Abandoned = false
-is_none Kinds.Tail = false
+-- what is found at a place, and more from its end on; or nothing
+abbrev pub found_then : ℕ → Option PartAt → (ℕ → List Found) → List Found
+found_then place None more = []
+found_then place (Some part) more = record { place = place; part = part } ∷ more part.end
 
 -- from a place on, each asked for where the one before ends, until none is there, and at most so many
 unfoldable pub parts_from : ℕ → List ℕ → ℕ → List Found
 parts_from zero bytes place = []
-parts_from (suc most) bytes place = let part = part_at bytes place in cond (is_none part.kind) [] (record { place = place; part = part } ∷ parts_from most bytes part.end)
+parts_from (suc most) bytes place = found_then place (part_at bytes place) (parts_from most bytes)
 
 -- from the stream's beginning on; there are no more parts than bytes
 abbrev pub parts_of : List ℕ → List Found
@@ -83,12 +87,6 @@ unfolding parts_from
 none_more zero bytes place e = refl
 none_more (suc most) bytes place e = rw (told_there bytes place ends e)
 
-a_part_is_some : (part : Part) → is_none (kind_of part) ≡ false
-a_part_is_some (text b) = refl
-a_part_is_some (skipped b) = refl
-a_part_is_some (closed body) = refl
-a_part_is_some (abandoned body) = refl
-
 -- a part has a byte
 pub some_bytes : (part : Part) → 1 ≤ length (bytes_of part)
 some_bytes (text b) = omega arith
@@ -106,7 +104,7 @@ parts_from_lem (waits {body} h) (suc most) bytes place e l =
     (ap (λ (more : List Found). record { place = place; part = tail_at place body } ∷ more) (none_more most bytes _ (drop_on bytes place (escape ∷ body) [] (e ∙ sym (append-nil (escape ∷ body))))))
 parts_from_lem (goes_on {part} {rest} {parted} l f p) zero bytes place e m = absurd (omega (arith, some_bytes part, length-append (bytes_of part) rest))
 parts_from_lem (goes_on {part} {rest} {parted} l f p) (suc most) bytes place e m =
-    rw (told_there bytes place (goes_on {part = part} {parted = parted} l f p) e, a_part_is_some part)
+    rw (told_there bytes place (goes_on {part = part} {parted = parted} l f p) e)
     (ap (λ (more : List Found). record { place = place; part = standing place part } ∷ more)
     (parts_from_lem p most bytes (place + length (bytes_of part)) (drop_on bytes place (bytes_of part) rest e) (omega (arith, some_bytes part, length-append (bytes_of part) rest))))
 
@@ -134,7 +132,7 @@ tail_of (then part parted) = tail_of parted
 
 -- At each place of the parting stands its part, and at the tail's place the tail, or none.
 pub record Stand (bytes : List ℕ) (at : ℕ) (parted : Parted) : Type 0 where
-  pub parts : (placed : Placed) → Memᴰ placed (places at parted) → part_at bytes placed.place ≡ standing placed.place placed.part
+  pub parts : (placed : Placed) → Memᴰ placed (places at parted) → part_at bytes placed.place ≡ Some (standing placed.place placed.part)
   pub tail : part_at bytes (tail_place at parted) ≡ first_part (tail_place at parted) (tail_of parted)
 
 stand_from : {stream : List ℕ} {parted : Parted} → Parting stream parted → (bytes : List ℕ) (place : ℕ) → drop place bytes ≡ stream → Stand bytes place parted
@@ -146,7 +144,7 @@ stand_from (goes_on {part} {rest} {parted} l f p) bytes place e =
     record { parts = parts next; tail = next.tail }
   where
     parts : Stand bytes (place + length (bytes_of part)) parted
-        → (placed : Placed) → Memᴰ placed (record { place = place; part = part } ∷ places (place + length (bytes_of part)) parted) → part_at bytes placed.place ≡ standing placed.place placed.part
+        → (placed : Placed) → Memᴰ placed (record { place = place; part = part } ∷ places (place + length (bytes_of part)) parted) → part_at bytes placed.place ≡ Some (standing placed.place placed.part)
     parts next placed (Memᴰ.head same) = rw same (told_there bytes place (goes_on {part = part} {parted = parted} l f p) e)
     parts next placed (Memᴰ.tail m) = next.parts placed m
 
@@ -156,32 +154,43 @@ stand {bytes} p = stand_from p bytes 0 refl
 -- Bounds ------------------------------------------------------------------------------------------------------------------
 
 -- At the stream's end and past it there is none.
-pub none_at_end : (bytes : List ℕ) (place : ℕ) → length bytes ≤ place → part_at bytes place ≡ none_at place
+pub none_at_end : (bytes : List ℕ) (place : ℕ) → length bytes ≤ place → part_at bytes place ≡ None
 none_at_end bytes place l = told_there bytes place ends (drop_of_length-le bytes {i = place} l)
 
--- Before it there is one; it has a byte or more and lies within the stream.
+-- A part has a byte or more and lies within the stream.
 pub record Advances (bytes : List ℕ) (place : ℕ) (told : PartAt) : Type 0 where
-  pub some : is_none told.kind ≡ false
   pub further : place < told.end
   pub within : told.end ≤ length bytes
 
-advances_first : {stream : List ℕ} {parted : Parted} → Parting stream parted → (bytes : List ℕ) (place : ℕ) → drop place bytes ≡ stream → place < length bytes → Advances bytes place (first_part place parted)
+-- one that stands at a place, and does
+pub record Advancing (bytes : List ℕ) (place : ℕ) (found : Option PartAt) : Type 0 where
+  pub told : PartAt
+  pub some : found ≡ Some told
+  pub goes : Advances bytes place told
+
+advances_first : {stream : List ℕ} {parted : Parted} → Parting stream parted → (bytes : List ℕ) (place : ℕ) → drop place bytes ≡ stream → place < length bytes → Advancing bytes place (first_part place parted)
 advances_first ends bytes place e before = absurd (omega (arith, length-drop place bytes, ap length e))
 advances_first (waits {body} h) bytes place e before =
     let left : length bytes - place ≡ length (escape ∷ body) = sym (length-drop place bytes) ∙ ap length e in
-    record { some = refl; further = omega arith; within = omega arith }
+    record { told = tail_at place body; some = refl; goes = record { further = omega arith; within = omega arith } }
 advances_first (goes_on {part} {rest} l f p) bytes place e before =
     let left : length bytes - place ≡ length (bytes_of part ++ rest) = sym (length-drop place bytes) ∙ ap length e in
-    record { some = a_part_is_some part; further = omega (arith, some_bytes part); within = omega (arith, some_bytes part, length-append (bytes_of part) rest) }
+    record {
+      told = standing place part;
+      some = refl;
+      goes = record { further = omega (arith, some_bytes part); within = omega (arith, some_bytes part, length-append (bytes_of part) rest) };
+    }
 
-pub advances : (bytes : List ℕ) (place : ℕ) → place < length bytes → Advances bytes place (part_at bytes place)
-advances bytes place before = let p = exists (drop place bytes) outside tt in subst (Advances bytes place) (sym (tells_first bytes place p)) (advances_first p bytes place refl before)
+-- Before the stream's end there is one.
+pub advances : (bytes : List ℕ) (place : ℕ) → place < length bytes → Advancing bytes place (part_at bytes place)
+advances bytes place before = let p = exists (drop place bytes) outside tt in subst (Advancing bytes place) (sym (tells_first bytes place p)) (advances_first p bytes place refl before)
 
--- So unless there is none the next place lies further on, within the stream.
-pub progress : (bytes : List ℕ) (place : ℕ) → is_none (part_at bytes place).kind ≡ false → Advances bytes place (part_at bytes place)
-progress bytes place some =
-    by_test (ltb place (length bytes)) (λ before. advances bytes place (ltb-true place (length bytes) before))
-    (λ behind. absurd (true≢false (sym (ap (λ (told : PartAt). is_none told.kind) (none_at_end bytes place (ltb-false place (length bytes) behind))) ∙ some)))
+-- So wherever there is one the next place lies further on, within the stream.
+pub progress : (bytes : List ℕ) (place : ℕ) {told : PartAt} → part_at bytes place ≡ Some told → Advances bytes place told
+progress bytes place e =
+    by_test (ltb place (length bytes))
+    (λ before. let a = advances bytes place (ltb-true place (length bytes) before) in subst (Advances bytes place) (same_part a.some e) a.goes)
+    (λ behind. absurd (none_is_some (sym (none_at_end bytes place (ltb-false place (length bytes) behind)) ∙ e)))
 
 -- The body lies within the part, behind its first byte.
 pub record Lies (place : ℕ) (told : PartAt) : Type 0 where
@@ -189,17 +198,23 @@ pub record Lies (place : ℕ) (told : PartAt) : Type 0 where
   pub in_order : told.body ≤ told.body_end
   pub stops : told.body_end ≤ told.end
 
-lies_first : (place : ℕ) (parted : Parted) → Lies place (first_part place parted)
-lies_first place done = record { begins = omega arith; in_order = omega arith; stops = omega arith }
-lies_first place (unfinished body) = record { begins = omega arith; in_order = omega arith; stops = omega arith }
-lies_first place (then (text b) parted) = record { begins = omega arith; in_order = omega arith; stops = omega arith }
-lies_first place (then (skipped b) parted) = record { begins = omega arith; in_order = omega arith; stops = omega arith }
-lies_first place (then (closed body) parted) = record { begins = omega arith; in_order = omega arith; stops = omega (arith, length-append body (carriage_return ∷ [])) }
-lies_first place (then (abandoned body) parted) = record { begins = omega arith; in_order = omega arith; stops = omega arith }
+lies_tail : (place : ℕ) (body : List ℕ) → Lies place (tail_at place body)
+lies_tail place body = record { begins = omega arith; in_order = omega arith; stops = omega arith }
 
-pub lies : (bytes : List ℕ) (place : ℕ) → Lies place (part_at bytes place)
+lies_standing : (place : ℕ) (part : Part) → Lies place (standing place part)
+lies_standing place (text b) = record { begins = omega arith; in_order = omega arith; stops = omega arith }
+lies_standing place (skipped b) = record { begins = omega arith; in_order = omega arith; stops = omega arith }
+lies_standing place (closed body) = record { begins = omega arith; in_order = omega arith; stops = omega (arith, length-append body (carriage_return ∷ [])) }
+lies_standing place (abandoned body) = record { begins = omega arith; in_order = omega arith; stops = omega arith }
+
+lies_first : (place : ℕ) (parted : Parted) {told : PartAt} → first_part place parted ≡ Some told → Lies place told
+lies_first place done e = absurd (none_is_some e)
+lies_first place (unfinished body) e = subst (Lies place) (same_part refl e) (lies_tail place body)
+lies_first place (then part parted) e = subst (Lies place) (same_part refl e) (lies_standing place part)
+
+pub lies : (bytes : List ℕ) (place : ℕ) {told : PartAt} → part_at bytes place ≡ Some told → Lies place told
 unfolding part_at
-lies bytes place = lies_first place (cut outside (drop place bytes))
+lies bytes place e = lies_first place (cut outside (drop place bytes)) e
 
 -- The body ----------------------------------------------------------------------------------------------------------------
 
@@ -226,9 +241,11 @@ body_standing bytes place (closed body) rest e = slice_behind bytes place escape
 body_standing bytes place (abandoned body) rest e = slice_behind bytes place escape body rest e
 
 -- The bytes from `body` to `body_end` are the body of the part,
-pub body_told_lem : (bytes : List ℕ) (place : ℕ) {part : Part} {parted : Parted} → Parting (drop place bytes) (then part parted) → body_told bytes (part_at bytes place) ≡ body_of part
-body_told_lem bytes place {part} p = let b = behind p in ap (body_told bytes) (tells_first bytes place p) ∙ body_standing bytes place part b.rest b.stream_is
+pub body_told_lem : (bytes : List ℕ) (place : ℕ) {part : Part} {parted : Parted} {told : PartAt} → Parting (drop place bytes) (then part parted) → part_at bytes place ≡ Some told
+    → body_told bytes told ≡ body_of part
+body_told_lem bytes place {part} p e = let b = behind p in ap (body_told bytes) (same_part e (tells_first bytes place p)) ∙ body_standing bytes place part b.rest b.stream_is
 
 -- and of the tail.
-pub tail_body_told : (bytes : List ℕ) (place : ℕ) {body : List ℕ} → Parting (drop place bytes) (unfinished body) → body_told bytes (part_at bytes place) ≡ body
-tail_body_told bytes place {body} p = ap (body_told bytes) (tells_first bytes place p) ∙ slice_behind bytes place escape body [] (waiting p ∙ ap (λ (more : List ℕ). escape ∷ more) (sym (append-nil body)))
+pub tail_body_told : (bytes : List ℕ) (place : ℕ) {body : List ℕ} {told : PartAt} → Parting (drop place bytes) (unfinished body) → part_at bytes place ≡ Some told → body_told bytes told ≡ body
+tail_body_told bytes place {body} p e =
+    ap (body_told bytes) (same_part e (tells_first bytes place p)) ∙ slice_behind bytes place escape body [] (waiting p ∙ ap (λ (more : List ℕ). escape ∷ more) (sym (append-nil body)))

@@ -1,6 +1,6 @@
 -- THE PART AT A PLACE: the first part of the parting of the bytes from that place on. Assumes nothing.
-use Rattle.std.specs.Prelude.{ℕ, ◌+◌, List, [], ◌∷◌, length, drop}
-use Rattle.lists.specs.Codes.{escape}
+use Rattle.std.specs.Prelude.{ℕ, ◌+◌, List, [], ◌∷◌, length, drop, Bool, eqb, ◌||◌, Option, Some, None}
+use Rattle.lists.specs.Codes.{escape, carriage_return}
 use Rattle.parting.specs.Rules.{Part, text, skipped, closed, abandoned, bytes_of, Parted, done, unfinished, then}
 use Rattle.parting.specs.Cut.{outside, cut}
 use Rattle.parts.specs.declared.Kind.{Kind}
@@ -24,21 +24,22 @@ body_of (abandoned body) = body
 abbrev told : ℕ → Kind → List ℕ → List ℕ → PartAt
 told place kind bytes body = record { kind = kind; end = place + length bytes; body = place + 1; body_end = place + 1 + length body }
 
-abbrev pub none_at : ℕ → PartAt
-none_at place = record { kind = Kinds.None; end = place; body = place; body_end = place }
-
 abbrev pub tail_at : ℕ → List ℕ → PartAt
 tail_at place body = told place Kinds.Tail (escape ∷ body) body
 
 abbrev pub standing : ℕ → Part → PartAt
 standing place part = told place (kind_of part) (bytes_of part) (body_of part)
 
--- the first part of a parting that begins at this place
-abbrev pub first_part : ℕ → Parted → PartAt
-first_part place done = none_at place
-first_part place (unfinished body) = tail_at place body
-first_part place (then part parted) = standing place part
+-- what a frame's body ends before
+abbrev pub ends_body : ℕ → Bool
+ends_body b = eqb b escape || eqb b carriage_return
+
+-- the first part of a parting that begins at this place; at the stream's end there is none
+abbrev pub first_part : ℕ → Parted → Option PartAt
+first_part place done = None
+first_part place (unfinished body) = Some (tail_at place body)
+first_part place (then part parted) = Some (standing place part)
 
 -- THE PART AT A PLACE of a stream
-unfoldable pub part_at : List ℕ → ℕ → PartAt
+unfoldable pub part_at : List ℕ → ℕ → Option PartAt
 part_at bytes place = first_part place (cut outside (drop place bytes))

@@ -1,3 +1,1 @@
-pub mod Stores
-pub mod Beginning
 pub mod Drawing

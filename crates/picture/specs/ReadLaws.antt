@@ -1,19 +1,18 @@
 -- The reader's definition takes exactly the data that document 01 tells of. Assumes nothing.
-use Rattle.std.specs.Prelude.{ℕ, zero, suc, ◌+◌, ◌-◌, ◌*◌, ◌<◌, ◌≤◌, Bool, true, false, cond, ◌&&◌, ◌||◌, List, [], ◌∷◌, ◌++◌, ◌≡◌, refl, leb, length, take, replicate}
+use Rattle.std.specs.Prelude.{ℕ, zero, suc, ◌+◌, ◌-◌, ◌*◌, ◌<◌, ◌≤◌, Bool, true, false, cond, ◌&&◌, ◌||◌, List, [], ◌∷◌, ◌++◌, ◌≡◌, refl, leb, length, take, replicate, Option, Some, None, option_and_then, option_map, MatchOption}
 use Prim.Native.Char.{code}
 use Rattle.std.proofs.Common.{arith, sym, ◌∙◌, ap, subst, length-append, le-leb, leb-true}
-use Rattle.std.proofs.Math.Option.{Option, none, some}
 use Rattle.std.proofs.lemmas.List.{length-replicate}
 use Rattle.std.proofs.lemmas.Bool.{lt-leb}
 use Rattle.lists.specs.Every.{every}
 use Rattle.picture.specs.Data.{Digit, decimal, letter, Item, single, several, Items, Draws, Bytes}
 use Rattle.picture.specs.Data as told
 use Rattle.lists.specs.Padded.{held}
-use Rattle.picture.specs.Reading.{is_decimal, is_capital, is_letter, hex_of, times_of, column_of, onto, drawn, items, few, columns_of, columns_read}
+use Rattle.picture.specs.Reading.{is_decimal, is_capital, is_letter, hex_of, times_of, onto, repeated, drawn, items, few, columns_of, columns_found, columns_read}
 
 -- a digit has its value and is no letter a to y
 record Read (x c : ℕ) : Type 0 where
-  value : hex_of c ≡ x
+  value : hex_of c ≡ Some x
   low : x ≤ 15
   plain : is_letter c ≡ false
 
@@ -21,13 +20,13 @@ read_digit : {x c : ℕ} → Digit x c → Read x c
 unfolding hex_of
 read_digit (decimal {x} h) =
     record {
-      value = rw (le-leb (code "0") (code "0" + x) (omega arith), le-leb (code "0" + x) (code "9") (omega arith)) (omega arith);
+      value = rw (le-leb (code "0") (code "0" + x) (omega arith), le-leb (code "0" + x) (code "9") (omega arith)) (ap Some (omega arith));
       low = omega arith;
       plain = rw (lt-leb (code "a") (code "0" + x) (omega arith));
     }
 read_digit (letter {x} h) =
     record {
-      value = rw (le-leb (code "0") (code "A" + x) (omega arith), lt-leb (code "A" + x) (code "9") (omega arith), le-leb (code "A") (code "A" + x) (omega arith), le-leb (code "A" + x) (code "F") (omega arith)) (omega arith);
+      value = rw (le-leb (code "0") (code "A" + x) (omega arith), lt-leb (code "A" + x) (code "9") (omega arith), le-leb (code "A") (code "A" + x) (omega arith), le-leb (code "A" + x) (code "F") (omega arith)) (ap Some (omega arith));
       low = omega arith;
       plain = rw (lt-leb (code "a") (code "A" + x) (omega arith));
     }
@@ -44,16 +43,16 @@ draw_pair : {x y a b : ℕ} (n : ℕ) (rest : Option (List ℕ)) → Digit x a �
 draw_pair {x} {y} {a} {b} n rest p q =
     let r = read_digit p in
     let s = read_digit q in
-    rw (r.value, s.value, le-leb x 15 r.low, le-leb y 15 s.low)
+    rw (r.value, s.value)
 
 -- an item is drawn, and then what follows it
 draw_item : {s xs : List ℕ} (t : List ℕ) → Item s xs → items (s ++ t) ≡ onto xs (items t)
 unfolding items
-draw_item [] (single p q) = draw_pair 1 (some []) p q
+draw_item [] (single p q) = draw_pair 1 (Some []) p q
 draw_item (c ∷ t) (single p q) = rw (read_digit p).plain (draw_pair 1 (items (c ∷ t)) p q)
 draw_item t (several {k} h p q) = rw ((read_letter k h).0, (read_letter k h).1) (draw_pair (2 + k) (items t) p q)
 
-draw_items : {codes columns : List ℕ} → Items codes columns → items codes ≡ some columns
+draw_items : {codes columns : List ℕ} → Items codes columns → items codes ≡ Some columns
 unfolding items
 draw_items told.none = refl
 draw_items (told.more {t = t} {xs = xs} i rest) = draw_item t i ∙ ap (onto xs) (draw_items rest)
@@ -63,45 +62,50 @@ pub complete : {codes columns : List ℕ} → Draws codes columns → columns_of
 unfolding columns_of
 complete {codes} {columns} d = rw (draw_items d.items, le-leb (length columns) 96 d.most)
 
--- a code that counts at most 15 is a digit
-digit_read : (c : ℕ) → hex_of c ≤ 15 → Digit (hex_of c) c
+-- what a code says as a digit: it is the digit of that value
+abbrev Counts : ℕ → Option ℕ → Type 0
+Counts c None = Unit {0}
+Counts c (Some x) = Digit x c
+
+digit_read : (c : ℕ) → Counts c (hex_of c)
 unfolding hex_of
 digit_read c = cases (leb (code "0") c) (leb c (code "9")) (leb (code "A") c) (leb c (code "F")) refl refl refl refl
   where
     digit_by : {x y c d : ℕ} → x ≡ y → c ≡ d → Digit y d → Digit x c
     digit_by e f g = rw (e, f) g
 
+    capital : leb (code "A") c ≡ true → leb c (code "F") ≡ true → Digit (c - code "A" + 10) c
+    capital g h =
+        digit_by {y = 10 + (c - code "A")} {d = code "A" + (c - code "A")} (omega arith) (omega (arith, leb-true (code "A") c g)) (letter (omega (arith, leb-true (code "A") c g, leb-true c (code "F") h)))
+
     cases : (p q r s : Bool) → leb (code "0") c ≡ p → leb c (code "9") ≡ q → leb (code "A") c ≡ r → leb c (code "F") ≡ s
-        → cond (p && q) (c - code "0") (cond (r && s) (c - code "A" + 10) 16) ≤ 15
-        → Digit (cond (p && q) (c - code "0") (cond (r && s) (c - code "A" + 10) 16)) c
-    cases true true r s e f g h l =
+        → Counts c (cond (p && q) (Some (c - code "0")) (cond (r && s) (Some (c - code "A" + 10)) None))
+    cases true true r s e f g h =
         digit_by {y = c - code "0"} {d = code "0" + (c - code "0")} refl (omega (arith, leb-true (code "0") c e)) (decimal (omega (arith, leb-true (code "0") c e, leb-true c (code "9") f)))
-    cases true false true true e f g h l =
-        digit_by {y = 10 + (c - code "A")} {d = code "A" + (c - code "A")} (omega arith) (omega (arith, leb-true (code "A") c g)) (letter (omega (arith, leb-true (code "A") c g, leb-true c (code "F") h)))
-    cases true false true false e f g h l = absurd (omega arith)
-    cases true false false s e f g h l = absurd (omega arith)
-    cases false q true true e f g h l =
-        digit_by {y = 10 + (c - code "A")} {d = code "A" + (c - code "A")} (omega arith) (omega (arith, leb-true (code "A") c g)) (letter (omega (arith, leb-true (code "A") c g, leb-true c (code "F") h)))
-    cases false q true false e f g h l = absurd (omega arith)
-    cases false q false s e f g h l = absurd (omega arith)
+    cases true false true true e f g h = capital g h
+    cases true false true false e f g h = tt
+    cases true false false s e f g h = tt
+    cases false q true true e f g h = capital g h
+    cases false q true false e f g h = tt
+    cases false q false s e f g h = tt
 
 -- what a reading says of the codes: they are items that give the columns
 abbrev Said : List ℕ → Option (List ℕ) → Type 0
-Said codes none = Unit {0}
-Said codes (some columns) = Items codes columns
+Said codes None = Unit {0}
+Said codes (Some columns) = Items codes columns
 
 -- two digits that are drawn are an item before what follows them
 said_pair : (n a b : ℕ) (codes t : List ℕ) (rest : Option (List ℕ))
     → ((x y : ℕ) (ys : List ℕ) → Digit x a → Digit y b → Items t ys → Items codes (replicate n (x * 16 + y) ++ ys))
     → Said t rest → Said codes (drawn n a b rest)
-said_pair n a b codes t rest item said = cases (leb (hex_of a) 15) (leb (hex_of b) 15) refl refl rest said
+said_pair n a b codes t rest item said = cases (hex_of a) (hex_of b) (digit_read a) (digit_read b) rest said
   where
-    cases : (p q : Bool) → leb (hex_of a) 15 ≡ p → leb (hex_of b) 15 ≡ q → (rest : Option (List ℕ)) → Said t rest
-        → Said codes (cond (p && q) (onto (replicate n (column_of a b)) rest) none)
-    cases true true e f none s = tt
-    cases true true e f (some ys) s = item (hex_of a) (hex_of b) ys (digit_read a (leb-true (hex_of a) 15 e)) (digit_read b (leb-true (hex_of b) 15 f)) s
-    cases true false e f rest s = tt
-    cases false q e f rest s = tt
+    cases : (u v : Option ℕ) → Counts a u → Counts b v → (rest : Option (List ℕ)) → Said t rest
+        → Said codes (repeated n (option_and_then (λ x. option_map (λ y. x * 16 + y) v) u) rest)
+    cases None v p q rest s = tt
+    cases (Some x) None p q rest s = tt
+    cases (Some x) (Some y) p q None s = tt
+    cases (Some x) (Some y) p q (Some ys) s = item x y ys p q s
 
 letter_read : (a : ℕ) → is_letter a ≡ true → (a ≡ code "a" + (a - code "a")) × (a - code "a" < 25) × (times_of a ≡ 2 + (a - code "a"))
 unfolding times_of
@@ -124,7 +128,7 @@ said : (codes : List ℕ) → Said codes (items codes)
 unfolding items
 said [] = told.none
 said (a ∷ []) = tt
-said (a ∷ b ∷ []) = said_pair 1 a b (a ∷ b ∷ []) [] (some []) (λ x y ys p q s. told.more (single p q) s) told.none
+said (a ∷ b ∷ []) = said_pair 1 a b (a ∷ b ∷ []) [] (Some []) (λ x y ys p q s. told.more (single p q) s) told.none
 said (a ∷ b ∷ c ∷ more) = cases (is_letter a) refl (said more) (said (c ∷ more))
   where
     cases : (l : Bool) → is_letter a ≡ l → Said more (items more) → Said (c ∷ more) (items (c ∷ more))
@@ -144,16 +148,20 @@ sound {columns} codes = cases (items codes) (said codes)
     fits read false f s e h = absurd (omega (arith, ap length e))
 
     cases : (read : Option (List ℕ)) → Said codes read → few read ≡ columns → 1 ≤ length columns → Draws codes columns
-    cases none s e h = absurd (omega (arith, ap length e))
-    cases (some read) s e h = fits read (leb (length read) 96) refl s e h
+    cases None s e h = absurd (omega (arith, ap length e))
+    cases (Some read) s e h = fits read (leb (length read) 96) refl s e h
 
 -- Data draws one list of columns.
 pub one_drawing : {codes xs ys : List ℕ} → Draws codes xs → Draws codes ys → xs ≡ ys
 one_drawing p q = sym (complete p) ∙ complete q
 
--- The places that are used hold the columns.
-pub held_columns : (codes : List ℕ) → take (columns_read codes).len (columns_read codes).bytes ≡ columns_of codes
-held_columns codes = held 96 (columns_of codes)
+-- The places that are used hold the columns, and nothing is read where no columns are drawn.
+pub held_columns : (codes : List ℕ) → MatchOption (columns_read codes) (columns_of codes ≡ []) (λ read. take read.len read.bytes ≡ columns_of codes)
+held_columns codes = cases (columns_of codes)
+  where
+    cases : (columns : List ℕ) → MatchOption (columns_found columns) (columns ≡ []) (λ read. take read.len read.bytes ≡ columns)
+    cases [] = refl
+    cases (column ∷ more) = held 96 (column ∷ more)
 
 -- Data never takes more than two codes a column.
 item_size : {s xs : List ℕ} → Item s xs → length s ≤ 2 * length xs

@@ -2,15 +2,13 @@
 // An item is two digits 0-9 A-F, one column, or a letter a to y before them, 2 to 26 equal columns; the top dot is the lowest bit.
 #![tactic(auto)]
 
-ghost use Rattle.std.specs.Prelude.{◌≡◌, ◌+◌, ◌*◌, ◌≤◌, ◌<◌, [], length, replicate};
-ghost use Rattle.std.proofs.lemmas.List.Edits.{sets};
-ghost use Rattle.lists.specs.Padded.{padded};
-ghost use Rattle.picture.specs.Reading.{hex_of, times_of, pair_of, first_of, columns_in, columns_read};
+ghost use Rattle.std.specs.Prelude.{◌≡◌, ◌<◌, ◌≤◌, IfSome, length};
+ghost use Rattle.picture.specs.Reading.{hex_of, pair_of, first_of, columns_read};
 
 // A picture row holds so many columns.
 pub const MOST_COLUMNS: usize = 96;
 
-// The columns that data draws, the places past `len` zero; `len` is 0 where it is no data.
+// The columns that data draws, the places past `len` zero. There is no heap: so it is an array with its length, as `Data` is.
 #[derive(Clone, Copy)]
 pub struct Columns {
     pub len: u8,
@@ -26,112 +24,70 @@ pub struct Data {
 
 // The item that data begins with: so many equal columns, their value, and how many codes it takes.
 #[derive(Clone, Copy)]
-enum FirstItem {
-    Bad,
-    Run(usize, u8, usize),
+struct Item {
+    count: usize,
+    column: u8,
+    width: usize,
 }
 
-// The value of a digit 0-9 or A-F; 16 of any other code.
-fn hex_value(c: u8) -> u8
+// The value of a digit 0-9 or A-F.
+#[tactic(auto, unfolding(crate::specs::Reading::hex_of))]
+fn hex_value(c: u8) -> Option<u8>
     ensures same { result ≡ hex_of c }
+    ensures small { IfSome result (λ x. x < 16) }
 {
     match c {
-        b'0'..=b'9' => c - b'0',
-        b'A'..=b'F' => c - b'A' + 10,
-        _ => 16,
-    }
-}
-
-// How many columns an item gives that begins with this code: 2 to 26 for a letter a to y, else 1.
-fn times(c: u8) -> usize
-    ensures same { result ≡ times_of c }
-{
-    match c {
-        b'a'..=b'y' => (c - b'a') as usize + 2,
-        _ => 1,
+        b'0'..=b'9' => Some(c - b'0'),
+        b'A'..=b'F' => Some(c - b'A' + 10),
+        _ => None,
     }
 }
 
 // Two digits as an item.
-fn pair(count: usize, a: u8, b: u8, width: usize) -> FirstItem
+#[tactic(auto, unfolding(crate::specs::Reading::pair_of))]
+fn pair(count: usize, a: u8, b: u8, width: usize) -> Option<Item>
     ensures same { result ≡ pair_of count a b width }
+    ensures whole { IfSome result (λ item. item.width ≡ width) }
 {
-    let high = hex_value(a);
-    let low = hex_value(b);
-    if 15 < high {
-        return FirstItem::Bad;
-    }
-    if 15 < low {
-        return FirstItem::Bad;
-    }
-    FirstItem::Run(count, high * 16 + low, width)
+    let column = hex_value(a)? * 16 + hex_value(b)?;
+    Some(Item {
+        count,
+        column,
+        width,
+    })
 }
 
-// The item that a slice begins with.
-fn first_item(s: &[u8]) -> FirstItem
+// The item that a slice begins with: a letter a to y stands for 2 to 26 columns.
+#[tactic(auto, unfolding(crate::specs::Reading::first_of, crate::specs::Reading::times_of))]
+fn first_item(s: &[u8]) -> Option<Item>
     ensures same { result ≡ first_of s.now }
+    ensures fits { IfSome result (λ item. (1 ≤ item.width) × (item.width ≤ length s.now)) }
 {
-    if s.len() < 2 {
-        return FirstItem::Bad;
-    }
-    if s.len() < 3 {
-        return pair(1, s[0], s[1], 2);
-    }
-    let repeats = times(s[0]);
-    if repeats == 1 {
-        return pair(1, s[0], s[1], 2);
-    }
-    pair(repeats, s[1], s[2], 3)
-}
-
-// So many equal columns into a row.
-fn draw_run(row: &mut [u8; 96], at: usize, count: usize, column: u8)
-    requires { (at + count ≤ 96) × (length row.old ≡ 96) }
-    ensures same { row.new ≡ sets row.old at (replicate count column) }
-{
-    let mut i = 0;
-    while i < count {
-        row[at + i] = column;
-        i += 1;
-    }
-}
-
-fn blank_row() -> [u8; 96]
-    ensures same { result ≡ padded 96 [] }
-{
-    [0u8; 96]
-}
-
-fn no_columns() -> Columns
-    ensures same { result ≡ columns_in [] }
-{
-    Columns {
-        len: 0,
-        bytes: blank_row(),
+    match *s {
+        [letter @ b'a'..=b'y', a, b, ..] => pair((letter - b'a') as usize + 2, a, b, 3),
+        [a, b, ..] => pair(1, a, b, 2),
+        _ => None,
     }
 }
 
 // The columns that a slice draws as data.
-pub fn read_data(d: &[u8]) -> Columns
+pub fn read_data(d: &[u8]) -> Option<Columns>
     ensures same { result ≡ columns_read d.now }
 {
-    let mut row = blank_row();
+    let mut bytes = [0; MOST_COLUMNS];
     let mut used = 0;
-    let mut i = 0;
-    while i < d.len() {
-        let item = first_item(&d[i..]);
-        let FirstItem::Run(count, column, width) = item else {
-            return no_columns();
-        };
-        if MOST_COLUMNS - used < count {
-            return no_columns();
+    let mut rest = d;
+    while !rest.is_empty() {
+        let item = first_item(rest)?;
+        if MOST_COLUMNS - used < item.count {
+            return None;
         }
-        draw_run(&mut row, used, count, column);
-        used += count;
-        i += width;
+        bytes[used..used + item.count].fill(item.column);
+        used += item.count;
+        rest = &rest[item.width..];
     }
-    Columns {
+    (0 < used).then_some(Columns {
         len: used as u8,
-        bytes: row,
-    }
+        bytes,
+    })
 }

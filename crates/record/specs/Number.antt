@@ -1,8 +1,10 @@
 -- How a call ended: the paper's numbers ("Numbers handed back") and their names. Definitions name a case by its number. Assumes nothing.
-use Rattle.std.specs.Prelude.{ℕ, zero, suc, ◌≤◌, ◌≡◌, refl, cond, eqb}
+use Rattle.std.specs.Prelude.{ℕ, zero, suc, ◌≤◌, ◌≡◌, refl, cond, eqb, Result, Ok, Err}
 use Rattle.std.proofs.Common.{arith}
 use Rattle.record.specs.declared.Number.{Number}
 use Rattle.record.specs.declared.Number.TheVariants.{Done, FieldOutOfRange, CommandOutOfRange, NoRoom, NotListed, UnequalLengths}
+use Rattle.record.specs.declared.Refusal.{Refusal}
+use Rattle.record.specs.declared.Refusal.TheVariants as Refused
 
 -- 0: the work is done. 1: a field of the record is out of range. 2: a writer's command, label, columns or row is out of range.
 -- 3: a writer's frame is longer than the room. 4: a display row above 6 or a column above 95, or an edge byte that is not listed.
@@ -24,6 +26,18 @@ numbered n =
     (cond (eqb n 3) NoRoom
     (cond (eqb n 4) NotListed
     UnequalLengths))))
+
+-- A call that hands back what it found, or why there is nothing, ended with number 0, or with that of the refusal.
+abbrev pub refused_number : Refusal → Number
+refused_number Refused.FieldOutOfRange = FieldOutOfRange
+refused_number Refused.CommandOutOfRange = CommandOutOfRange
+refused_number Refused.NoRoom = NoRoom
+refused_number Refused.NotListed = NotListed
+refused_number Refused.UnequalLengths = UnequalLengths
+
+abbrev pub ended : {T : Type 0} → Result T Refusal → Number
+ended (Ok found) = Done
+ended (Err refusal) = refused_number refusal
 
 -- Each number names its own case, and each case is named by its number.
 pub number_of_case : (n : ℕ) → n ≤ 5 → paper_number (numbered n) ≡ n

@@ -3,9 +3,9 @@
 #![tactic(auto)]
 
 ghost use Rattle.std.specs.Prelude.{◌≡◌};
-ghost use Rattle.record.specs.Number.{paper_number};
+ghost use Rattle.record.specs.Number.{paper_number, refused_number};
 ghost use Rattle.record.specs.Range.{rows_of, row_end_of, row_start_of};
-ghost use Rattle.record.specs.Parts.{small_of};
+ghost use Rattle.record.specs.Parts.{small_of, whole};
 ghost use Rattle.record.specs.PowerOn.{times_at_power_on, former_times, starting_with, power_on, former_power_on, stored_at_delivery, sister_with, sister_power_on};
 
 // The text mode of large digits: its one row is the large line.
@@ -86,6 +86,30 @@ pub enum Number {
     NoRoom,
     NotListed,
     UnequalLengths,
+}
+
+// Why a call did nothing: document 01's numbers but 0.
+#[derive(Clone, Copy)]
+pub enum Refusal {
+    FieldOutOfRange,
+    CommandOutOfRange,
+    NoRoom,
+    NotListed,
+    UnequalLengths,
+}
+
+impl From<Refusal> for Number {
+    ghost from_gives = { λ refusal number. number ≡ refused_number refusal };
+
+    fn from(refusal: Refusal) -> Number {
+        match refusal {
+            Refusal::FieldOutOfRange => Number::FieldOutOfRange,
+            Refusal::CommandOutOfRange => Number::CommandOutOfRange,
+            Refusal::NoRoom => Number::NoRoom,
+            Refusal::NotListed => Number::NotListed,
+            Refusal::UnequalLengths => Number::UnequalLengths,
+        }
+    }
 }
 
 // overlay 0 is none; the column past a row's last one stands at its end.
@@ -249,19 +273,19 @@ pub struct Small {
     pub edition: Edition,
 }
 
+// A record in parts, for a call that only looks at its arrays.
+#[derive(Clone, Copy)]
+pub struct InParts<'a> {
+    pub small: Small,
+    pub text: &'a Text,
+    pub picture: &'a Picture,
+    pub frame: &'a FrameBytes,
+}
+
 pub fn small_of(r: Record) -> Small
     ensures same { result ≡ small_of r }
 {
-    let settings = r.settings;
-    let held = r.held;
-    let edition = r.edition;
-    Small {
-        settings: settings,
-        held: held,
-        state: r.frame.state,
-        len: r.frame.len,
-        edition: edition,
-    }
+    r.in_parts().small
 }
 
 pub fn paper_number(number: Number) -> u8
@@ -278,36 +302,29 @@ pub fn paper_number(number: Number) -> u8
 }
 
 // How many text rows a text mode has.
+#[tactic(auto, unfolding(crate::specs::Range::rows_of))]
 pub fn rows(mode: u8) -> u8
     ensures same { result ≡ rows_of mode }
 {
-    if mode <= 1 {
-        return 4;
+    match mode {
+        0 | 1 => 4,
+        LARGE => 1,
+        _ => 5,
     }
-    if mode == LARGE {
-        return 1;
-    }
-    5
 }
 
 // The column past the end of a text row.
 pub fn row_end(mode: u8) -> u8
     ensures same { result ≡ row_end_of mode }
 {
-    if mode == LARGE {
-        return 24;
-    }
-    16
+    if mode == LARGE { 24 } else { 16 }
 }
 
 // Where a row's codes begin in the text: the large line stands behind the rows.
 pub fn row_start(mode: u8, row: u8) -> usize
     ensures same { result ≡ row_start_of mode row }
 {
-    if mode == LARGE {
-        return 80;
-    }
-    row as usize * 16
+    if mode == LARGE { 80 } else { row as usize * 16 }
 }
 
 impl Times {
@@ -457,16 +474,32 @@ impl Record {
         ..Record::POWER_ON
     };
 
+    pub fn in_parts(&self) -> InParts<'_>
+        ensures same { whole result ≡ self.now }
+    {
+        InParts {
+            small: Small {
+                settings: self.settings,
+                held: self.held,
+                state: self.frame.state,
+                len: self.frame.len,
+                edition: self.edition,
+            },
+            text: &self.text,
+            picture: &self.picture,
+            frame: &self.frame.bytes,
+        }
+    }
+
     // The power-on record but for its times.
     pub fn starting_with(times: Times) -> Record
         ensures same { result ≡ starting_with times }
     {
-        let settings = Settings {
-            times: times,
-            ..Settings::POWER_ON
-        };
         Record {
-            settings: settings,
+            settings: Settings {
+                times,
+                ..Settings::POWER_ON
+            },
             ..Record::POWER_ON
         }
     }
@@ -503,27 +536,23 @@ impl Record {
     pub fn sister_with(stored: Stored) -> Record
         ensures same { result ≡ sister_with stored }
     {
-        let times = stored.times;
-        let duration = stored.duration;
-        let settings = Settings {
-            times: times,
-            backlight: Backlight {
-                mode: AUTO,
-                duration: duration,
-                left: Seconds(0),
-                keypad: false,
-            },
-            contrast: stored.contrast,
-            ..Settings::POWER_ON
-        };
-        let edition = Edition {
-            brightness: stored.brightness,
-            speaker: stored.speaker,
-            ..Edition::SISTER
-        };
         Record {
-            settings: settings,
-            edition: edition,
+            settings: Settings {
+                times: stored.times,
+                backlight: Backlight {
+                    mode: AUTO,
+                    duration: stored.duration,
+                    left: Seconds(0),
+                    keypad: false,
+                },
+                contrast: stored.contrast,
+                ..Settings::POWER_ON
+            },
+            edition: Edition {
+                brightness: stored.brightness,
+                speaker: stored.speaker,
+                ..Edition::SISTER
+            },
             ..Record::POWER_ON
         }
     }

@@ -5,13 +5,13 @@ ghost use Rattle.std.specs.Prelude.{◌≡◌, ◌≤◌, length, ◌&&◌};
 ghost use Rattle.lists.specs.Every.{every};
 ghost use Rattle.record_ranges.specs.Editions.{first_asked, sister_asked};
 ghost use Rattle.record.specs.Range.{is_frame_byte, is_unused, text_in_range, label_in_range, picture_in_range, frame_in_range, keys_unused, keys_in_range, in_range};
-ghost use Rattle.record.specs.Parts.{together};
+ghost use Rattle.record.specs.Parts.{whole};
 ghost use Rattle.record_ranges.specs.Scan.{test_of, right_at, filled};
 
 use lists::{BLANK, CARRIAGE_RETURN, ESCAPE};
 use record::{
-    Edition, FrameBytes, Keys, LAST_SISTER_KEY, LONGEST_LABEL, LOW_COLUMN_END, Label, OPEN,
-    OVERLONG, Picture, Record, SETS_OF_KEYS, STAGE_FALSE, STAGE_LONG, STAGE_SHORT, Small, Text,
+    Edition, FrameBytes, InParts, Keys, LAST_SISTER_KEY, LONGEST_LABEL, LOW_COLUMN_END, Label,
+    OPEN, OVERLONG, Picture, Record, SETS_OF_KEYS, STAGE_FALSE, STAGE_LONG, STAGE_SHORT, Text,
 };
 use record_small_ranges::{sister_small_in_range, small_in_range};
 
@@ -27,6 +27,7 @@ const LOUDEST: u8 = 7;
 const SHORT_FRAME: usize = 32;
 
 // What a used place of an array may hold.
+// A kind and no closure: a scan that took one would need a clause on what its every call answers, where the kind's test is a definition.
 #[derive(Clone, Copy)]
 enum Place {
     Code,
@@ -61,11 +62,9 @@ fn scan(s: &[u8], len: u8, place: Place) -> bool
     let end = 255 - len;
     let mut ok = true;
     let mut left: u8 = 255;
-    let mut i = 0;
-    while i < s.len() {
-        ok = ok & place_right(place, end < left, s[i]);
+    for b in s {
+        ok &= place_right(place, end < left, *b);
         left -= 1;
-        i += 1;
     }
     ok
 }
@@ -75,10 +74,8 @@ fn all_unused(s: &[u8]) -> bool
     ensures { result ≡ every is_unused s.now }
 {
     let mut ok = true;
-    let mut i = 0;
-    while i < s.len() {
-        ok = ok & (s[i] == 0);
-        i += 1;
+    for b in s {
+        ok &= *b == 0;
     }
     ok
 }
@@ -93,8 +90,7 @@ fn text_in_range(text: &Text) -> bool
 fn picture_in_range(picture: &Picture) -> bool
     ensures { result ≡ picture_in_range picture.now }
 {
-    let rows = &picture[..];
-    scan(&rows[576..], 96, Place::LowColumn)
+    scan(&picture[576..], 96, Place::LowColumn)
 }
 
 // Place by place, up to the first that is wrong: of so few the scan, which has no branch, took some 35 instructions more.
@@ -105,21 +101,7 @@ fn label_in_range(l: Label) -> bool
     if LONGEST_LABEL < len {
         return false;
     }
-    let mut i = 0;
-    while i < LONGEST_LABEL {
-        let b = l.codes[i];
-        if i < len {
-            if b < BLANK {
-                return false;
-            }
-        } else {
-            if b != 0 {
-                return false;
-            }
-        }
-        i += 1;
-    }
-    true
+    l.codes[..len].iter().all(|code| BLANK <= *code) && l.codes[len..].iter().all(|code| *code == 0)
 }
 
 // Whether the places of a frame are right. Behind the first ones of a short frame none is used, and zeros are all that is asked there.
@@ -180,49 +162,38 @@ fn is_sister(e: Edition) -> bool
 
 // The rest, once what is small is asked: labels, text, picture and frame. The frame is asked first, since it goes one of two ways: the
 // text and the picture, asked before it, were kept on the stack meanwhile.
-fn rest_in_range<'a>(
-    fine: bool,
-    small: Small,
-    text: &'a Text,
-    picture: &'a Picture,
-    frame: &'a FrameBytes,
-) -> bool
-    ensures { result ≡ (fine && label_in_range small.settings.left && label_in_range small.settings.right && text_in_range text.now && picture_in_range picture.now && frame_in_range (record { state = small.state; len = small.len; bytes = frame.now })) }
+fn rest_in_range(fine: bool, parts: InParts<'_>) -> bool
+    ensures { let r = whole parts.entry in result ≡ (fine && label_in_range r.settings.left && label_in_range r.settings.right && text_in_range r.text && picture_in_range r.picture && frame_in_range r.frame) }
 {
-    let framed = frame_in_range(small.state, small.len, frame);
-    let settings = small.settings;
-    fine & label_in_range(settings.left)
-        & label_in_range(settings.right)
-        & text_in_range(text)
-        & picture_in_range(picture)
+    let small = parts.small;
+    let framed = frame_in_range(small.state, small.len, parts.frame);
+    fine & label_in_range(small.settings.left)
+        & label_in_range(small.settings.right)
+        & text_in_range(parts.text)
+        & picture_in_range(parts.picture)
         & framed
 }
 
 // Whether every field is within its range, for one who keeps the arrays elsewhere. The edition is asked first and by itself: among the
 // others it took twice the instructions.
-pub fn in_range_lent<'a>(
-    small: Small,
-    text: &'a Text,
-    picture: &'a Picture,
-    frame: &'a FrameBytes,
-) -> bool
-    ensures same { result ≡ in_range (together small text.now picture.now frame.now) }
+pub fn in_range_lent(parts: InParts<'_>) -> bool
+    ensures same { result ≡ in_range (whole parts.entry) }
 {
+    let small = parts.small;
     if is_first(small.edition) {
         let fine = small_in_range(small.settings, small.held);
-        return rest_in_range(fine, small, text, picture, frame);
-    }
-    if is_sister(small.edition) {
+        rest_in_range(fine, parts)
+    } else if is_sister(small.edition) {
         let fine = sister_small_in_range(small.settings, small.held, small.edition.pwm);
-        return rest_in_range(fine, small, text, picture, frame);
+        rest_in_range(fine, parts)
+    } else {
+        false
     }
-    false
 }
 
 // The same of a record.
 pub fn in_range(r: Record) -> bool
     ensures same { result ≡ in_range r }
 {
-    let small = record::small_of(r);
-    in_range_lent(small, &r.text, &r.picture, &r.frame.bytes)
+    in_range_lent(r.in_parts())
 }

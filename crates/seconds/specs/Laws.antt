@@ -71,6 +71,6 @@ unfolding light_passed passed
 in_place_agrees r h = rw (h, of_first r.edition.sister r.edition.pwm r.settings.backlight (ranges r h).settings.backlight)
 
 -- Put together again with the arrays, what a call hands back where they were lent is what it hands back of a record.
-pub lent_back : (r : Record) → record { number = (lent_of (passed r)).number; after = with_settings r (lent_of (passed r)).small.settings } ≡ passed r
+pub lent_back : (r : Record) → record { number = (lent_of (passed r)).number; after = with_settings r (lent_of (passed r)).after.settings } ≡ passed r
 unfolding passed
 lent_back r = by_test (in_range r) (λ e. rw e) (λ e. rw e)

@@ -5,9 +5,9 @@ use Rattle.record.specs.With.{with_settings, with_backlight, with_seconds_left}
 use Rattle.record.specs.Number.{numbered}
 use Rattle.record.specs.declared.Backlight.{Backlight}
 use Rattle.record.specs.declared.Record.{Record}
+use Rattle.record.specs.declared.Small.{Small}
 use Rattle.record.specs.Parts.{small_of}
 use Rattle.seconds.specs.declared.Passed.{Passed}
-use Rattle.seconds.specs.declared.PassedLent.{PassedLent}
 use Rattle.seconds.specs.declared.LightPassed.{LightPassed}
 
 -- a second call lowers left by one, not below 0 (0 less one is 0)
@@ -25,11 +25,11 @@ abbrev pub dimmed : Record → Record
 dimmed r = with_settings r (with_backlight r.settings (lowered r.settings.backlight))
 
 -- on the record: number 1 for any field out of range, and then it is handed back as it was
-unfoldable pub passed : Record → Passed
+unfoldable pub passed : Record → Passed Record
 passed r =
     cond (not (in_range r)) (record { number = numbered 1; after = r })
     (record { number = numbered 0; after = dimmed r })
 
 -- with the arrays apart, which stay as they were
-abbrev pub lent_of : Passed → PassedLent
-lent_of q = record { number = q.number; small = small_of q.after }
+abbrev pub lent_of : Passed Record → Passed Small
+lent_of q = record { number = q.number; after = small_of q.after }

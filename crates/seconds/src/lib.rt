@@ -1,25 +1,19 @@
 // The seconds of the backlight: a call each second lowers those that are left.
 #![tactic(auto)]
 
-ghost use Rattle.std.specs.Prelude.{◌≡◌, ◌-◌};
-ghost use Rattle.record.specs.Parts.{together};
+ghost use Rattle.std.specs.Prelude.{◌≡◌};
+ghost use Rattle.record.specs.Parts.{whole};
 ghost use Rattle.seconds.specs.Seconds.{lowered, light_passed, passed, lent_of};
 
-use record::{Backlight, FrameBytes, Number, Picture, Record, Small, Text};
+use record::{Backlight, InParts, Number, Record, Seconds, Small};
 use record_ranges::in_range_lent;
 use record_small_ranges::backlight_in_range;
 
+// The number, and what comes back: the record, or its small fields where the arrays were lent.
 #[derive(Clone, Copy)]
-pub struct Passed {
+pub struct Passed<R> {
     pub number: Number,
-    pub after: Record,
-}
-
-// As Passed, where the arrays were lent.
-#[derive(Clone, Copy)]
-pub struct PassedLent {
-    pub number: Number,
-    pub small: Small,
+    pub after: R,
 }
 
 #[derive(Clone, Copy)]
@@ -28,82 +22,61 @@ pub struct LightPassed {
     pub backlight: Backlight,
 }
 
-fn one_less(left: u8) -> u8
-    ensures { result ≡ left - 1 }
+fn lower(light: Backlight) -> Backlight
+    ensures { result ≡ lowered light }
 {
-    if left == 0 {
-        return 0;
+    Backlight {
+        left: Seconds(light.left.0.saturating_sub(1)),
+        ..light
     }
-    left - 1
-}
-
-fn lower(b: Backlight) -> Backlight
-    ensures { result ≡ lowered b }
-{
-    let mut next = b;
-    let left = one_less(b.left.0);
-    next.left.0 = left;
-    next
 }
 
 // The core of the entry in place: all its branches are here.
-fn light_passed(b: Backlight) -> LightPassed
-    ensures { result ≡ light_passed b }
+#[tactic(auto, unfolding(crate::specs::Seconds::light_passed))]
+fn light_passed(light: Backlight) -> LightPassed
+    ensures { result ≡ light_passed light }
 {
-    let good = backlight_in_range(b);
-    let next = lower(b);
-    if !good {
-        return LightPassed {
+    if backlight_in_range(light) {
+        LightPassed {
+            number: Number::Done,
+            backlight: lower(light),
+        }
+    } else {
+        LightPassed {
             number: Number::FieldOutOfRange,
-            backlight: b,
-        };
-    }
-    LightPassed {
-        number: Number::Done,
-        backlight: next,
+            backlight: light,
+        }
     }
 }
 
 // A second passes. It changes no array, so they are only lent to be judged.
-pub fn second_lent<'a>(
-    small: Small,
-    text: &'a Text,
-    picture: &'a Picture,
-    frame: &'a FrameBytes,
-) -> PassedLent
-    ensures same { result ≡ lent_of (passed (together small text.now picture.now frame.now)) }
+#[tactic(auto, unfolding(crate::specs::Seconds::passed))]
+pub fn second_lent(parts: InParts<'_>) -> Passed<Small>
+    ensures same { result ≡ lent_of (passed (whole parts.entry)) }
 {
-    let ok = in_range_lent(small, text, picture, frame);
-    if !ok {
-        return PassedLent {
+    let mut after = parts.small;
+    if !in_range_lent(parts) {
+        return Passed {
             number: Number::FieldOutOfRange,
-            small: small,
+            after,
         };
     }
-    let next = lower(small.settings.backlight);
-    let mut settings = small.settings;
-    settings.backlight = next;
-    PassedLent {
+    after.settings.backlight = lower(after.settings.backlight);
+    Passed {
         number: Number::Done,
-        small: Small {
-            settings: settings,
-            ..small
-        },
+        after,
     }
 }
 
 // The same on a record by value.
-pub fn second(r: Record) -> Passed
+pub fn second(r: Record) -> Passed<Record>
     ensures same { result ≡ passed r }
 {
-    let small = record::small_of(r);
-    let q = second_lent(small, &r.text, &r.picture, &r.frame.bytes);
-    let number = q.number;
-    let settings = q.small.settings;
+    let q = second_lent(r.in_parts());
     Passed {
-        number: number,
+        number: q.number,
         after: Record {
-            settings: settings,
+            settings: q.after.settings,
             ..r
         },
     }

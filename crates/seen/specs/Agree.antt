@@ -1,5 +1,5 @@
 -- The row question and the column question agree: what a column shows is what its row has there. Assumes nothing.
-use Rattle.std.specs.Prelude.{ℕ, zero, suc, ◌+◌, ◌-◌, ◌≤◌, ◌<◌, ◌≡◌, refl, true, false, List, [], ◌∷◌, ◌++◌, leb, ltb, length, get_or, take, drop, replicate}
+use Rattle.std.specs.Prelude.{ℕ, zero, suc, ◌+◌, ◌-◌, ◌≤◌, ◌<◌, ◌≡◌, refl, true, false, List, [], ◌∷◌, ◌++◌, leb, ltb, length, get_or, take, drop, replicate, Result, Ok}
 use Rattle.std.proofs.Common.{arith, sym, ap, ◌∙◌, append-nil, length-append, drop_of_length-le, take_all, length-take-le, get_or-take, get_or-drop, get_or-append-add, ltb-true, ltb-false, leb-true, le-leb, le-ltb}
 use Rattle.std.proofs.lemmas.List.{length-replicate}
 use Rattle.std.proofs.Math.ListN.{get_or-append}
@@ -8,6 +8,7 @@ use Rattle.lists.specs.Both.{both}
 use Rattle.lists.specs.Padded.{padded}
 use Rattle.record.specs.Range.{in_range}
 use Rattle.record.specs.declared.Record.{Record}
+use Rattle.record.specs.declared.Refusal.{Refusal}
 use Rattle.seen_panels.specs.declared.Phase.{Phase}
 use Rattle.seen_owners.specs.declared.Owner.{Owner}
 use Rattle.seen_owners.specs.declared.Owner.TheVariants.{Nothing, IconBar, TextRow, PictureRow, SoftKeys, SmallLine, BigLine, PictureWithRocker}
@@ -17,8 +18,8 @@ use Rattle.seen.specs.declared.Row.{Row}
 use Rattle.seen_owners.specs.Table.{last_row, last_column, is_rocker, owner_in, two_owners, row_owner}
 use Rattle.seen_owners.specs.Laws.{one_owner}
 use Rattle.seen.specs.Line.{big_line}
-use Rattle.seen.specs.Rows.{picture_row, around_rocker, contents, row_seen}
-use Rattle.seen.specs.Columns.{big_cell, soft_key_at, shown_at, place_of, column_seen, column_of}
+use Rattle.seen.specs.Rows.{picture_row, around_rocker, contents, row_seen, row_told}
+use Rattle.seen.specs.Columns.{big_cell, soft_key_at, shown_at, place_of, column_seen, column_told, column_of, column_read}
 use Rattle.seen.specs.Laws.{seen_row, seen_column, contents_told}
 
 -- Zeros after a list change no place of it, since a place past its end is read as zero too.
@@ -75,14 +76,14 @@ place_in_row r phase column (PictureWithRocker n) =
 -- The column question tells what the row question has at that column: the number, the owner, what stands there, and the bar. Where a
 -- row has one owner it is each column's; where it has two each column has its own.
 pub columns_agree : (r : Record) (row column : ℕ) (phase : Phase) → in_range r ≡ true → row ≤ last_row → column ≤ last_column
-    → column_seen r row column phase ≡ column_of (row_seen r row phase) column
+    → column_seen r row column phase ≡ column_read (row_seen r row phase) column
 columns_agree r row column phase ok h k =
     seen_column r row column phase ok h k
-    ∙ place_in_row r phase column (row_owner r row)
-    ∙ ap (λ (q : Row). column_of q column) (sym (seen_row r row phase ok h))
+    ∙ ap Ok (place_in_row r phase column (row_owner r row))
+    ∙ ap (λ (q : Result Row Refusal). column_read q column) (sym (seen_row r row phase ok h))
 
 -- Where a row's columns have one owner the row question names it.
 pub row_names_owner : (r : Record) (row column : ℕ) (phase : Phase) → in_range r ≡ true → row ≤ last_row → column ≤ last_column → two_owners r.settings.screen row ≡ false
-    → (column_seen r row column phase).owner ≡ (row_seen r row phase).owner
+    → (column_told (column_seen r row column phase)).owner ≡ (row_told (row_seen r row phase)).owner
 row_names_owner r row column phase ok h k one =
     rw (seen_column r row column phase ok h k, seen_row r row phase ok h, (contents_told r phase (row_owner r row)).1) (one_owner r.settings.screen row column one)

@@ -8,7 +8,7 @@ use Rattle.record.specs.PowerOn.{power_on}
 use Rattle.record.specs.Range.{large, in_range, text_in_range, label_in_range, picture_in_range, inverse_in_range, frame_in_range}
 use Rattle.record.specs.With.{with_settings, with_text, with_picture, with_screen, with_left, with_right, with_icons, with_icon_w, with_display, with_mode, with_overlay, with_column, with_inverse}
 use Rattle.record.specs.declared.Number.{Number}
-use Rattle.record.specs.Number.{numbered}
+use Rattle.record.specs.Number.{numbered, ended}
 use Rattle.record.specs.declared.Icons.{Icons}
 use Rattle.record.specs.declared.Record.{Record}
 use Rattle.record.specs.declared.Volume.{Volume}
@@ -22,8 +22,8 @@ use Rattle.seen_panels.specs.declared.VolumePanel.TheVariants as Sound
 use Rattle.seen_panels.specs.Panels.{sms_panel, volume_panel}
 use Rattle.seen_owners.specs.Table.{letter_in, mode_line, line_of, letter_at, by_letter, owner_of_row}
 use Rattle.seen.specs.Line.{after_last, small_cells, big_cells}
-use Rattle.seen.specs.Rows.{no_label, contents, row_seen}
-use Rattle.seen.specs.Columns.{soft_key_at, shown_at, column_seen}
+use Rattle.seen.specs.Rows.{no_label, contents, row_seen, row_told}
+use Rattle.seen.specs.Columns.{soft_key_at, shown_at, column_seen, column_told}
 
 abbrev volume : ℕ → ℕ → Bool → Bool → Volume
 volume which level mute hidden = record { which = which; level = level; mute = mute; hidden = hidden }
@@ -69,7 +69,7 @@ abbrev Asked : Type 0
 Asked = Record × ℕ
 
 abbrev told : Asked → Number × Owner
-told q = ((row_seen q.0 q.1 Lit).number, (row_seen q.0 q.1 Lit).owner)
+told q = (ended (row_seen q.0 q.1 Lit), (row_told (row_seen q.0 q.1 Lit)).owner)
 
 -- The row question: row 0 under overlay 11 in mode 5 is the icon bar, with no overlay it is text row 0; row 5 under 12, 13 and 18;
 -- row 6 with no overlay and under 13; row 4 in modes 0, 5 and 10; row 3 in mode 10 and under 16 and 17 in it; display off; a row
@@ -111,8 +111,8 @@ pub row_cases :
     ∷ (numbered 4, Nothing)
     ∷ (numbered 1, Nothing)
     ∷ [])
-    × ((row_seen written 2 Lit).owner ≡ TextRow 1)
-    × ((row_seen written 2 Lit).codes ≡ ascii "Meter           ")
+    × ((row_told (row_seen written 2 Lit)).owner ≡ TextRow 1)
+    × ((row_told (row_seen written 2 Lit)).codes ≡ ascii "Meter           ")
 unfolding row_seen contents letter_in mode_line line_of letter_at by_letter owner_of_row in_range text_in_range label_in_range picture_in_range inverse_in_range frame_in_range
 row_cases = (refl, refl, refl)
 
@@ -124,7 +124,7 @@ lined column codes =
 
 -- the codes of display rows 1 to 3
 abbrev line_seen : Record → List (List ℕ)
-line_seen r = map (λ (row : ℕ). (row_seen r row Lit).codes) (1 ∷ 2 ∷ 3 ∷ [])
+line_seen r = map (λ (row : ℕ). (row_told (row_seen r row Lit)).codes) (1 ∷ 2 ∷ 3 ∷ [])
 
 -- these are small, and these eight are big: both halves tell the same codes
 abbrev small_and_big : List ℕ → List ℕ → List (List ℕ)
@@ -169,7 +169,7 @@ keyed overlay =
 abbrev place_told : Record × (ℕ × ℕ) → Number × (Owner × Shown)
 place_told q =
     let p = column_seen q.0 q.1.0 q.1.1 Lit in
-    (p.number, (p.owner, p.shown))
+    (ended p, ((column_told p).owner, (column_told p).shown))
 
 -- The column question: the borders of the rocker panel with no overlay and under 14, and a cell past the right label's length; a big
 -- code's first and last column and the next code's first; the last place of the display; a row above 6, a column above 95, and a
@@ -219,9 +219,9 @@ column_cases = refl
 
 -- Row 5 under 18 is told as the picture with zero in columns 42 to 53, and icon W.
 pub rocker_case :
-    ((row_seen (keyed 18) 5 Lit).owner ≡ PictureWithRocker 5)
-    × ((row_seen (keyed 18) 5 Lit).columns ≡ replicate 42 3 ++ replicate 12 0 ++ replicate 42 5)
-    × ((row_seen (keyed 18) 5 Lit).labels ≡ record { left = no_label; right = no_label; w = 2 })
+    ((row_told (row_seen (keyed 18) 5 Lit)).owner ≡ PictureWithRocker 5)
+    × ((row_told (row_seen (keyed 18) 5 Lit)).columns ≡ replicate 42 3 ++ replicate 12 0 ++ replicate 42 5)
+    × ((row_told (row_seen (keyed 18) 5 Lit)).labels ≡ record { left = no_label; right = no_label; w = 2 })
 unfolding row_seen contents letter_in mode_line line_of letter_at by_letter owner_of_row in_range text_in_range label_in_range picture_in_range inverse_in_range frame_in_range
 rocker_case = (refl, refl, refl)
 
@@ -233,7 +233,7 @@ row_marked n mode overlay =
 
 -- the mark as each display row tells it, and as its last column does
 abbrev marks_seen : Record → List (Bool × Bool)
-marks_seen r = map (λ (row : ℕ). ((row_seen r row Lit).inverse, (column_seen r row 95 Lit).inverse)) (0 ∷ 1 ∷ 2 ∷ 3 ∷ 4 ∷ 5 ∷ 6 ∷ [])
+marks_seen r = map (λ (row : ℕ). ((row_told (row_seen r row Lit)).inverse, (column_told (column_seen r row 95 Lit)).inverse)) (0 ∷ 1 ∷ 2 ∷ 3 ∷ 4 ∷ 5 ∷ 6 ∷ [])
 
 -- no row, and one alone
 abbrev none_marked : List (Bool × Bool)

@@ -1,9 +1,9 @@
 -- What the column question tells: who owns a place of the display and what stands there (request T-01). Assumes nothing.
-use Rattle.std.specs.Prelude.{ℕ, ◌-◌, ◌/◌, Bool, false, not, cond, ◌||◌, ltb, get_or}
+use Rattle.std.specs.Prelude.{ℕ, ◌-◌, ◌/◌, Bool, false, not, cond, ◌||◌, ltb, get_or, Result, Ok, Err}
 use Rattle.record.specs.Range.{in_range}
 use Rattle.record.specs.declared.Record.{Record}
-use Rattle.record.specs.declared.Number.{Number}
-use Rattle.record.specs.Number.{numbered}
+use Rattle.record.specs.declared.Refusal.{Refusal}
+use Rattle.record.specs.declared.Refusal.TheVariants.{FieldOutOfRange, NotListed}
 use Rattle.seen_panels.specs.declared.Phase.{Phase}
 use Rattle.seen_panels.specs.declared.Phase.TheVariants.{Lit}
 use Rattle.seen_owners.specs.Table.{last_row, last_column, is_rocker, owner_in, owner_at}
@@ -50,17 +50,22 @@ bar_at r phase owner = (contents r phase owner).bar
 abbrev pub inverse_at : Record → Owner → Bool
 inverse_at r owner = (contents r Lit owner).inverse
 
-abbrev pub no_place : Number → ColumnSeen
-no_place a = record { number = a; owner = Nothing; shown = Shows.Nothing; bar = no_bar; inverse = false }
+abbrev pub no_place : ColumnSeen
+no_place = record { owner = Nothing; shown = Shows.Nothing; bar = no_bar; inverse = false }
 
 abbrev pub place_of : Record → Phase → ℕ → Owner → ColumnSeen
-place_of r phase column owner = record { number = numbered 0; owner = owner; shown = shown_at r column owner; bar = bar_at r phase owner; inverse = inverse_at r owner }
+place_of r phase column owner = record { owner = owner; shown = shown_at r column owner; bar = bar_at r phase owner; inverse = inverse_at r owner }
 
--- number 1 for a field out of range, then 4 for a display row or a column above the last: then it tells nothing
-unfoldable pub column_seen : Record → ℕ → ℕ → Phase → ColumnSeen
+-- refused for a field out of range, then for a display row or a column above the last
+unfoldable pub column_seen : Record → ℕ → ℕ → Phase → Result ColumnSeen Refusal
 column_seen r row column phase =
-    cond (not (in_range r)) (no_place (numbered 1))
-    (cond (ltb last_row row || ltb last_column column) (no_place (numbered 4)) (place_of r phase column (owner_at r row column)))
+    cond (not (in_range r)) (Err FieldOutOfRange)
+    (cond (ltb last_row row || ltb last_column column) (Err NotListed) (Ok (place_of r phase column (owner_at r row column))))
+
+-- the place that it tells: where it is refused it tells nothing
+abbrev pub column_told : Result ColumnSeen Refusal → ColumnSeen
+column_told (Ok q) = q
+column_told (Err refusal) = no_place
 
 -- The same read off a row -----------------------------------------------------------------------------------------
 
@@ -76,4 +81,9 @@ shown_in q (BigLine half) column = Shows.Code (get_or q.codes (big_cell column) 
 shown_in q (PictureWithRocker n) column = cond (is_rocker column) (Shows.Rocker q.labels.w) (Shows.Column (get_or q.columns column 0))
 
 abbrev pub column_of : Row → ℕ → ColumnSeen
-column_of q column = record { number = q.number; owner = owner_in q.owner column; shown = shown_in q q.owner column; bar = q.bar; inverse = q.inverse }
+column_of q column = record { owner = owner_in q.owner column; shown = shown_in q q.owner column; bar = q.bar; inverse = q.inverse }
+
+-- the same where the row may be refused: then so is the column
+abbrev pub column_read : Result Row Refusal → ℕ → Result ColumnSeen Refusal
+column_read (Ok q) column = Ok (column_of q column)
+column_read (Err refusal) column = Err refusal

@@ -1,5 +1,5 @@
 -- What the row question and the questions of the two panels tell. Assumes nothing.
-use Rattle.std.specs.Prelude.{ℕ, ◌+◌, ◌*◌, Bool, false, not, cond, List, ◌++◌, ltb, get_or, take, drop, replicate}
+use Rattle.std.specs.Prelude.{ℕ, ◌+◌, ◌*◌, Bool, false, not, cond, List, ◌++◌, ltb, get_or, take, drop, replicate, Result, Ok, Err}
 use Rattle.std.proofs.Math.Seq.{slice}
 use Rattle.lists.specs.Padded.{padded}
 use Rattle.record.specs.Range.{in_range}
@@ -9,21 +9,21 @@ use Rattle.record.specs.declared.Held.{Held}
 use Rattle.record.specs.declared.Edition.{Edition}
 use Rattle.record.specs.declared.Frame.{Frame}
 use Rattle.record.specs.declared.Label.{Label}
-use Rattle.record.specs.declared.Number.{Number}
-use Rattle.record.specs.Number.{numbered}
+use Rattle.record.specs.declared.Refusal.{Refusal}
+use Rattle.record.specs.declared.Refusal.TheVariants.{FieldOutOfRange, NotListed}
 use Rattle.seen_panels.specs.Panels.{sms_panel, volume_panel}
 use Rattle.seen_panels.specs.declared.Phase.{Phase}
 use Rattle.seen_owners.specs.Table.{last_row, row_owner}
 use Rattle.seen.specs.Line.{small_line, big_line}
 use Rattle.seen_owners.specs.declared.Owner.{Owner}
 use Rattle.seen_owners.specs.declared.Owner.TheVariants.{Nothing, IconBar, TextRow, PictureRow, SoftKeys, SmallLine, BigLine, PictureWithRocker}
+use Rattle.seen_panels.specs.declared.SmsPanel.{SmsPanel}
+use Rattle.seen_panels.specs.declared.VolumePanel.{VolumePanel}
 use Rattle.seen_panels.specs.declared.SmsPanel.TheVariants as Sms
 use Rattle.seen_panels.specs.declared.VolumePanel.TheVariants as Sound
 use Rattle.seen.specs.declared.Bar.{Bar}
 use Rattle.seen.specs.declared.Labels.{Labels}
 use Rattle.seen.specs.declared.Row.{Row}
-use Rattle.seen.specs.declared.SmsSeen.{SmsSeen}
-use Rattle.seen.specs.declared.VolumeSeen.{VolumeSeen}
 
 -- Contents --------------------------------------------------------------------------------------------------------
 
@@ -77,34 +77,40 @@ abbrev pub no_labels : Labels
 no_labels = record { left = no_label; right = no_label; w = 0 }
 
 -- no owner and no contents
-abbrev pub nothing_seen : Number → Row
-nothing_seen a = record { number = a; owner = Nothing; codes = no_codes; columns = no_columns; bar = no_bar; labels = no_labels; inverse = false }
+abbrev pub nothing_seen : Row
+nothing_seen = record { owner = Nothing; codes = no_codes; columns = no_columns; bar = no_bar; labels = no_labels; inverse = false }
 
 -- the contents of a row, by its owner; the mark is a text row's alone
 unfoldable pub contents : Record → Phase → Owner → Row
-contents r phase Nothing = nothing_seen (numbered 0)
-contents r phase IconBar = record { number = numbered 0; owner = IconBar; codes = no_codes; columns = no_columns; bar = bar_of r.settings phase; labels = no_labels; inverse = false }
-contents r phase (TextRow n) = record { number = numbered 0; owner = TextRow n; codes = text_row r n; columns = no_columns; bar = no_bar; labels = no_labels; inverse = mark_of r n }
-contents r phase (PictureRow n) = record { number = numbered 0; owner = PictureRow n; codes = no_codes; columns = picture_row r n; bar = no_bar; labels = no_labels; inverse = false }
-contents r phase SoftKeys = record { number = numbered 0; owner = SoftKeys; codes = no_codes; columns = no_columns; bar = no_bar; labels = labels_of r.settings; inverse = false }
-contents r phase SmallLine = record { number = numbered 0; owner = SmallLine; codes = small_line r; columns = no_columns; bar = no_bar; labels = no_labels; inverse = false }
-contents r phase (BigLine half) = record { number = numbered 0; owner = BigLine half; codes = padded 16 (big_line r); columns = no_columns; bar = no_bar; labels = no_labels; inverse = false }
-contents r phase (PictureWithRocker n) = record { number = numbered 0; owner = PictureWithRocker n; codes = no_codes; columns = around_rocker (picture_row r n); bar = no_bar; labels = record { left = no_label; right = no_label; w = r.settings.icons.w }; inverse = false }
+contents r phase Nothing = nothing_seen
+contents r phase IconBar = record { owner = IconBar; codes = no_codes; columns = no_columns; bar = bar_of r.settings phase; labels = no_labels; inverse = false }
+contents r phase (TextRow n) = record { owner = TextRow n; codes = text_row r n; columns = no_columns; bar = no_bar; labels = no_labels; inverse = mark_of r n }
+contents r phase (PictureRow n) = record { owner = PictureRow n; codes = no_codes; columns = picture_row r n; bar = no_bar; labels = no_labels; inverse = false }
+contents r phase SoftKeys = record { owner = SoftKeys; codes = no_codes; columns = no_columns; bar = no_bar; labels = labels_of r.settings; inverse = false }
+contents r phase SmallLine = record { owner = SmallLine; codes = small_line r; columns = no_columns; bar = no_bar; labels = no_labels; inverse = false }
+contents r phase (BigLine half) = record { owner = BigLine half; codes = padded 16 (big_line r); columns = no_columns; bar = no_bar; labels = no_labels; inverse = false }
+contents r phase (PictureWithRocker n) = record { owner = PictureWithRocker n; codes = no_codes; columns = around_rocker (picture_row r n); bar = no_bar; labels = record { left = no_label; right = no_label; w = r.settings.icons.w }; inverse = false }
 
 -- The questions ---------------------------------------------------------------------------------------------------
 
--- number 1 for a field out of range, then 4 for a display row above the last: then it tells nothing
-unfoldable pub row_seen : Record → ℕ → Phase → Row
+-- refused for a field out of range, then for a display row above the last
+unfoldable pub row_seen : Record → ℕ → Phase → Result Row Refusal
 row_seen r row phase =
-    cond (not (in_range r)) (nothing_seen (numbered 1))
-    (cond (ltb last_row row) (nothing_seen (numbered 4)) (contents r phase (row_owner r row)))
+    cond (not (in_range r)) (Err FieldOutOfRange)
+    (cond (ltb last_row row) (Err NotListed) (Ok (contents r phase (row_owner r row))))
 
-unfoldable pub sms_seen : Record → Phase → SmsSeen
-sms_seen r phase =
-    cond (not (in_range r)) (record { number = numbered 1; panel = Sms.Nothing })
-    (record { number = numbered 0; panel = sms_panel r.settings.icons phase })
+-- the row that it tells: where it is refused it tells nothing
+abbrev pub row_told : Result Row Refusal → Row
+row_told (Ok q) = q
+row_told (Err refusal) = nothing_seen
 
-unfoldable pub volume_seen : Record → VolumeSeen
-volume_seen r =
-    cond (not (in_range r)) (record { number = numbered 1; panel = Sound.Nothing })
-    (record { number = numbered 0; panel = volume_panel r.settings.volume })
+-- the settings, unless a field is out of range
+abbrev pub settings_in_range : Record → Result Settings Refusal
+settings_in_range r = cond (in_range r) (Ok r.settings) (Err FieldOutOfRange)
+
+-- the panels' questions are refused for a field out of range alone
+unfoldable pub sms_seen : Record → Phase → Result SmsPanel Refusal
+sms_seen r phase = cond (not (in_range r)) (Err FieldOutOfRange) (Ok (sms_panel r.settings.icons phase))
+
+unfoldable pub volume_seen : Record → Result VolumePanel Refusal
+volume_seen r = cond (not (in_range r)) (Err FieldOutOfRange) (Ok (volume_panel r.settings.volume))

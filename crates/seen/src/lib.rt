@@ -8,16 +8,14 @@ ghost use Rattle.std.specs.Prelude.{◌≡◌, true, false, List, ℕ, ◌+◌, 
 ghost use Rattle.lists.specs.Padded.{padded};
 ghost use Rattle.std.proofs.Math.Seq.{slice};
 ghost use Rattle.record.specs.Range.{line_of};
-ghost use Rattle.record.specs.Parts.{together};
+ghost use Rattle.record.specs.Parts.{whole};
 ghost use Rattle.seen_owners.specs.Table.{last_column, placed};
 ghost use Rattle.seen.specs.Line.{codes_in, small_in, small_cells, big_cells};
-ghost use Rattle.seen.specs.Columns.{soft_key_at, shown_at, bar_at, inverse_at, no_place, column_seen};
-ghost use Rattle.seen.specs.Rows.{Showing, row_of, around_rocker, bar_of, labels_of, no_columns, no_bar, nothing_seen, contents, row_seen, sms_seen, volume_seen};
+ghost use Rattle.seen.specs.Columns.{soft_key_at, shown_at, bar_at, inverse_at, column_seen};
+ghost use Rattle.seen.specs.Rows.{Showing, row_of, around_rocker, bar_of, labels_of, no_columns, no_bar, nothing_seen, contents, settings_in_range, row_seen, sms_seen, volume_seen};
 
 use lists::BLANK;
-use record::{
-    FrameBytes, LAST_ROW, Label, Number, Picture, Record, Settings, Small, Text, small_of,
-};
+use record::{InParts, LAST_ROW, Label, Picture, Record, Refusal, Settings, Text};
 use record_ranges::in_range_lent;
 pub use seen_owners::Owner;
 use seen_owners::{LAST_COLUMN, RIGHT_LABEL, ROCKER, owner_of, owner_of_row};
@@ -69,7 +67,6 @@ pub struct Labels {
 // What the owner does not use is zero. inverse is whether it is a text row that has the inverse mark.
 #[derive(Clone, Copy)]
 pub struct Row {
-    pub number: Number,
     pub owner: Owner,
     pub codes: [u8; 16],
     pub columns: [u8; 96],
@@ -81,84 +78,52 @@ pub struct Row {
 // What the column question tells: bar for the icon bar, inverse as its row has it.
 #[derive(Clone, Copy)]
 pub struct ColumnSeen {
-    pub number: Number,
     pub owner: Owner,
     pub shown: Shown,
     pub bar: Bar,
     pub inverse: bool,
 }
 
-#[derive(Clone, Copy)]
-pub struct SmsSeen {
-    pub number: Number,
-    pub panel: SmsPanel,
-}
-
-#[derive(Clone, Copy)]
-pub struct VolumeSeen {
-    pub number: Number,
-    pub panel: VolumePanel,
-}
-
-pub fn sms_seen_lent<'a>(
-    small: Small,
-    text: &'a Text,
-    picture: &'a Picture,
-    frame: &'a FrameBytes,
-    phase: Phase,
-) -> SmsSeen
-    ensures same { result ≡ sms_seen (together small text.now picture.now frame.now) phase }
+// The settings of a record in range.
+fn settings_in_range(parts: InParts<'_>) -> Result<Settings, Refusal>
+    ensures { result ≡ settings_in_range (whole parts.entry) }
 {
-    let ok = in_range_lent(small, text, picture, frame);
-    if !ok {
-        return SmsSeen {
-            number: Number::FieldOutOfRange,
-            panel: SmsPanel::Nothing,
-        };
+    if in_range_lent(parts) {
+        Ok(parts.small.settings)
+    } else {
+        Err(Refusal::FieldOutOfRange)
     }
-    let panel = sms_panel(small.settings.icons, phase);
-    SmsSeen {
-        number: Number::Done,
-        panel: panel,
-    }
+}
+
+// The SMS panel goes by the phase; a bad record is refused.
+#[tactic(auto, unfolding(crate::specs::Rows::sms_seen))]
+pub fn sms_seen_lent(parts: InParts<'_>, phase: Phase) -> Result<SmsPanel, Refusal>
+    ensures same { result ≡ sms_seen (whole parts.entry) phase }
+{
+    let icons = settings_in_range(parts)?.icons;
+    Ok(sms_panel(icons, phase))
 }
 
 // The same of a record.
-pub fn sms_seen(r: Record, phase: Phase) -> SmsSeen
+pub fn sms_seen(r: Record, phase: Phase) -> Result<SmsPanel, Refusal>
     ensures same { result ≡ sms_seen r phase }
 {
-    let small = small_of(r);
-    sms_seen_lent(small, &r.text, &r.picture, &r.frame.bytes, phase)
+    sms_seen_lent(r.in_parts(), phase)
 }
 
-pub fn volume_seen_lent<'a>(
-    small: Small,
-    text: &'a Text,
-    picture: &'a Picture,
-    frame: &'a FrameBytes,
-) -> VolumeSeen
-    ensures same { result ≡ volume_seen (together small text.now picture.now frame.now) }
+#[tactic(auto, unfolding(crate::specs::Rows::volume_seen))]
+pub fn volume_seen_lent(parts: InParts<'_>) -> Result<VolumePanel, Refusal>
+    ensures same { result ≡ volume_seen (whole parts.entry) }
 {
-    let ok = in_range_lent(small, text, picture, frame);
-    if !ok {
-        return VolumeSeen {
-            number: Number::FieldOutOfRange,
-            panel: VolumePanel::Nothing,
-        };
-    }
-    let panel = volume_panel(small.settings.volume);
-    VolumeSeen {
-        number: Number::Done,
-        panel: panel,
-    }
+    let volume = settings_in_range(parts)?.volume;
+    Ok(volume_panel(volume))
 }
 
 // The same of a record.
-pub fn volume_seen(r: Record) -> VolumeSeen
+pub fn volume_seen(r: Record) -> Result<VolumePanel, Refusal>
     ensures same { result ≡ volume_seen r }
 {
-    let small = small_of(r);
-    volume_seen_lent(small, &r.text, &r.picture, &r.frame.bytes)
+    volume_seen_lent(r.in_parts())
 }
 
 // Fills `to` with what stands in `cells` from place `at` on.
@@ -166,11 +131,7 @@ fn fill(to: &mut [u8], cells: &[u8], at: usize)
     requires { at + length to.old ≤ length cells.now }
     ensures { to.new ≡ slice at (at + length to.old) cells.now }
 {
-    let mut i = 0;
-    while i < to.len() {
-        to[i] = cells[at + i];
-        i += 1;
-    }
+    to.copy_from_slice(&cells[at..at + to.len()]);
 }
 
 fn text_row(text: &Text, n: u8) -> [u8; 16]
@@ -187,8 +148,7 @@ fn mark_of(p: Settings, n: u8) -> bool
     requires { n < 5 }
     ensures { result ≡ get_or p.inverse n false }
 {
-    let marks = p.inverse;
-    marks[n as usize]
+    p.inverse[n as usize]
 }
 
 fn picture_row(picture: &Picture, n: u8) -> [u8; 96]
@@ -206,11 +166,7 @@ fn picture_around_rocker(picture: &Picture, n: u8) -> [u8; 96]
     ensures { result ≡ around_rocker (row_of 96 picture.now n) }
 {
     let mut columns = picture_row(picture, n);
-    let mut i = ROCKER as usize;
-    while i < RIGHT_LABEL as usize {
-        columns[i] = 0;
-        i += 1;
-    }
+    columns[ROCKER as usize..RIGHT_LABEL as usize].fill(0);
     columns
 }
 
@@ -219,6 +175,7 @@ fn codes_in(text: &[u8], column: u8) -> u8
     requires { length text.now ≡ 104 }
     ensures { result ≡ codes_in column (line_of text.now) }
 {
+    // A loop still: with `rposition` it was left to show that the code found is not blank, and that all behind it are.
     let mut i: u8 = 24;
     while column < i {
         if text[LINE + i as usize - 1] != BLANK {
@@ -233,11 +190,7 @@ fn codes_in(text: &[u8], column: u8) -> u8
 fn small_count(text: &Text, column: u8) -> u8
     ensures { result ≡ small_in column (line_of text.now) }
 {
-    let count = codes_in(text, column);
-    if count < BIG_CODES {
-        return 0;
-    }
-    count - BIG_CODES
+    codes_in(text, column).saturating_sub(BIG_CODES)
 }
 
 // From here on the text is read as a slice: of a slice a proof knows the length, of a lent array it does not.
@@ -263,6 +216,7 @@ fn big_line(text: &Text, column: u8) -> [u8; 16]
     codes
 }
 
+#[tactic(auto, unfolding(crate::specs::Rows::no_columns))]
 fn no_columns() -> [u8; 96]
     ensures { result ≡ no_columns }
 {
@@ -281,17 +235,14 @@ fn no_bar() -> Bar
     }
 }
 
-fn nothing_seen(number: Number) -> Row
-    ensures { result ≡ nothing_seen number }
+fn nothing_seen() -> Row
+    ensures { result ≡ nothing_seen }
 {
-    let columns = no_columns();
-    let bar = no_bar();
     Row {
-        number: number,
         owner: Owner::Nothing,
         codes: [0u8; 16],
-        columns: columns,
-        bar: bar,
+        columns: no_columns(),
+        bar: no_bar(),
         labels: Labels {
             left: Label {
                 len: 0,
@@ -310,161 +261,107 @@ fn nothing_seen(number: Number) -> Row
 fn bar_of(p: Settings, phase: Phase) -> Bar
     ensures { result ≡ bar_of p phase }
 {
-    let sms = sms_panel(p.icons, phase);
-    let volume = volume_panel(p.volume);
     Bar {
         f: p.icons.f,
         p: p.icons.p,
         r: p.icons.r,
-        sms: sms,
-        volume: volume,
+        sms: sms_panel(p.icons, phase),
+        volume: volume_panel(p.volume),
     }
 }
 
 fn labels_of(p: Settings) -> Labels
     ensures { result ≡ labels_of p }
 {
-    let left = p.left;
-    let right = p.right;
     Labels {
-        left: left,
-        right: right,
+        left: p.left,
+        right: p.right,
         w: p.icons.w,
     }
 }
 
-fn contents_of<'a>(
-    p: Settings,
-    text: &'a Text,
-    picture: &'a Picture,
-    phase: Phase,
-    owner: Owner,
-) -> Row
-    requires { (placed owner ≡ true) × (p.screen.column ≤ 24) }
-    ensures { Showing p text.now picture.now (λ r. result ≡ contents r phase owner) }
+#[tactic(auto, unfolding(crate::specs::Rows::contents))]
+fn contents_of(parts: InParts<'_>, phase: Phase, owner: Owner) -> Row
+    requires { (placed owner ≡ true) × (parts.small.settings.screen.column ≤ 24) }
+    ensures { result ≡ contents (whole parts.entry) phase owner }
 {
-    let empty = nothing_seen(Number::Done);
+    let settings = parts.small.settings;
+    let empty = Row {
+        owner,
+        ..nothing_seen()
+    };
     match owner {
         Owner::Nothing => empty,
-        Owner::IconBar => {
-            let bar = bar_of(p, phase);
-            Row {
-                owner: Owner::IconBar,
-                bar: bar,
-                ..empty
-            }
-        }
-        Owner::TextRow(n) => {
-            let codes = text_row(text, n);
-            let inverse = mark_of(p, n);
-            Row {
-                owner: Owner::TextRow(n),
-                codes: codes,
-                inverse: inverse,
-                ..empty
-            }
-        }
-        Owner::PictureRow(n) => {
-            let columns = picture_row(picture, n);
-            Row {
-                owner: Owner::PictureRow(n),
-                columns: columns,
-                ..empty
-            }
-        }
-        Owner::SoftKeys => {
-            let labels = labels_of(p);
-            Row {
-                owner: Owner::SoftKeys,
-                labels: labels,
-                ..empty
-            }
-        }
-        Owner::SmallLine => {
-            let codes = small_line(text, p.screen.column);
-            Row {
-                owner: Owner::SmallLine,
-                codes: codes,
-                ..empty
-            }
-        }
-        Owner::BigLine(half) => {
-            let codes = big_line(text, p.screen.column);
-            Row {
-                owner: Owner::BigLine(half),
-                codes: codes,
-                ..empty
-            }
-        }
-        Owner::PictureWithRocker(n) => {
-            let columns = picture_around_rocker(picture, n);
-            let mut row = Row {
-                owner: Owner::PictureWithRocker(n),
-                columns: columns,
-                ..empty
-            };
-            row.labels.w = p.icons.w;
-            row
-        }
+        Owner::IconBar => Row {
+            bar: bar_of(settings, phase),
+            ..empty
+        },
+        Owner::TextRow(n) => Row {
+            codes: text_row(parts.text, n),
+            inverse: mark_of(settings, n),
+            ..empty
+        },
+        Owner::PictureRow(n) => Row {
+            columns: picture_row(parts.picture, n),
+            ..empty
+        },
+        Owner::SoftKeys => Row {
+            labels: labels_of(settings),
+            ..empty
+        },
+        Owner::SmallLine => Row {
+            codes: small_line(parts.text, settings.screen.column),
+            ..empty
+        },
+        Owner::BigLine(_) => Row {
+            codes: big_line(parts.text, settings.screen.column),
+            ..empty
+        },
+        Owner::PictureWithRocker(n) => Row {
+            columns: picture_around_rocker(parts.picture, n),
+            labels: Labels {
+                w: settings.icons.w,
+                ..empty.labels
+            },
+            ..empty
+        },
     }
 }
 
 // Row 0 is the top one. A row above the last is refused, a bad record before it. The icon bar has the SMS panel, which goes by the phase.
-pub fn row_seen_lent<'a>(
-    small: Small,
-    text: &'a Text,
-    picture: &'a Picture,
-    frame: &'a FrameBytes,
-    row: u8,
-    phase: Phase,
-) -> Row
-    ensures same { result ≡ row_seen (together small text.now picture.now frame.now) row phase }
+#[tactic(auto, unfolding(crate::specs::Rows::row_seen))]
+pub fn row_seen_lent(parts: InParts<'_>, row: u8, phase: Phase) -> Result<Row, Refusal>
+    ensures same { result ≡ row_seen (whole parts.entry) row phase }
 {
-    let ok = in_range_lent(small, text, picture, frame);
-    if !ok {
-        return nothing_seen(Number::FieldOutOfRange);
+    if !in_range_lent(parts) {
+        return Err(Refusal::FieldOutOfRange);
     }
     if LAST_ROW < row {
-        return nothing_seen(Number::NotListed);
+        return Err(Refusal::NotListed);
     }
-    let owner = owner_of_row(small.settings.screen, row);
-    contents_of(small.settings, text, picture, phase, owner)
+    let owner = owner_of_row(parts.small.settings.screen, row);
+    Ok(contents_of(parts, phase, owner))
 }
 
 // The same of a record.
-pub fn row_seen(r: Record, row: u8, phase: Phase) -> Row
+pub fn row_seen(r: Record, row: u8, phase: Phase) -> Result<Row, Refusal>
     ensures same { result ≡ row_seen r row phase }
 {
-    let small = small_of(r);
-    row_seen_lent(small, &r.text, &r.picture, &r.frame.bytes, row, phase)
+    row_seen_lent(r.in_parts(), row, phase)
 }
 
-fn no_place(number: Number) -> ColumnSeen
-    ensures { result ≡ no_place number }
-{
-    let bar = no_bar();
-    ColumnSeen {
-        number: number,
-        owner: Owner::Nothing,
-        shown: Shown::Nothing,
-        bar: bar,
-        inverse: false,
-    }
-}
-
+#[tactic(auto, unfolding(crate::specs::Columns::soft_key_at))]
 fn soft_key_at(labels: Labels, column: u8) -> Shown
     requires { column ≤ last_column }
     ensures { result ≡ soft_key_at labels column }
 {
     if column < ROCKER {
-        let left = labels.left;
-        return Shown::LeftLabel(left.codes[(column / CELL) as usize]);
+        Shown::LeftLabel(labels.left.codes[(column / CELL) as usize])
+    } else if column < RIGHT_LABEL {
+        Shown::Rocker(labels.w)
+    } else {
+        Shown::RightLabel(labels.right.codes[((column - RIGHT_LABEL) / CELL) as usize])
     }
-    if column < RIGHT_LABEL {
-        return Shown::Rocker(labels.w);
-    }
-    let right = labels.right;
-    Shown::RightLabel(right.codes[((column - RIGHT_LABEL) / CELL) as usize])
 }
 
 // Cell `cell` of the small codes of the large line.
@@ -474,9 +371,10 @@ fn small_cell(text: &Text, column: u8, cell: u8) -> u8
 {
     let cells = &text[..];
     if cell < small_count(text, column) {
-        return cells[LINE + cell as usize];
+        cells[LINE + cell as usize]
+    } else {
+        BLANK
     }
-    BLANK
 }
 
 // Cell `cell` of the big ones.
@@ -489,25 +387,23 @@ fn big_cell(text: &Text, column: u8, cell: u8) -> u8
     cells[LINE + small + cell as usize]
 }
 
-fn shown_at<'a>(
-    p: Settings,
-    text: &'a Text,
-    picture: &'a Picture,
-    column: u8,
-    owner: Owner,
-) -> Shown
-    requires { (placed owner ≡ true) × (p.screen.column ≤ 24) × (column ≤ last_column) }
-    ensures { Showing p text.now picture.now (λ r. result ≡ shown_at r column owner) }
+#[tactic(auto, unfolding(crate::specs::Columns::shown_at))]
+fn shown_at(parts: InParts<'_>, column: u8, owner: Owner) -> Shown
+    requires { (placed owner ≡ true) × (parts.small.settings.screen.column ≤ 24) × (column ≤ last_column) }
+    ensures { result ≡ shown_at (whole parts.entry) column owner }
 {
+    let (text, picture) = (parts.text, parts.picture);
+    let settings = parts.small.settings;
+    let end = settings.screen.column;
     match owner {
         Owner::Nothing => Shown::Nothing,
         Owner::IconBar => Shown::Bar,
         Owner::TextRow(n) => Shown::Code(text[16 * n as usize + (column / CELL) as usize]),
         Owner::PictureRow(n) => Shown::Column(picture[96 * n as usize + column as usize]),
-        Owner::SoftKeys => soft_key_at(labels_of(p), column),
-        Owner::SmallLine => Shown::Code(small_cell(text, p.screen.column, column / CELL)),
-        Owner::BigLine(half) => Shown::Code(big_cell(text, p.screen.column, column / BIG_CELL)),
-        Owner::PictureWithRocker(n) => Shown::Nothing,
+        Owner::SoftKeys => soft_key_at(labels_of(settings), column),
+        Owner::SmallLine => Shown::Code(small_cell(text, end, column / CELL)),
+        Owner::BigLine(_) => Shown::Code(big_cell(text, end, column / BIG_CELL)),
+        Owner::PictureWithRocker(_) => Shown::Nothing,
     }
 }
 
@@ -531,49 +427,34 @@ fn inverse_at(p: Settings, owner: Owner) -> bool
 }
 
 // Row 0 is the top one, column 0 the left one. A row or a column above the last is refused, a bad record before it.
-pub fn column_seen_lent<'a>(
-    small: Small,
-    text: &'a Text,
-    picture: &'a Picture,
-    frame: &'a FrameBytes,
+#[tactic(auto, unfolding(crate::specs::Columns::column_seen))]
+pub fn column_seen_lent(
+    parts: InParts<'_>,
     row: u8,
     column: u8,
     phase: Phase,
-) -> ColumnSeen
-    ensures same { result ≡ column_seen (together small text.now picture.now frame.now) row column phase }
+) -> Result<ColumnSeen, Refusal>
+    ensures same { result ≡ column_seen (whole parts.entry) row column phase }
 {
-    let ok = in_range_lent(small, text, picture, frame);
-    if !ok {
-        return no_place(Number::FieldOutOfRange);
+    if !in_range_lent(parts) {
+        return Err(Refusal::FieldOutOfRange);
     }
-    if (LAST_ROW < row) | (LAST_COLUMN < column) {
-        return no_place(Number::NotListed);
+    if LAST_ROW < row || LAST_COLUMN < column {
+        return Err(Refusal::NotListed);
     }
-    let owner = owner_of(small.settings.screen, row, column);
-    let shown = shown_at(small.settings, text, picture, column, owner);
-    let bar = bar_at_place(small.settings, phase, owner);
-    let inverse = inverse_at(small.settings, owner);
-    ColumnSeen {
-        number: Number::Done,
-        owner: owner,
-        shown: shown,
-        bar: bar,
-        inverse: inverse,
-    }
+    let settings = parts.small.settings;
+    let owner = owner_of(settings.screen, row, column);
+    Ok(ColumnSeen {
+        owner,
+        shown: shown_at(parts, column, owner),
+        bar: bar_at_place(settings, phase, owner),
+        inverse: inverse_at(settings, owner),
+    })
 }
 
 // The same of a record.
-pub fn column_seen(r: Record, row: u8, column: u8, phase: Phase) -> ColumnSeen
+pub fn column_seen(r: Record, row: u8, column: u8, phase: Phase) -> Result<ColumnSeen, Refusal>
     ensures same { result ≡ column_seen r row column phase }
 {
-    let small = small_of(r);
-    column_seen_lent(
-        small,
-        &r.text,
-        &r.picture,
-        &r.frame.bytes,
-        row,
-        column,
-        phase,
-    )
+    column_seen_lent(r.in_parts(), row, column, phase)
 }

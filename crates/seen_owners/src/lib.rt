@@ -53,57 +53,54 @@ pub enum Owner {
     PictureWithRocker(u8),
 }
 
+#[tactic(auto, unfolding(crate::specs::Table::mode_line))]
 fn mode_line(mode: u8) -> usize
     ensures { result ≡ mode_line mode }
 {
-    if mode <= 1 {
-        return 0;
+    match mode {
+        0 | 1 => 0,
+        LARGE => 2,
+        _ => 1,
     }
-    if mode == LARGE {
-        return 2;
-    }
-    1
 }
 
+#[tactic(auto, unfolding(crate::specs::Table::line_of))]
 fn line_of(overlay: u8, mode: u8) -> usize
     ensures { result ≡ line_of overlay mode }
 {
-    if overlay == 0 {
-        return mode_line(mode);
+    match overlay {
+        0 => mode_line(mode),
+        FIRST_OVERLAY..=LAST_OVERLAY => overlay as usize - 8,
+        _ => NO_LINE,
     }
-    if (FIRST_OVERLAY <= overlay) & (overlay <= LAST_OVERLAY) {
-        return overlay as usize - 8;
-    }
-    NO_LINE
 }
 
+#[tactic(auto, unfolding(crate::specs::Table::letter_in))]
 fn letter_in(line: usize, row: u8) -> u8
     requires { (line < 12) × (row ≤ 6) }
     ensures { result ≡ letter_in line row }
 {
-    let place = row as usize;
-    TABLE[line][place]
+    TABLE[line][row as usize]
 }
 
 // The letter of a display row, the text mode's own where the overlay leaves the row to it.
+#[tactic(auto, unfolding(crate::specs::Table::letter_at))]
 fn letter_at(overlay: u8, mode: u8, row: u8) -> u8
     requires { row ≤ 6 }
     ensures { result ≡ letter_at overlay mode row }
 {
-    let letter = letter_in(line_of(overlay, mode), row);
-    if letter == b'T' {
-        return letter_in(mode_line(mode), row);
+    match letter_in(line_of(overlay, mode), row) {
+        b'T' => letter_in(mode_line(mode), row),
+        letter => letter,
     }
-    letter
 }
 
+#[tactic(auto, unfolding(crate::specs::Table::by_letter))]
 fn by_letter(letter: u8, row: u8) -> Owner
     ensures { result ≡ by_letter letter row }
 {
-    if (b'0' <= letter) & (letter <= b'4') {
-        return Owner::TextRow(letter - b'0');
-    }
     match letter {
+        b'0'..=b'4' => Owner::TextRow(letter - b'0'),
         b'B' => Owner::IconBar,
         b'S' => Owner::SmallLine,
         b'U' => Owner::BigLine(0),
@@ -116,32 +113,34 @@ fn by_letter(letter: u8, row: u8) -> Owner
 }
 
 // The owner of a display row. With the display off, and above the last row, there is none.
+#[tactic(auto, unfolding(crate::specs::Table::owner_of_row))]
 pub fn owner_of_row(s: Screen, row: u8) -> Owner
     ensures same { result ≡ owner_of_row s row }
 {
-    if s.display & (row <= LAST_ROW) {
-        return by_letter(letter_at(s.overlay, s.mode, row), row);
+    if s.display && row <= LAST_ROW {
+        by_letter(letter_at(s.overlay, s.mode, row), row)
+    } else {
+        Owner::Nothing
     }
-    Owner::Nothing
 }
 
 // A column of a picture row with the rocker panel in it.
 fn rocker_or(n: u8, column: u8) -> Owner
     ensures { result ≡ rocker_or n column }
 {
-    if (ROCKER <= column) & (column < RIGHT_LABEL) {
-        return Owner::SoftKeys;
+    if (ROCKER..RIGHT_LABEL).contains(&column) {
+        Owner::SoftKeys
+    } else {
+        Owner::PictureRow(n)
     }
-    Owner::PictureRow(n)
 }
 
 // The owner of a column of a display row: the row's own, but for a picture with the rocker in it.
 pub fn owner_of(s: Screen, row: u8, column: u8) -> Owner
     ensures same { result ≡ owner_on s row column }
 {
-    let owner = owner_of_row(s, row);
-    match owner {
+    match owner_of_row(s, row) {
         Owner::PictureWithRocker(n) => rocker_or(n, column),
-        _ => owner,
+        owner => owner,
     }
 }

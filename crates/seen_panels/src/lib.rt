@@ -4,7 +4,7 @@
 ghost use Rattle.std.specs.Prelude.{◌≡◌};
 ghost use Rattle.seen_panels.specs.Panels.{unread_lit, sms_panel, volume_panel};
 
-use record::{Icons, Volume};
+use record::{HANDSFREE, Icons, PRIVATE, Volume};
 
 // The two phases of an icon that flashes: it is lit, and then there is a pause.
 #[derive(Clone, Copy)]
@@ -35,7 +35,7 @@ fn unread_lit(u: u8, phase: Phase) -> bool
 {
     match phase {
         Phase::Lit => u != 0,
-        Phase::Pause => (u != 0) & (u != 255),
+        Phase::Pause => !matches!(u, 0 | 255),
     }
 }
 
@@ -43,28 +43,22 @@ pub fn sms_panel(i: Icons, phase: Phase) -> SmsPanel
     ensures same { result ≡ sms_panel i phase }
 {
     if unread_lit(i.u, phase) {
-        return SmsPanel::Unread;
+        SmsPanel::Unread
+    } else if i.s == 1 {
+        SmsPanel::Read
+    } else {
+        SmsPanel::Nothing
     }
-    if i.s == 1 {
-        return SmsPanel::Read;
-    }
-    SmsPanel::Nothing
 }
 
 pub fn volume_panel(v: Volume) -> VolumePanel
     ensures same { result ≡ volume_panel v }
 {
-    if v.hidden {
-        return VolumePanel::Nothing;
+    match (v.hidden, v.mute, v.which) {
+        (true, _, _) => VolumePanel::Nothing,
+        (_, true, _) => VolumePanel::Mute,
+        (_, _, PRIVATE) => VolumePanel::Private(v.level),
+        (_, _, HANDSFREE) => VolumePanel::Handsfree(v.level),
+        _ => VolumePanel::Nothing,
     }
-    if v.mute {
-        return VolumePanel::Mute;
-    }
-    if v.which == 1 {
-        return VolumePanel::Private(v.level);
-    }
-    if v.which == 2 {
-        return VolumePanel::Handsfree(v.level);
-    }
-    VolumePanel::Nothing
 }

@@ -15,18 +15,27 @@
 // With the display off the frame is empty. The cursor is no part of what is seen. Of an input that fails nothing is drawn.
 #![tactic(auto)]
 
-ghost use Rattle.std.specs.Prelude.{◌≤◌};
-
 use program::{Host, Input};
 use record::{Label, Record};
 use seen::{Bar, Labels, Owner, Phase, SmsPanel, VolumePanel};
+use seen_owners::{RIGHT_LABEL, ROCKER};
 
 const PLACES: usize = 48;
 
-// Where the rocker's places begin, and those behind it.
-const ROCKER: usize = 21;
+// The strokes of a digit, as on a meter.
+const TOP: u8 = 1;
 
-const RIGHT_LABEL: usize = 27;
+const UPPER_LEFT: u8 = 2;
+
+const UPPER_RIGHT: u8 = 4;
+
+const MIDDLE: u8 = 8;
+
+const LOWER_LEFT: u8 = 16;
+
+const LOWER_RIGHT: u8 = 32;
+
+const BOTTOM: u8 = 64;
 
 fn say(host: &Host, words: &[u8]) {
     program::write(host, b"show_screen", words);
@@ -42,7 +51,7 @@ fn end_of_line(host: &Host) {
 }
 
 fn repeated(host: &Host, sign: &[u8], times: usize) {
-    for i in 0..times {
+    for _ in 0..times {
         say(host, sign);
     }
 }
@@ -74,32 +83,19 @@ fn bottom_edge(host: &Host) {
     say(host, b"\xE2\x95\xAF\n");
 }
 
-fn printable(code: u8) -> u8 {
-    if code < 0x20 {
-        return b'.';
-    }
-    if 0x7E < code {
-        return b'.';
-    }
-    code
-}
-
-// The first n codes, three places each: the code and what stands at its sides.
-fn say_codes(host: &Host, codes: &[u8], n: usize, left: u8, right: u8) {
-    for i in 0..n {
-        if i < codes.len() {
-            let places = [left, printable(codes[i]), right];
-            say(host, &places);
-        }
+// Codes, three places each: the code and what stands at its sides.
+fn say_codes(host: &Host, codes: &[u8], left: u8, right: u8) {
+    for code in codes {
+        say(host, &[left, program::printable(*code), right]);
     }
 }
 
-fn draw_text(host: &Host, codes: [u8; 16], inverse: bool) {
+fn draw_text(host: &Host, codes: &[u8; 16], inverse: bool) {
     side(host);
     if inverse {
-        say_codes(host, &codes, 16, b'[', b']');
+        say_codes(host, codes, b'[', b']');
     } else {
-        say_codes(host, &codes, 16, b' ', b' ');
+        say_codes(host, codes, b' ', b' ');
     }
     end_of_line(host);
     empty_line(host);
@@ -110,7 +106,7 @@ fn say_number(host: &Host, n: u8) {
     if n < 10 {
         say(host, b" ");
     }
-    program::write_number(host, b"show_screen", n as u64);
+    program::write_number(host, b"show_screen", u64::from(n));
 }
 
 // Strength 1 is the icon without bars, 6 that with five.
@@ -135,19 +131,17 @@ fn say_signal(host: &Host, f: u8) {
 fn say_missed(host: &Host, p: u8) {
     if p == 0 {
         blanks(host, 10);
-        return;
+    } else {
+        say_level(host, b"missed ", p);
     }
-    say(host, b"missed ");
-    say_number(host, p);
-    say(host, b" ");
 }
 
 fn say_roaming(host: &Host, r: u8) {
     if r == 0 {
         blanks(host, 6);
-        return;
+    } else {
+        say(host, b"roam  ");
     }
-    say(host, b"roam  ");
 }
 
 fn say_sms(host: &Host, panel: SmsPanel) {
@@ -174,30 +168,21 @@ fn say_volume(host: &Host, panel: VolumePanel) {
 }
 
 fn draw_bar(host: &Host, bar: Bar) {
-    let sms = bar.sms;
-    let volume = bar.volume;
     side(host);
     say_signal(host, bar.f);
     say_missed(host, bar.p);
     say_roaming(host, bar.r);
-    say_sms(host, sms);
-    say_volume(host, volume);
+    say_sms(host, bar.sms);
+    say_volume(host, bar.volume);
     end_of_line(host);
     empty_line(host);
 }
 
-// The places that a label leaves of the room for seven codes.
-fn places_left(len: u8) -> usize {
-    if len < 7 {
-        let codes = 7 - len;
-        return 3 * codes as usize;
-    }
-    0
-}
-
-fn say_label(host: &Host, label: Label) {
-    say_codes(host, &label.codes, label.len as usize, b' ', b' ');
-    blanks(host, places_left(label.len));
+// A label in the room for seven codes.
+fn say_label(host: &Host, label: &Label) {
+    let n = label.codes.len().min(label.len as usize);
+    say_codes(host, &label.codes[..n], b' ', b' ');
+    blanks(host, 3 * (label.codes.len() - n));
 }
 
 // 1 is down, 2 up, 3 both.
@@ -210,13 +195,11 @@ fn say_rocker(host: &Host, w: u8) {
     }
 }
 
-fn draw_labels(host: &Host, labels: Labels) {
-    let left = labels.left;
-    let right = labels.right;
+fn draw_labels(host: &Host, labels: &Labels) {
     side(host);
-    say_label(host, left);
+    say_label(host, &labels.left);
     say_rocker(host, labels.w);
-    say_label(host, right);
+    say_label(host, &labels.right);
     end_of_line(host);
     empty_line(host);
 }
@@ -226,144 +209,111 @@ fn draw_labels(host: &Host, labels: Labels) {
 fn say_dots(host: &Host, left: u8, right: u8) {
     let upper = left % 8 + right % 8 * 8;
     let lowest = left / 8 % 2 + right / 8 % 2 * 2;
-    let sign = [0xE2, 0xA0 + lowest, 0x80 + upper];
-    say(host, &sign);
+    say(host, &[0xE2, 0xA0 + lowest, 0x80 + upper]);
 }
 
 // The upper four dots of a column are its low four bits.
 fn half(column: u8, lower: bool) -> u8 {
-    if lower {
-        return column / 16;
-    }
-    column
+    if lower { column / 16 } else { column }
 }
 
-// Some places of one of the two lines of a picture row.
-fn dots(host: &Host, columns: &[u8; 96], from: usize, to: usize, lower: bool)
-    requires { (from ≤ to) × (to ≤ 48) }
-{
-    for i in from..to {
-        let left = half(columns[2 * i], lower);
-        let right = half(columns[2 * i + 1], lower);
-        say_dots(host, left, right);
+// One of the two lines of some columns of a picture row, two of them to a place.
+fn dots(host: &Host, columns: &[u8], lower: bool) {
+    for [left, right] in columns.as_chunks::<2>().0 {
+        say_dots(host, half(*left, lower), half(*right, lower));
     }
 }
 
 fn dots_line(host: &Host, columns: &[u8; 96], lower: bool) {
     side(host);
-    dots(host, columns, 0, PLACES, lower);
+    dots(host, columns, lower);
     end_of_line(host);
 }
 
-fn draw_picture(host: &Host, columns: [u8; 96]) {
-    dots_line(host, &columns, false);
-    dots_line(host, &columns, true);
+fn draw_picture(host: &Host, columns: &[u8; 96]) {
+    dots_line(host, columns, false);
+    dots_line(host, columns, true);
 }
 
-// The same around the rocker's places; it stands in the first line.
+// The same around the rocker's columns; it stands in the first line.
 fn dots_around(host: &Host, columns: &[u8; 96], w: u8, lower: bool) {
     side(host);
-    dots(host, columns, 0, ROCKER, lower);
+    dots(host, &columns[..ROCKER as usize], lower);
     say_rocker(host, w);
-    dots(host, columns, RIGHT_LABEL, PLACES, lower);
+    dots(host, &columns[RIGHT_LABEL as usize..], lower);
     end_of_line(host);
 }
 
-fn draw_picture_with_rocker(host: &Host, columns: [u8; 96], w: u8) {
-    dots_around(host, &columns, w, false);
-    dots_around(host, &columns, 0, true);
+fn draw_picture_with_rocker(host: &Host, columns: &[u8; 96], w: u8) {
+    dots_around(host, columns, w, false);
+    dots_around(host, columns, 0, true);
 }
 
-// The strokes of a digit, as on a meter: 1 the top, 2 and 4 the upper left and right, 8 the middle, 16 and 32 the lower left and
-// right, 64 the bottom. 0 is no digit.
-fn strokes(code: u8) -> u8 {
-    match code {
-        b'0' => 119,
-        b'1' => 36,
-        b'2' => 93,
-        b'3' => 109,
-        b'4' => 46,
-        b'5' => 107,
-        b'6' => 123,
-        b'7' => 37,
-        b'8' => 127,
-        b'9' => 111,
-        _ => 0,
-    }
+// The strokes of a code, if it is a digit.
+fn strokes_of(code: u8) -> Option<u8> {
+    Some(match code {
+        b'0' => TOP | UPPER_LEFT | UPPER_RIGHT | LOWER_LEFT | LOWER_RIGHT | BOTTOM,
+        b'1' => UPPER_RIGHT | LOWER_RIGHT,
+        b'2' => TOP | UPPER_RIGHT | MIDDLE | LOWER_LEFT | BOTTOM,
+        b'3' => TOP | UPPER_RIGHT | MIDDLE | LOWER_RIGHT | BOTTOM,
+        b'4' => UPPER_LEFT | UPPER_RIGHT | MIDDLE | LOWER_RIGHT,
+        b'5' => TOP | UPPER_LEFT | MIDDLE | LOWER_RIGHT | BOTTOM,
+        b'6' => TOP | UPPER_LEFT | MIDDLE | LOWER_LEFT | LOWER_RIGHT | BOTTOM,
+        b'7' => TOP | UPPER_RIGHT | LOWER_RIGHT,
+        b'8' => TOP | UPPER_LEFT | UPPER_RIGHT | MIDDLE | LOWER_LEFT | LOWER_RIGHT | BOTTOM,
+        b'9' => TOP | UPPER_LEFT | UPPER_RIGHT | MIDDLE | LOWER_RIGHT | BOTTOM,
+        _ => return None,
+    })
 }
 
-fn say_if(host: &Host, there: bool, sign: &[u8], none: &[u8]) {
-    if there {
-        say(host, sign);
-        return;
-    }
-    say(host, none);
-}
-
-// Three strokes of a digit: left, level and right.
-fn say_strokes(host: &Host, left: bool, level: bool, right: bool) {
-    say_if(host, left, b"|", b" ");
-    say_if(host, level, b"___", b"   ");
-    say_if(host, right, b"|", b" ");
+// Three of the strokes of a digit, where it has them: left, level and right. No stroke is 0.
+fn say_strokes(host: &Host, strokes: u8, [left, level, right]: [u8; 3]) {
+    say(host, if strokes & left == 0 { b" " } else { b"|" });
+    say(host, if strokes & level == 0 { b"   " } else { b"___" });
+    say(host, if strokes & right == 0 { b" " } else { b"|" });
     say(host, b" ");
 }
 
 // Of the four lines of a big digit, from the top.
 fn say_digit(host: &Host, strokes: u8, line: u8) {
-    match line {
-        0 => say_strokes(host, false, strokes % 2 == 1, false),
-        1 => say_strokes(
-            host,
-            strokes / 2 % 2 == 1,
-            strokes / 8 % 2 == 1,
-            strokes / 4 % 2 == 1,
-        ),
-        2 => say_strokes(host, strokes / 16 % 2 == 1, false, strokes / 32 % 2 == 1),
-        _ => say_strokes(
-            host,
-            strokes / 16 % 2 == 1,
-            strokes / 64 % 2 == 1,
-            strokes / 32 % 2 == 1,
-        ),
-    }
+    let three = match line {
+        0 => [0, TOP, 0],
+        1 => [UPPER_LEFT, MIDDLE, UPPER_RIGHT],
+        2 => [LOWER_LEFT, 0, LOWER_RIGHT],
+        _ => [LOWER_LEFT, BOTTOM, LOWER_RIGHT],
+    };
+    say_strokes(host, strokes, three);
 }
 
 // Of the four lines of another code.
 fn say_sign(host: &Host, code: u8, line: u8) {
-    let sign = printable(code);
+    let sign = program::printable(code);
     match line {
-        1 => say(host, &[b' ', b' ', sign, sign, b' ', b' ']),
-        2 => say(host, &[b' ', b' ', sign, sign, b' ', b' ']),
+        1 | 2 => say(host, &[b' ', b' ', sign, sign, b' ', b' ']),
         _ => blanks(host, 6),
     }
 }
 
 fn say_big(host: &Host, code: u8, line: u8) {
-    let strokes = strokes(code);
-    if strokes == 0 {
-        say_sign(host, code, line);
-        return;
+    match strokes_of(code) {
+        Some(strokes) => say_digit(host, strokes, line),
+        None => say_sign(host, code, line),
     }
-    say_digit(host, strokes, line);
 }
 
 fn big_line(host: &Host, codes: &[u8; 16], line: u8) {
     side(host);
-    for i in 0..8 {
-        say_big(host, codes[i], line);
+    for code in &codes[..8] {
+        say_big(host, *code, line);
     }
     end_of_line(host);
 }
 
 // A half of the big codes is two of their four lines.
-fn draw_big(host: &Host, codes: [u8; 16], half: u8) {
-    if half == 0 {
-        big_line(host, &codes, 0);
-        big_line(host, &codes, 1);
-        return;
-    }
-    big_line(host, &codes, 2);
-    big_line(host, &codes, 3);
+fn draw_big(host: &Host, codes: &[u8; 16], half: u8) {
+    let first = if half == 0 { 0 } else { 2 };
+    big_line(host, codes, first);
+    big_line(host, codes, first + 1);
 }
 
 fn draw_nothing(host: &Host) {
@@ -372,22 +322,21 @@ fn draw_nothing(host: &Host) {
 }
 
 fn draw_row(host: &Host, r: Record, row: u8, phase: Phase) {
-    let seen = seen::row_seen(r, row, phase);
-    let owner = seen.owner;
-    let codes = seen.codes;
-    let columns = seen.columns;
-    let bar = seen.bar;
-    let labels = seen.labels;
-    let inverse = seen.inverse;
-    match owner {
+    // A row that is refused has nothing to show; rows 0 to 6 of a record in range never are.
+    let Ok(seen) = seen::row_seen(r, row, phase) else {
+        draw_nothing(host);
+        return;
+    };
+    match seen.owner {
         Owner::Nothing => draw_nothing(host),
-        Owner::IconBar => draw_bar(host, bar),
-        Owner::TextRow(_) => draw_text(host, codes, inverse),
-        Owner::PictureRow(_) => draw_picture(host, columns),
-        Owner::SoftKeys => draw_labels(host, labels),
-        Owner::SmallLine => draw_text(host, codes, inverse),
-        Owner::BigLine(half) => draw_big(host, codes, half),
-        Owner::PictureWithRocker(_) => draw_picture_with_rocker(host, columns, labels.w),
+        Owner::IconBar => draw_bar(host, seen.bar),
+        Owner::TextRow(_) | Owner::SmallLine => draw_text(host, &seen.codes, seen.inverse),
+        Owner::PictureRow(_) => draw_picture(host, &seen.columns),
+        Owner::SoftKeys => draw_labels(host, &seen.labels),
+        Owner::BigLine(half) => draw_big(host, &seen.codes, half),
+        Owner::PictureWithRocker(_) => {
+            draw_picture_with_rocker(host, &seen.columns, seen.labels.w)
+        }
     }
 }
 
@@ -401,17 +350,19 @@ fn draw(host: &Host, r: Record, phase: Phase) {
 
 fn phase_given(host: &Host) -> Phase {
     if program::is_given(host, b"--pause\n") {
-        return Phase::Pause;
+        Phase::Pause
+    } else {
+        Phase::Lit
     }
-    Phase::Lit
 }
 
 // The record's own edition decides which frames are read.
 fn power_on_given(host: &Host) -> Record {
     if program::is_given(host, b"--sister\n") {
-        return Record::sister_power_on();
+        Record::sister_power_on()
+    } else {
+        Record::power_on()
     }
-    Record::power_on()
 }
 
 fn accepted(host: &Host) -> bool {

@@ -131,18 +131,5 @@ pub fn tell(answers: &mut [u8], written: usize, told: Told) -> usize
 pub fn is_silence(told: Told) -> bool
     ensures same { result ≡ is_silence told }
 {
-    match told {
-        Told::Silence => true,
-        Told::Mark => false,
-        Told::Version => false,
-        Told::Place(_, _) => false,
-        Told::Mode(_) => false,
-        Told::Light(_, _) => false,
-        Told::Contrast(_) => false,
-        Told::Brightness(_) => false,
-        Told::Speaker(_) => false,
-        Told::Times(_, _) => false,
-        Told::Hook(_) => false,
-        Told::Ptt(_) => false,
-    }
+    matches!(told, Told::Silence)
 }

@@ -1,6 +1,7 @@
 -- THE READERS AND THE GRAMMARS AGREE IN EITHER EDITION, and what follows: one order a frame, one frame an order, short and plain frames.
 -- What it speaks of is in specs/Agree.antt. Assumes nothing.
 use Rattle.std.specs.Prelude.{ℕ, Bool, true, false, ◌||◌, List, [], map, ◌↔◌, ◌≡◌, refl}
+use Rattle.std.specs.Prelude as std
 use Rattle.std.proofs.Common.{arith, true≢false, sym, subst}
 use Rattle.std.proofs.Math.Option.{Option, none, some}
 use Rattle.frame_table.specs.Kinds.{Kind, alike}
@@ -22,11 +23,11 @@ use Rattle.command.specs.declared.Side.{Side}
 use Rattle.command.specs.declared.Side.TheVariants.{Left, Right}
 use Rattle.sister_command.specs.Order.{AnyOrder, first, own}
 use Rattle.sister_command.specs.Grammar.{sister_form, never_spelt, form_in, SpellsIn}
-use Rattle.sister_command.specs.Sister.{Said, shared, ordered, told, kinds, sister}
+use Rattle.sister_command.specs.Sister.{ordered, kinds, sister}
 use Rattle.sister_command.proofs.Sister.{tested}
-use Rattle.sister_command.specs.Sister as said
 use Rattle.sister_command.specs.Reading.{sister_read, order_said, as_first, sister_order_of, order_in}
 use Rattle.sister_command.specs.declared.SisterReading.{SisterReading}
+use Rattle.sister_command.specs.declared.SisterReading.TheVariants.{Shared, Own}
 use Rattle.sister_command.specs.Agree.{if_shared}
 
 -- Labels and pictures are spelt as in the first edition ---------------------------------------------------------------
@@ -61,21 +62,17 @@ other_read : (o : Order) (f : List ℕ) → (opens_picture f || opens_label f) �
 unfolding sister_order_of
 other_read o f h s = rw (h, complete o f s)
 
-order_told : (c : Said) → order_said (told c) ≡ some (ordered c)
-order_told (shared c) = refl
-order_told (said.own c) = refl
-
-said_read : (c : Said) (f : List ℕ) → SpellsIn true (ordered c) f → sister_order_of f ≡ some (ordered c)
+said_read : (c : SisterReading) (f : List ℕ) → SpellsIn true (ordered c) f → sister_order_of f ≡ some (ordered c)
 unfolding sister_order_of sister_read
 said_read c f s =
     let w = opens_neither 1 f (commands.no_other sister tested c f s) in
-    rw (w.0, w.1, commands.complete sister tested c f s) (order_told c)
+    rw (w.0, w.1, commands.complete sister tested c f s)
 
 sister_complete : (o : AnyOrder) (f : List ℕ) → SpellsIn true o f → sister_order_of f ≡ some o
-sister_complete (first (plain c)) f s = said_read (shared c) f s
+sister_complete (first (plain c)) f s = said_read (Shared c) f s
 sister_complete (first (label side t)) f s = let w = same_label true side t s in other_read (label side t) f (label_opens side t w) w
 sister_complete (first (draw row cs)) f s = other_read (draw row cs) f (row_opens s) s
-sister_complete (own c) f s = said_read (said.own c) f s
+sister_complete (own c) f s = said_read (Own c) f s
 
 first_complete : (o : AnyOrder) (f : List ℕ) → SpellsIn false o f → as_first (order_of f) ≡ some o
 first_complete (first o) f s = rw (complete o f s)
@@ -94,15 +91,11 @@ other_meant f (some (label Left t)) e h = sound f e
 other_meant f (some (label Right t)) e h = sound f e
 other_meant f (some (draw row cs)) e h = sound f e
 
-said_meant : (f : List ℕ) (c : Said) → SpellsIn true (ordered c) f → Meant f (order_said (told c))
-said_meant f (shared c) s = s
-said_meant f (said.own c) s = s
-
 meant : (f : List ℕ) → Meant f (sister_order_of f)
 unfolding sister_order_of sister_read
 meant f =
     cond_if (Meant f) (opens_picture f || opens_label f) (other_meant f (order_of f) refl)
-    (λ e. commands.by_reading sister tested (λ (x : SisterReading). Meant f (order_said x)) f tt (said_meant f))
+    (λ e. commands.by_reading sister tested (λ (x : std.Option SisterReading). Meant f (order_said x)) f tt (λ c s. s))
 
 first_sound : (o : AnyOrder) (f : List ℕ) (found : Option Order) → order_of f ≡ found → as_first found ≡ some o → SpellsIn false o f
 first_sound o f none e h = let z : ◌≡◌ {A = ℕ} 0 1 = cc in absurd (omega arith)
@@ -128,46 +121,46 @@ one_frame_in sister o f g h s t = one_match (form_in sister o) h s t
 -- Her commands, shared and own, by kinds -------------------------------------------------------------------------------
 
 -- A command that she spells is of a kind, and what is computed to be alike for each kind with any two numbers is alike for it.
-pub said_kind : (c : Said) {f : List ℕ} → SpellsIn true (ordered c) f → Kind kinds c
+pub said_kind : (c : SisterReading) {f : List ℕ} → SpellsIn true (ordered c) f → Kind kinds c
 said_kind c {f} s = tested.kind c f s
 
-pub said_alike : {X : Type 0} (F G : Said → X) → ((m n : ℕ) → map (λ (k : ℕ → ℕ → Said). F (k m n)) kinds ≡ map (λ (k : ℕ → ℕ → Said). G (k m n)) kinds) → (c : Said) {f : List ℕ} → SpellsIn true (ordered c) f → F c ≡ G c
+pub said_alike : {X : Type 0} (F G : SisterReading → X) → ((m n : ℕ) → map (λ (k : ℕ → ℕ → SisterReading). F (k m n)) kinds ≡ map (λ (k : ℕ → ℕ → SisterReading). G (k m n)) kinds) → (c : SisterReading) {f : List ℕ} → SpellsIn true (ordered c) f → F c ≡ G c
 said_alike F G h c s = alike kinds F G h (said_kind c s)
 
 -- A command that she shares with the first edition; and a test of these alone, computed for each kind with any two numbers.
-pub shared_kind : (c : Command) {f : List ℕ} → SpellsIn true (first (plain c)) f → Kind kinds (shared c)
-shared_kind c s = said_kind (shared c) s
+pub shared_kind : (c : Command) {f : List ℕ} → SpellsIn true (first (plain c)) f → Kind kinds (Shared c)
+shared_kind c s = said_kind (Shared c) s
 
-pub shared_test : (test : Command → Bool) → ((m n : ℕ) → map (λ (k : ℕ → ℕ → Said). if_shared test (k m n)) kinds ≡ map (λ (k : ℕ → ℕ → Said). true) kinds) → (c : Command) {f : List ℕ} → SpellsIn true (first (plain c)) f → test c ≡ true
-shared_test test h c s = said_alike (if_shared test) (λ (x : Said). true) h (shared c) s
+pub shared_test : (test : Command → Bool) → ((m n : ℕ) → map (λ (k : ℕ → ℕ → SisterReading). if_shared test (k m n)) kinds ≡ map (λ (k : ℕ → ℕ → SisterReading). true) kinds) → (c : Command) {f : List ℕ} → SpellsIn true (first (plain c)) f → test c ≡ true
+shared_test test h c s = said_alike (if_shared test) (λ (x : SisterReading). true) h (Shared c) s
 
 -- A command of hers carries no picture data.
-pub said_no_data : (c : Said) {f : List ℕ} → SpellsIn true (ordered c) f → NoData (sister_form (ordered c))
+pub said_no_data : (c : SisterReading) {f : List ℕ} → SpellsIn true (ordered c) f → NoData (sister_form (ordered c))
 said_no_data c s = plain_no_data (sister_form (ordered c)) (commands.kind_plain sister tested (said_kind c s))
 
-said_within : (c : Said) {f : List ℕ} → SpellsIn true (ordered c) f → Within 197 f
-said_within c s = short_within (sister_form (ordered c)) (said_alike (λ (x : Said). short (sister_form (ordered x))) (λ (x : Said). true) (λ m n. refl) c s) s
+said_within : (c : SisterReading) {f : List ℕ} → SpellsIn true (ordered c) f → Within 197 f
+said_within c s = short_within (sister_form (ordered c)) (said_alike (λ (x : SisterReading). short (sister_form (ordered x))) (λ (x : SisterReading). true) (λ m n. refl) c s) s
 
 -- Whatever spells an order holds neither ESC nor CR, and at most 197 bytes.
 pub within_in : (sister : Bool) (o : AnyOrder) {frame : List ℕ} → SpellsIn sister o frame → Within 197 frame
-within_in true (first (plain c)) s = said_within (shared c) s
+within_in true (first (plain c)) s = said_within (Shared c) s
 within_in true (first (label side t)) s = spells_within (label side t) (same_label true side t s)
 within_in true (first (draw row cs)) s = spells_within (draw row cs) s
-within_in true (own c) s = said_within (said.own c) s
+within_in true (own c) s = said_within (Own c) s
 within_in false (first o) s = spells_within o s
 within_in false (own c) s = absurd (never_spelt s)
 
 -- THE NUMBERS OF A SHARED ORDER have the same ranges in both editions.
-abbrev numbers_here : ℕ → Said → List Judged
-numbers_here rows (shared c) = judged_in rows (sister_form (first (plain c)))
-numbers_here rows (said.own c) = []
+abbrev numbers_here : ℕ → SisterReading → List Judged
+numbers_here rows (Shared c) = judged_in rows (sister_form (first (plain c)))
+numbers_here rows (Own c) = []
 
-abbrev numbers_there : ℕ → Said → List Judged
-numbers_there rows (shared c) = numbers_of rows c
-numbers_there rows (said.own c) = []
+abbrev numbers_there : ℕ → SisterReading → List Judged
+numbers_there rows (Shared c) = numbers_of rows c
+numbers_there rows (Own c) = []
 
 pub same_numbers : (rows : ℕ) (o : Order) {f : List ℕ} → SpellsIn true (first o) f → judged_in rows (sister_form (first o)) ≡ order_numbers rows o
-same_numbers rows (plain c) s = said_alike (numbers_here rows) (numbers_there rows) (λ m n. refl) (shared c) s
+same_numbers rows (plain c) s = said_alike (numbers_here rows) (numbers_there rows) (λ m n. refl) (Shared c) s
 same_numbers rows (label Left t) s = refl
 same_numbers rows (label Right t) s = refl
 same_numbers rows (draw row cs) s = refl

@@ -3,12 +3,11 @@
 -- The theorems are in proofs/Agree.antt.
 use Rattle.std.specs.Prelude.{Bool, true}
 use Rattle.command.specs.declared.Command.{Command}
-use Rattle.sister_command.specs.Order.{own}
-use Rattle.sister_command.specs.Sister.{Said, shared}
-use Rattle.sister_command.specs.Sister as said
+use Rattle.sister_command.specs.declared.SisterReading.{SisterReading}
+use Rattle.sister_command.specs.declared.SisterReading.TheVariants.{Shared, Own}
 
 -- Her commands, shared and own, by kinds -------------------------------------------------------------------------------
 
-abbrev pub if_shared : (Command → Bool) → Said → Bool
-if_shared test (shared c) = test c
-if_shared test (said.own c) = true
+abbrev pub if_shared : (Command → Bool) → SisterReading → Bool
+if_shared test (Shared c) = test c
+if_shared test (Own c) = true

@@ -18,7 +18,7 @@ use Rattle.command.specs.declared.Side.TheVariants.{Left, Right}
 use Rattle.sister_command.specs.Order.{AnyOrder, first, own}
 use Rattle.sister_command.specs.InRange.{any_in_range}
 use Rattle.sister_command.specs.Table.{classes, next_states}
-use Rattle.sister_command.specs.Pick.{as_shared, asked_or, stepped_or, mode_of, light_of, after_i, after_and, after_k, command_of}
+use Rattle.sister_command.specs.Pick.{asked_or, stepped_or, mode_of, light_of, after_i, after_and, after_k, command_of}
 use Rattle.sister_command.specs.Reading.{sister_read, sister_order_of, order_in}
 use Rattle.sister_command.specs.declared.SisterCommand.{SisterCommand}
 use Rattle.sister_command.specs.declared.SisterCommand.TheVariants as Hers
@@ -214,5 +214,5 @@ table =
     ∷ []
 
 pub cases : map (λ (group : List Case). map (λ (c : Case). c.0) group) table ≡ map (λ (group : List Case). map (λ (c : Case). c.1) group) table
-unfolding digit_of padded picture.hex_of picture.times_of picture.items picture.columns_of numbers_after reader.read_with classes next_states as_shared asked_or stepped_or mode_of light_of after_i after_and after_k command_of sister_read sister_order_of theirTable.classes theirTable.next_states theirs.with_number theirs.display_of theirs.light_of theirs.contrast_of theirs.after_i theirs.cursor_sign theirs.after_bracket theirs.command_of is_text label_read read_with read_of opens_picture row_and_data drawn_row picture_of order_of
+unfolding digit_of padded picture.hex_of picture.times_of picture.items picture.columns_of numbers_after reader.read_with classes next_states asked_or stepped_or mode_of light_of after_i after_and after_k command_of sister_read sister_order_of theirTable.classes theirTable.next_states theirs.with_number theirs.display_of theirs.light_of theirs.contrast_of theirs.after_i theirs.cursor_sign theirs.after_bracket theirs.command_of is_text label_read read_with read_of opens_picture row_and_data drawn_row picture_of order_of
 cases = refl

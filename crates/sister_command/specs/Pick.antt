@@ -1,11 +1,8 @@
--- The command of a good frame of hers, by its first four bytes and its numbers. Assumes nothing.
-use Rattle.std.specs.Prelude.{ℕ, cond, eqb}
+-- The command of a good frame of hers, by its first four bytes and its numbers; None where they pick none. Assumes nothing.
+use Rattle.std.specs.Prelude.{ℕ, cond, eqb, Option, Some, None, option_map}
 use Prim.Native.Char.{code}
 use Rattle.command.specs.Pick.{with_number}
 use Rattle.command.specs.declared.Command.TheVariants.{DisplayOff, DisplayOn, Clear, Position, LabelsEmpty, Contrast, ClearLine}
-use Rattle.command.specs.declared.Reading.{Reading}
-use Rattle.command.specs.declared.Reading.TheVariants.{Plain, Label}
-use Rattle.command.specs.declared.Reading.TheVariants as Theirs
 use Rattle.sister_command.specs.declared.SisterCommand.TheVariants as Hers
 use Rattle.sister_command.specs.declared.Question.{Question}
 use Rattle.sister_command.specs.declared.Question.TheVariants as Ask
@@ -13,13 +10,7 @@ use Rattle.sister_command.specs.declared.Step.{Step}
 use Rattle.sister_command.specs.declared.Step.TheVariants as Go
 use Rattle.sister_command.specs.declared.LightChange.TheVariants as Light
 use Rattle.sister_command.specs.declared.SisterReading.{SisterReading}
-use Rattle.sister_command.specs.declared.SisterReading.TheVariants.{Bad, Shared, Own}
-
--- what the first edition says, where she shares it
-unfoldable pub as_shared : Reading → SisterReading
-as_shared (Plain c) = Shared c
-as_shared Theirs.Bad = Bad
-as_shared (Label side) = Bad
+use Rattle.sister_command.specs.declared.SisterReading.TheVariants.{Shared, Own}
 
 -- a question, or what else the frame says
 unfoldable pub asked_or : ℕ → Question → SisterReading → SisterReading
@@ -52,29 +43,29 @@ light_of sign n =
     (cond (eqb sign (code "?")) (Own (Hers.Asked Ask.Light)) (Own (Hers.Light n)))))))))))
 
 -- The byte after I. Her modes have their letter one byte later; letters that only a number follows are the first edition's, save U.
-unfoldable pub after_i : ℕ → ℕ → ℕ → ℕ → ℕ → SisterReading
+unfoldable pub after_i : ℕ → ℕ → ℕ → ℕ → ℕ → Option SisterReading
 after_i letter sign next m n =
-    cond (eqb letter (code "K")) (Shared LabelsEmpty)
-    (cond (eqb letter (code "U")) (Own (Hers.IconU n))
-    (cond (eqb letter (code "A")) (stepped_or sign Ask.Contrast Go.ContrastUp Go.ContrastDown (Shared (Contrast n)))
-    (cond (eqb letter (code "N")) (stepped_or sign Ask.Brightness Go.BrightnessUp Go.BrightnessDown (Own (Hers.Brightness n)))
-    (cond (eqb letter (code "V")) (stepped_or sign Ask.Speaker Go.SpeakerUp Go.SpeakerDown (Own (Hers.Speaker n)))
-    (cond (eqb letter (code "T")) (asked_or sign Ask.Times (Own (Hers.KeyTimes m n)))
-    (cond (eqb letter (code "D")) (mode_of next n)
-    (cond (eqb letter (code "E")) (light_of sign n) (as_shared (with_number letter n)))))))))
+    cond (eqb letter (code "K")) (Some (Shared LabelsEmpty))
+    (cond (eqb letter (code "U")) (Some (Own (Hers.IconU n)))
+    (cond (eqb letter (code "A")) (Some (stepped_or sign Ask.Contrast Go.ContrastUp Go.ContrastDown (Shared (Contrast n))))
+    (cond (eqb letter (code "N")) (Some (stepped_or sign Ask.Brightness Go.BrightnessUp Go.BrightnessDown (Own (Hers.Brightness n))))
+    (cond (eqb letter (code "V")) (Some (stepped_or sign Ask.Speaker Go.SpeakerUp Go.SpeakerDown (Own (Hers.Speaker n))))
+    (cond (eqb letter (code "T")) (Some (asked_or sign Ask.Times (Own (Hers.KeyTimes m n))))
+    (cond (eqb letter (code "D")) (Some (mode_of next n))
+    (cond (eqb letter (code "E")) (Some (light_of sign n)) (option_map Shared (with_number letter n)))))))))
 
-unfoldable pub after_and : ℕ → ℕ → ℕ → ℕ → SisterReading
+unfoldable pub after_and : ℕ → ℕ → ℕ → ℕ → Option SisterReading
 after_and letter sign m n =
-    cond (eqb letter (code "C")) (Own (Hers.Cursor n))
-    (cond (eqb letter (code "D")) (Shared Clear)
-    (cond (eqb letter (code "H")) (asked_or sign Ask.Position (Shared (Position m n)))
-    (cond (eqb letter (code "K")) (Shared ClearLine)
-    (cond (eqb letter (code "0")) (Own Hers.Restart)
-    (cond (eqb letter (code "V")) (Own (Hers.Asked Ask.Version)) Bad)))))
+    cond (eqb letter (code "C")) (Some (Own (Hers.Cursor n)))
+    (cond (eqb letter (code "D")) (Some (Shared Clear))
+    (cond (eqb letter (code "H")) (Some (asked_or sign Ask.Position (Shared (Position m n))))
+    (cond (eqb letter (code "K")) (Some (Shared ClearLine))
+    (cond (eqb letter (code "0")) (Some (Own Hers.Restart))
+    (cond (eqb letter (code "V")) (Some (Own (Hers.Asked Ask.Version))) None)))))
 
 unfoldable pub after_k : ℕ → SisterReading
 after_k letter = cond (eqb letter (code "H")) (Own (Hers.Asked Ask.Hook)) (Own (Hers.Asked Ask.Ptt))
 
-unfoldable pub command_of : ℕ → ℕ → ℕ → ℕ → ℕ → ℕ → SisterReading
+unfoldable pub command_of : ℕ → ℕ → ℕ → ℕ → ℕ → ℕ → Option SisterReading
 command_of first second third fourth m n =
-    cond (eqb first (code "I")) (after_i second third fourth m n) (cond (eqb first (code "&")) (after_and second third m n) (after_k second))
+    cond (eqb first (code "I")) (after_i second third fourth m n) (cond (eqb first (code "&")) (after_and second third m n) (Some (after_k second)))

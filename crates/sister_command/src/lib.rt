@@ -4,11 +4,11 @@
 #![tactic(auto)]
 
 ghost use Rattle.std.specs.Prelude.{◌≡◌};
-ghost use Rattle.sister_command.specs.Pick.{as_shared, asked_or, stepped_or, mode_of, light_of, after_i, after_and, after_k, command_of};
+ghost use Rattle.sister_command.specs.Pick.{asked_or, stepped_or, mode_of, light_of, after_i, after_and, after_k, command_of};
 ghost use Rattle.sister_command.specs.Reading.{sister_read, shared_read, is_own};
 
 use command::{Command, Reading, byte_at, with_number};
-use frame_table::Classes;
+use frame_table::{Classes, Numbers};
 
 // What can be asked.
 #[derive(Clone, Copy)]
@@ -66,10 +66,9 @@ pub enum SisterCommand {
     Step(Step),
 }
 
-// What a frame that is no label and no picture says in her edition.
+// What a good frame that is no label and no picture says in her edition.
 #[derive(Clone, Copy)]
 pub enum SisterReading {
-    Bad,
     Shared(Command),
     Own(SisterCommand),
 }
@@ -122,17 +121,6 @@ pub const STATES: u8 = 19;
 
 // The first of the states in which a frame may end: P.
 pub const FIRST_GOOD: usize = 16;
-
-// What the first edition says of a letter and a number, where she shares it.
-fn shared(found: Reading) -> SisterReading
-    ensures same { result ≡ as_shared found }
-{
-    match found {
-        Reading::Plain(c) => SisterReading::Shared(c),
-        Reading::Bad => SisterReading::Bad,
-        Reading::Label(_) => SisterReading::Bad,
-    }
-}
 
 // A question, or what else the frame says.
 #[tactic(auto, unfolding(crate::specs::Pick::asked_or))]
@@ -199,10 +187,10 @@ fn light(sign: u8, n: u16) -> SisterReading
 
 // The byte after I picks the command; after ID the fourth byte does. Letters that only a number follows are the first edition's, save U.
 #[tactic(auto, unfolding(crate::specs::Pick::after_i))]
-fn after_i(letter: u8, sign: u8, next: u8, before: u16, last: u16) -> SisterReading
+fn after_i(letter: u8, sign: u8, next: u8, before: u16, last: u16) -> Option<SisterReading>
     ensures same { result ≡ after_i letter sign next before last }
 {
-    match letter {
+    Some(match letter {
         b'K' => SisterReading::Shared(Command::LabelsEmpty),
         b'U' => SisterReading::Own(SisterCommand::IconU(last)),
         b'A' => stepped_or(
@@ -233,16 +221,16 @@ fn after_i(letter: u8, sign: u8, next: u8, before: u16, last: u16) -> SisterRead
         ),
         b'D' => mode(next, last),
         b'E' => light(sign, last),
-        _ => shared(with_number(letter, last)),
-    }
+        _ => SisterReading::Shared(with_number(letter, last)?),
+    })
 }
 
 // After &.
 #[tactic(auto, unfolding(crate::specs::Pick::after_and))]
-fn after_and(letter: u8, sign: u8, before: u16, last: u16) -> SisterReading
+fn after_and(letter: u8, sign: u8, before: u16, last: u16) -> Option<SisterReading>
     ensures same { result ≡ after_and letter sign before last }
 {
-    match letter {
+    Some(match letter {
         b'C' => SisterReading::Own(SisterCommand::Cursor(last)),
         b'D' => SisterReading::Shared(Command::Clear),
         b'H' => asked_or(
@@ -253,8 +241,8 @@ fn after_and(letter: u8, sign: u8, before: u16, last: u16) -> SisterReading
         b'K' => SisterReading::Shared(Command::ClearLine),
         b'0' => SisterReading::Own(SisterCommand::Restart),
         b'V' => SisterReading::Own(SisterCommand::Asked(Question::Version)),
-        _ => SisterReading::Bad,
-    }
+        _ => return None,
+    })
 }
 
 // After K: H or P.
@@ -262,34 +250,42 @@ fn after_and(letter: u8, sign: u8, before: u16, last: u16) -> SisterReading
 fn after_k(letter: u8) -> SisterReading
     ensures same { result ≡ after_k letter }
 {
-    match letter {
-        b'H' => SisterReading::Own(SisterCommand::Asked(Question::Hook)),
-        _ => SisterReading::Own(SisterCommand::Asked(Question::Ptt)),
-    }
+    SisterReading::Own(SisterCommand::Asked(match letter {
+        b'H' => Question::Hook,
+        _ => Question::Ptt,
+    }))
 }
 
 // The command of a good frame, by its first four bytes and its numbers.
 #[tactic(auto, unfolding(crate::specs::Pick::command_of))]
-fn command_of(first: u8, second: u8, third: u8, fourth: u8, before: u16, last: u16) -> SisterReading
+fn command_of(
+    first: u8,
+    second: u8,
+    third: u8,
+    fourth: u8,
+    before: u16,
+    last: u16,
+) -> Option<SisterReading>
     ensures same { result ≡ command_of first second third fourth before last }
 {
     match first {
         b'I' => after_i(second, third, fourth, before, last),
         b'&' => after_and(second, third, before, last),
-        _ => after_k(second),
+        _ => Some(after_k(second)),
     }
 }
 
-// The command that a frame spells in her edition; Bad for labels and pictures, which are read as in the first edition.
-pub fn read_sister(f: &[u8]) -> SisterReading
+// The command that a frame spells in her edition; None for labels and pictures, which are read as in the first edition.
+pub fn read_sister(f: &[u8]) -> Option<SisterReading>
     ensures same { result ≡ sister_read f.now }
 {
-    let found = frame_table::run(&CLASSES, &NEXT_STATES, STATES, f);
-    if found.state < FIRST_GOOD {
-        return SisterReading::Bad;
-    }
-    let before = found.numbers.before;
-    let last = found.numbers.last;
+    let Numbers { before, last } = frame_table::accepted(
+        &CLASSES,
+        &NEXT_STATES,
+        STATES,
+        FIRST_GOOD,
+        f,
+    )?;
     command_of(
         byte_at(f, 0),
         byte_at(f, 1),
@@ -301,16 +297,16 @@ pub fn read_sister(f: &[u8]) -> SisterReading
 }
 
 // What a frame says that spells no command of her own: a label, or a command that the first edition has too.
-pub fn read_shared(f: &[u8]) -> Reading
+#[tactic(auto, unfolding(crate::specs::Reading::shared_read))]
+pub fn read_shared(f: &[u8]) -> Option<Reading>
     ensures same { result ≡ shared_read f.now }
 {
     if command::opens_label(f) {
         return command::read_command(f);
     }
-    match read_sister(f) {
-        SisterReading::Bad => Reading::Bad,
-        SisterReading::Shared(c) => Reading::Plain(c),
-        SisterReading::Own(_) => Reading::Bad,
+    match read_sister(f)? {
+        SisterReading::Shared(c) => Some(Reading::Plain(c)),
+        SisterReading::Own(_) => None,
     }
 }
 
@@ -318,9 +314,5 @@ pub fn read_shared(f: &[u8]) -> Reading
 pub fn is_own(f: &[u8]) -> bool
     ensures same { result ≡ is_own f.now }
 {
-    match read_sister(f) {
-        SisterReading::Bad => false,
-        SisterReading::Shared(_) => false,
-        SisterReading::Own(_) => true,
-    }
+    matches!(read_sister(f), Some(SisterReading::Own(_)))
 }

@@ -3,6 +3,7 @@ use mathlib.Core.List.{List}
 use Prim.Native.Nat.{ℕ}
 use mathlib.Core.Bool.{Bool, false, ◌||◌}
 use mathlib.Core.Option.{Option, none}
+use Rattle.std.specs.Prelude as std
 use mathlib.Core.Path.{◌≡◌, sym, ap, ◌∙◌}
 use Rattle.record.specs.declared.Settings.{Settings}
 use Rattle.record.specs.declared.Edition.{Edition}
@@ -27,7 +28,7 @@ module _ (f : List ℕ) {picture label : Bool} (p : picture ≡ opens_picture f)
   opens h = sym (λ j. p j || l j) ∙ h
 
   -- a frame that opens as neither says what was read
-  pub said_found : {read r : SisterReading} → (picture || label) ≡ false → read ≡ sister_read f → read ≡ r → sister_order_of f ≡ order_said r
+  pub said_found : {read r : std.Option SisterReading} → (picture || label) ≡ false → read ≡ sister_read f → read ≡ r → sister_order_of f ≡ order_said r
   unfolding sister_order_of
   said_found h q e = rw (opens h) (ap order_said (sym q ∙ e))
 

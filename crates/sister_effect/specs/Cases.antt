@@ -15,7 +15,7 @@ use Rattle.command.specs.Table as theirTable
 use Rattle.command.specs.Reading.{is_text, label_read, read_with, read_of, opens_picture, row_and_data, drawn_row, picture_of, order_of}
 use Rattle.effect.specs.Effect.{blanks, drawn, line_cleared, carry_out}
 use Rattle.sister_command.specs.Table.{classes, next_states}
-use Rattle.sister_command.specs.Pick.{as_shared, asked_or, stepped_or, mode_of, light_of, after_i, after_and, after_k, command_of}
+use Rattle.sister_command.specs.Pick.{asked_or, stepped_or, mode_of, light_of, after_i, after_and, after_k, command_of}
 use Rattle.sister_command.specs.Reading.{sister_read, sister_order_of}
 use Rattle.sister_effect.specs.Obey.{carry_out_own, obey_any, answers_to}
 
@@ -173,5 +173,5 @@ table =
 
 -- After a restart all is as if these six alone had been changed.
 pub cases : (map (λ (c : Case). c.0) table ≡ map (λ (c : Case). c.1) table) × (after (changes ++ ascii "&00" ∷ []) ≡ after (take 5 changes))
-unfolding digit_of padded picture.hex_of picture.times_of picture.items picture.columns_of numbers_after reader.read_with classes next_states as_shared asked_or stepped_or mode_of light_of after_i after_and after_k command_of sister_read sister_order_of theirTable.classes theirTable.next_states theirs.with_number theirs.display_of theirs.light_of theirs.contrast_of theirs.after_i theirs.cursor_sign theirs.after_bracket theirs.command_of is_text label_read read_with read_of opens_picture row_and_data drawn_row picture_of order_of blanks drawn line_cleared carry_out carry_out_own
+unfolding digit_of padded picture.hex_of picture.times_of picture.items picture.columns_of numbers_after reader.read_with classes next_states asked_or stepped_or mode_of light_of after_i after_and after_k command_of sister_read sister_order_of theirTable.classes theirTable.next_states theirs.with_number theirs.display_of theirs.light_of theirs.contrast_of theirs.after_i theirs.cursor_sign theirs.after_bracket theirs.command_of is_text label_read read_with read_of opens_picture row_and_data drawn_row picture_of order_of blanks drawn line_cleared carry_out carry_out_own
 cases = (refl, refl)

@@ -16,6 +16,7 @@ ghost use Rattle.effect.specs.Obey.{core};
 ghost use Rattle.sister_effect.specs.Effect.{mode_named, name_of, mode_told, icon_u_named, light_told, started_anew, light_effect, step_effect, stored_of, own_effect, step_refused, not_normal_auto, light_refused, refused_now, tell_of, asked_of};
 ghost use Rattle.sister_effect.specs.Obey.{Leaves, SisterObeys};
 
+use lists::BLANK;
 use record::{
     AUTO, Backlight, Edition, OFF, ON, Picture, Screen, Seconds, Settings, Tenths, Text, Times,
 };
@@ -51,22 +52,17 @@ fn step_refused(step: Step, p: Settings, e: Edition) -> bool
 fn not_normal_auto(p: Settings, e: Edition) -> bool
     ensures same { (text picture : List ℕ) → result ≡ not_normal_auto (core p text picture e) }
 {
-    (p.backlight.mode != AUTO) | e.pwm
+    p.backlight.mode != AUTO || e.pwm
 }
 
 fn light_refused(change: LightChange, p: Settings, e: Edition) -> bool
     ensures same { (text picture : List ℕ) → result ≡ light_refused change (core p text picture e) }
 {
     match change {
-        LightChange::On => false,
-        LightChange::AutoStart => false,
-        LightChange::Auto => false,
-        LightChange::PwmOn => false,
-        LightChange::PwmAuto => false,
-        LightChange::Restart => false,
-        LightChange::KeypadSet => not_normal_auto(p, e),
-        LightChange::KeypadClearedStart => not_normal_auto(p, e),
-        LightChange::KeypadCleared => not_normal_auto(p, e),
+        LightChange::KeypadSet | LightChange::KeypadClearedStart | LightChange::KeypadCleared => {
+            not_normal_auto(p, e)
+        }
+        _ => false,
     }
 }
 
@@ -75,17 +71,9 @@ pub fn refused(c: SisterCommand, p: Settings, e: Edition) -> bool
     ensures same { (text picture : List ℕ) → result ≡ refused_now c (core p text picture e) }
 {
     match c {
-        SisterCommand::Cursor(_) => false,
-        SisterCommand::Restart => false,
-        SisterCommand::Mode(_) => false,
-        SisterCommand::Light(_) => false,
         SisterCommand::LightTo(change) => light_refused(change, p, e),
-        SisterCommand::IconU(_) => false,
-        SisterCommand::Brightness(_) => false,
-        SisterCommand::KeyTimes(_, _) => false,
-        SisterCommand::Speaker(_) => false,
-        SisterCommand::Asked(_) => false,
         SisterCommand::Step(step) => step_refused(step, p, e),
+        _ => false,
     }
 }
 
@@ -104,7 +92,7 @@ fn mode_named(n: u8) -> u8
     match n {
         0..=1 => n,
         2..=3 => n + SMALL_ABOVE,
-        4..=255 => n + LARGE_ABOVE,
+        _ => n + LARGE_ABOVE,
     }
 }
 
@@ -116,17 +104,14 @@ fn name_of(kept: u8) -> u8
         0..=1 => kept,
         2 => 0,
         3..=6 => kept - SMALL_ABOVE,
-        7..=255 => kept - LARGE_ABOVE,
+        _ => kept - LARGE_ABOVE,
     }
 }
 
 fn mode_told(s: Screen) -> u8
     ensures same { result ≡ mode_told s }
 {
-    if s.overlay == 0 {
-        return name_of(s.mode);
-    }
-    name_of(s.overlay)
+    name_of(if s.overlay == 0 { s.mode } else { s.overlay })
 }
 
 // The flashing letter is kept as the first edition spells it.
@@ -152,25 +137,16 @@ const PWM_ON: u8 = 3;
 
 const TOLD_OFF: u8 = 4;
 
-fn either(pwm: bool, with: u8, without: u8) -> u8
-    ensures same { result ≡ cond pwm with without }
-{
-    if pwm {
-        return with;
-    }
-    without
-}
-
 fn light_told(b: Backlight, pwm: bool) -> u8
     ensures same { result ≡ light_told b pwm }
 {
-    if b.mode == OFF {
-        return TOLD_OFF;
+    match (b.mode, pwm) {
+        (OFF, _) => TOLD_OFF,
+        (ON, true) => PWM_ON,
+        (ON, false) => NORMAL_ON,
+        (_, true) => PWM_AUTO,
+        (_, false) => NORMAL_AUTO,
     }
-    if b.mode == ON {
-        return either(pwm, PWM_ON, NORMAL_ON);
-    }
-    either(pwm, PWM_AUTO, NORMAL_AUTO)
 }
 
 // What a command in range does that is not refused.
@@ -182,10 +158,10 @@ fn light_at(mut p: Settings, mut e: Edition, n: u8) -> SisterObeyed
     match n {
         0 => {
             p.backlight.mode = OFF;
-            p.backlight.left.0 = 0;
+            p.backlight.left = Seconds(0);
             e.pwm = false;
         }
-        1..=255 => p.backlight.duration.0 = n,
+        _ => p.backlight.duration = Seconds(n),
     }
     SisterObeyed {
         settings: p,
@@ -195,22 +171,20 @@ fn light_at(mut p: Settings, mut e: Edition, n: u8) -> SisterObeyed
 }
 
 // The seconds begin anew.
-fn started_anew(mut b: Backlight) -> Backlight
+fn started_anew(b: Backlight) -> Backlight
     ensures same { result ≡ started_anew b }
 {
-    let left = b.duration.0;
-    b.left.0 = left;
-    b
+    Backlight {
+        left: b.duration,
+        ..b
+    }
 }
 
 // Where no seconds run none begin.
 fn restarted(b: Backlight) -> Backlight
     ensures same { result ≡ cond (eqb b.mode auto) (started_anew b) b }
 {
-    if b.mode == AUTO {
-        return started_anew(b);
-    }
-    b
+    if b.mode == AUTO { started_anew(b) } else { b }
 }
 
 fn light_to(mut p: Settings, mut e: Edition, change: LightChange) -> SisterObeyed
@@ -219,13 +193,12 @@ fn light_to(mut p: Settings, mut e: Edition, change: LightChange) -> SisterObeye
     match change {
         LightChange::On => {
             p.backlight.mode = ON;
-            p.backlight.left.0 = 0;
+            p.backlight.left = Seconds(0);
             e.pwm = false;
         }
         LightChange::AutoStart => {
-            let left = p.backlight.duration.0;
             p.backlight.mode = AUTO;
-            p.backlight.left.0 = left;
+            p.backlight.left = p.backlight.duration;
             e.pwm = false;
         }
         LightChange::Auto => {
@@ -234,7 +207,7 @@ fn light_to(mut p: Settings, mut e: Edition, change: LightChange) -> SisterObeye
         }
         LightChange::PwmOn => {
             p.backlight.mode = ON;
-            p.backlight.left.0 = 0;
+            p.backlight.left = Seconds(0);
             e.pwm = true;
         }
         LightChange::PwmAuto => {
@@ -244,9 +217,8 @@ fn light_to(mut p: Settings, mut e: Edition, change: LightChange) -> SisterObeye
         LightChange::Restart => p.backlight = restarted(p.backlight),
         LightChange::KeypadSet => p.backlight.keypad = true,
         LightChange::KeypadClearedStart => {
-            let left = p.backlight.duration.0;
             p.backlight.keypad = false;
-            p.backlight.left.0 = left;
+            p.backlight.left = p.backlight.duration;
         }
         LightChange::KeypadCleared => p.backlight.keypad = false,
     }
@@ -262,30 +234,12 @@ fn stepped(mut p: Settings, mut e: Edition, step: Step) -> SisterObeyed
     ensures leaves { (text picture : List ℕ) → Leaves Silence (step_effect step (core p text picture e)) result (core result.settings text picture result.edition) }
 {
     match step {
-        Step::ContrastUp => {
-            let value = p.contrast + 1;
-            p.contrast = value;
-        }
-        Step::ContrastDown => {
-            let value = p.contrast - 1;
-            p.contrast = value;
-        }
-        Step::BrightnessUp => {
-            let value = e.brightness + 1;
-            e.brightness = value;
-        }
-        Step::BrightnessDown => {
-            let value = e.brightness - 1;
-            e.brightness = value;
-        }
-        Step::SpeakerUp => {
-            let value = e.speaker + 1;
-            e.speaker = value;
-        }
-        Step::SpeakerDown => {
-            let value = e.speaker - 1;
-            e.speaker = value;
-        }
+        Step::ContrastUp => p.contrast += 1,
+        Step::ContrastDown => p.contrast -= 1,
+        Step::BrightnessUp => e.brightness += 1,
+        Step::BrightnessDown => e.brightness -= 1,
+        Step::SpeakerUp => e.speaker += 1,
+        Step::SpeakerDown => e.speaker -= 1,
     }
     SisterObeyed {
         settings: p,
@@ -315,15 +269,13 @@ fn tell_of(question: Question, p: Settings, e: Edition) -> Told
 fn restart(p: Settings, e: Edition, text: &mut Text, picture: &mut Picture) -> SisterObeyed
     ensures leaves { Leaves Silence (core_of (sister_with (stored_of (core p [] [] e)))) result (core result.settings text.new picture.new result.edition) }
 {
-    *text = [0x20u8; 104];
-    *picture = [0u8; 672];
-    let times = p.times;
-    let duration = p.backlight.duration;
+    *text = [BLANK; 104];
+    *picture = [0; 672];
     let settings = Settings {
-        times: times,
+        times: p.times,
         backlight: Backlight {
             mode: AUTO,
-            duration: duration,
+            duration: p.backlight.duration,
             left: Seconds(0),
             keypad: false,
         },
@@ -336,8 +288,8 @@ fn restart(p: Settings, e: Edition, text: &mut Text, picture: &mut Picture) -> S
         ..Edition::SISTER
     };
     SisterObeyed {
-        settings: settings,
-        edition: edition,
+        settings,
+        edition,
         told: Told::Silence,
     }
 }
@@ -359,31 +311,20 @@ fn changed(
         SisterCommand::Mode(n) => p.screen = effect_modes::to_mode(p.screen, mode_named(n as u8)),
         SisterCommand::Light(n) => return light_at(p, e, n as u8),
         SisterCommand::LightTo(change) => return light_to(p, e, change),
-        SisterCommand::IconU(n) => {
-            let value = icon_u_named(n as u8);
-            p.icons.u = value;
-        }
-        SisterCommand::Brightness(n) => {
-            let value = n as u8;
-            e.brightness = value;
-        }
+        SisterCommand::IconU(n) => p.icons.u = icon_u_named(n as u8),
+        SisterCommand::Brightness(n) => e.brightness = n as u8,
         SisterCommand::KeyTimes(first, second) => {
-            let times = Times {
+            p.times = Times {
                 time1: Tenths(first as u8),
                 time2: Tenths(second as u8),
             };
-            p.times = times;
         }
-        SisterCommand::Speaker(n) => {
-            let value = n as u8;
-            e.speaker = value;
-        }
+        SisterCommand::Speaker(n) => e.speaker = n as u8,
         SisterCommand::Asked(question) => {
-            let told = tell_of(question, p, e);
             return SisterObeyed {
                 settings: p,
                 edition: e,
-                told: told,
+                told: tell_of(question, p, e),
             };
         }
         SisterCommand::Step(step) => return stepped(p, e, step),
@@ -400,8 +341,8 @@ fn unchanged(settings: Settings, edition: Edition) -> SisterObeyed
     ensures { result ≡ record { settings = settings; edition = edition; told = Mark } }
 {
     SisterObeyed {
-        settings: settings,
-        edition: edition,
+        settings,
+        edition,
         told: Told::Mark,
     }
 }
@@ -423,8 +364,8 @@ fn obey_own(
         return changed(settings, edition, text, picture, c);
     }
     SisterObeyed {
-        settings: settings,
-        edition: edition,
+        settings,
+        edition,
         told: Told::Silence,
     }
 }
@@ -440,8 +381,7 @@ pub fn obey_own_frame(
     ensures obeys { SisterObeys (own_found frame.now) (core settings text.old picture.old edition) result (core result.settings text.new picture.new result.edition) }
 {
     match sister_command::read_sister(frame) {
-        SisterReading::Bad => unchanged(settings, edition),
-        SisterReading::Shared(_) => unchanged(settings, edition),
-        SisterReading::Own(c) => obey_own(settings, edition, text, picture, c),
+        Some(SisterReading::Own(c)) => obey_own(settings, edition, text, picture, c),
+        _ => unchanged(settings, edition),
     }
 }

@@ -1,5 +1,5 @@
 -- Worked cases of the rules: whole logs, and what they send and leave. Assumes nothing.
-use Rattle.std.specs.Prelude.{ℕ, Bool, true, false, List, [], ◌∷◌, ◌++◌, map, ◌≡◌, refl}
+use Rattle.std.specs.Prelude.{ℕ, Bool, true, false, List, [], ◌∷◌, ◌++◌, map, ◌≡◌, refl, Option, None, Some}
 use Rattle.lists.specs.Codes.{ascii}
 use Rattle.record.specs.declared.Times.{Times}
 use Rattle.record.specs.declared.Backlight.{Backlight}
@@ -7,7 +7,7 @@ use Rattle.record.specs.Range.{auto, on}
 use Rattle.key_entry.specs.Rules.{elapsed}
 use Rattle.sister_entry.specs.declared.SisterKeyed.{SisterKeyed}
 use Rattle.sister_entry.specs.declared.Message.{Message}
-use Rattle.sister_entry.specs.declared.Message.TheVariants.{None, False, Event}
+use Rattle.sister_entry.specs.declared.Message.TheVariants.{False, Event}
 use Rattle.sister_entry.specs.Keys.{bit_of, is_down, with_key, without_key}
 use Rattle.record.specs.PowerOn.{none_down}
 use Rattle.sister_entry.specs.Rules.{sign_of, listed, before, held_since, false_with, started, pressed_beside, key_pressed, left_down, key_released, due, long_since, polled, lifted, put_back, ptt_pressed, ptt_released, pressed, released, entered, keyed}
@@ -21,10 +21,10 @@ abbrev pub next : SisterKeyed → Times → ℕ × ℕ → SisterKeyed
 next was times e = keyed was.keys times was.backlight was.hook was.ptt e.0 e.1
 
 -- a message as two signs: -- for none
-abbrev pub shown : Message → List ℕ
+abbrev pub shown : Option Message → List ℕ
 shown None = ascii "--"
-shown False = ascii "Fx"
-shown (Event sign event) = sign ∷ event ∷ []
+shown (Some False) = ascii "Fx"
+shown (Some (Event sign event)) = sign ∷ event ∷ []
 
 abbrev pub sent_from : SisterKeyed → Times → Log → List ℕ
 sent_from was times [] = []
@@ -93,19 +93,19 @@ messages =
 abbrev pub states : List (SisterKeyed × SisterKeyed)
 states =
     -- held, tick now, short; in auto left is the duration
-    (left ((100, 3) ∷ []), record { keys = held_since 1 3 100; backlight = light auto 30; hook = true; ptt = false; message = Event 0x41 0x73 })
+    (left ((100, 3) ∷ []), record { keys = held_since 1 3 100; backlight = light auto 30; hook = true; ptt = false; message = Some (Event 0x41 0x73) })
     -- but not where the light is on
-    ∷ (left_from (before none_down (light on 0) true false) (times_of 12 12) ((100, 3) ∷ []), record { keys = held_since 1 3 100; backlight = light on 0; hook = true; ptt = false; message = Event 0x41 0x73 })
+    ∷ (left_from (before none_down (light on 0) true false) (times_of 12 12) ((100, 3) ∷ []), record { keys = held_since 1 3 100; backlight = light on 0; hook = true; ptt = false; message = Some (Event 0x41 0x73) })
     -- long, tick now
-    ∷ (left ((100, 3) ∷ (220, 255) ∷ []), record { keys = held_since 2 3 220; backlight = light auto 30; hook = true; ptt = false; message = Event 0x41 0x6C })
+    ∷ (left ((100, 3) ∷ (220, 255) ∷ []), record { keys = held_since 2 3 220; backlight = light auto 30; hook = true; ptt = false; message = Some (Event 0x41 0x6C) })
     -- a second press starts no seconds again: 2 ^ 6 and 2 ^ 20 are down
-    ∷ (left_from (before (held_since 1 6 0) (light auto 7) true false) (times_of 12 12) ((5, 20) ∷ []), record { keys = false_with 0x100040; backlight = light auto 7; hook = true; ptt = false; message = False })
+    ∷ (left_from (before (held_since 1 6 0) (light auto 7) true false) (times_of 12 12) ((5, 20) ∷ []), record { keys = false_with 0x100040; backlight = light auto 7; hook = true; ptt = false; message = Some False })
     -- a key more, a key less
     ∷ (left_from (before (false_with 0x100040) (light auto 7) true false) (times_of 12 12) ((5, 0) ∷ (6, 134) ∷ (7, 135) ∷ []), before (false_with 0x100001) (light auto 7) true false)
     -- the way back to none
     ∷ (left_from (before (false_with 0x100040) (light auto 7) true false) (times_of 12 12) ((5, 148) ∷ (6, 134) ∷ []), before none_down (light auto 7) true false)
     -- HOOK and PTT in false: no seconds, the keys as they were
-    ∷ (left_from (before (false_with 0x100040) (light auto 7) true false) (times_of 12 12) ((5, 21) ∷ (6, 22) ∷ []), record { keys = false_with 0x100040; backlight = light auto 7; hook = false; ptt = true; message = Event 0x50 0x73 })
+    ∷ (left_from (before (false_with 0x100040) (light auto 7) true false) (times_of 12 12) ((5, 21) ∷ (6, 22) ∷ []), record { keys = false_with 0x100040; backlight = light auto 7; hook = false; ptt = true; message = Some (Event 0x50 0x73) })
     ∷ []
 
 -- and which edges are listed: each end of each row, and the values past them

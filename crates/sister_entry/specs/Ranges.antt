@@ -1,5 +1,5 @@
 -- An entry keeps the held keys and the light in range. Assumes nothing.
-use Rattle.std.specs.Prelude.{ℕ, ◌-◌, ◌^◌, ◌≤◌, Bool, true, false, ◌&&◌, ◌||◌, not, ◌≡◌, refl, eqb, leb, ltb}
+use Rattle.std.specs.Prelude.{ℕ, ◌-◌, ◌^◌, ◌≤◌, Bool, true, false, ◌&&◌, ◌||◌, not, ◌≡◌, refl, eqb, leb, ltb, Option}
 use Rattle.std.proofs.Common.{arith, subst, pow_pos, eqb-true, leb-true, ltb-true, lt-ltb, le-leb}
 use Rattle.std.specs.Int.Bits.{bit_or, or_add_and}
 use Rattle.std.proofs.lemmas.Nat.{or_lt, and_le_l}
@@ -95,9 +95,9 @@ left_fine down set =
 -- these holds of every entry.
 pub one_of_five : (P : SisterKeyed → Type 0) (was : SisterKeyed) (times : Times) (now : ℕ) → P was
     → ((key : ℕ) → is_key key ≡ true → P (started was now key))
-    → ((keys : Keys) (message : Message) → (keys_in_range was.keys ≡ true → keys_in_range keys ≡ true) → P (with_keys was keys message))
-    → ((hook : Bool) (message : Message) → P (with_hook was hook message))
-    → ((ptt : Bool) (message : Message) → P (with_ptt was ptt message))
+    → ((keys : Keys) (message : Option Message) → (keys_in_range was.keys ≡ true → keys_in_range keys ≡ true) → P (with_keys was keys message))
+    → ((hook : Bool) (message : Option Message) → P (with_hook was hook message))
+    → ((ptt : Bool) (message : Option Message) → P (with_ptt was ptt message))
     → (edge : ℕ) → P (entered was times now edge)
 unfolding entered pressed released key_pressed pressed_beside key_released long_since polled lifted put_back ptt_pressed ptt_released
 one_of_five P was times now same start keys hook ptt edge =

@@ -1,5 +1,5 @@
 -- What an entry of the sister handset's key log does, in the words of request T-06 ("Key log"). Assumes nothing.
-use Rattle.std.specs.Prelude.{ℕ, ◌-◌, Bool, true, false, cond, ◌&&◌, ◌||◌, not, List, eqb, leb, get_or}
+use Rattle.std.specs.Prelude.{ℕ, ◌-◌, Bool, true, false, cond, ◌&&◌, ◌||◌, not, List, eqb, leb, get_or, Option, None, Some}
 use Prim.Native.Char.{code}
 use Rattle.lists.specs.Codes.{ascii}
 use Rattle.record.specs.declared.Keys.{Keys}
@@ -11,7 +11,7 @@ use Rattle.record.specs.PowerOn.{none_down}
 use Rattle.key_entry.specs.Rules.{releases, release_up_to, is_poll, listed_up_to, over, lit}
 use Rattle.sister_entry.specs.declared.SisterKeyed.{SisterKeyed}
 use Rattle.sister_entry.specs.declared.Message.{Message}
-use Rattle.sister_entry.specs.declared.Message.TheVariants.{None, False, Event}
+use Rattle.sister_entry.specs.declared.Message.TheVariants.{False, Event}
 use Rattle.sister_entry.specs.Keys.{is_key, no_keys, with_key, without_key}
 
 -- EDGE BYTES: k press, 128+k release, 255 poll. Keys 0 to 18 as in the first edition, 19 MUTE, 20 REC/SOS; then HOOK and PTT
@@ -70,13 +70,13 @@ abbrev pub before : Keys → Backlight → Bool → Bool → SisterKeyed
 before keys light hook ptt = record { keys = keys; backlight = light; hook = hook; ptt = ptt; message = None }
 
 -- other keys, another hook or another PTT, and a message
-abbrev pub with_keys : SisterKeyed → Keys → Message → SisterKeyed
+abbrev pub with_keys : SisterKeyed → Keys → Option Message → SisterKeyed
 with_keys was keys message = record { keys = keys; backlight = was.backlight; hook = was.hook; ptt = was.ptt; message = message }
 
-abbrev pub with_hook : SisterKeyed → Bool → Message → SisterKeyed
+abbrev pub with_hook : SisterKeyed → Bool → Option Message → SisterKeyed
 with_hook was hook message = record { keys = was.keys; backlight = was.backlight; hook = hook; ptt = was.ptt; message = message }
 
-abbrev pub with_ptt : SisterKeyed → Bool → Message → SisterKeyed
+abbrev pub with_ptt : SisterKeyed → Bool → Option Message → SisterKeyed
 with_ptt was ptt message = record { keys = was.keys; backlight = was.backlight; hook = was.hook; ptt = ptt; message = message }
 
 -- press with none down: s; that key, tick now, short; in auto left becomes the duration
@@ -86,13 +86,13 @@ started was now key = record {
   backlight = lit was.backlight;
   hook = was.hook;
   ptt = was.ptt;
-  message = Event (sign_of key) start;
+  message = Some (Event (sign_of key) start);
 }
 
 -- a second key pressed while one is held: KFx, state false with both keys down. The same key pressed again: nothing
 unfoldable pub pressed_beside : SisterKeyed → ℕ → SisterKeyed
 pressed_beside was key =
-    cond (eqb was.keys.key key) was (with_keys was (false_with (with_key (with_key no_keys was.keys.key) key)) False)
+    cond (eqb was.keys.key key) was (with_keys was (false_with (with_key (with_key no_keys was.keys.key) key)) (Some False))
 
 -- a press, by the stage; in false it adds a key to the set
 unfoldable pub key_pressed : SisterKeyed → ℕ → ℕ → SisterKeyed
@@ -109,7 +109,7 @@ left_down down = cond (eqb down no_keys) none_down (false_with down)
 -- release of the held key, short or long: e; none held. In false it takes the key out of the set. A key that is not down: nothing
 unfoldable pub key_released : SisterKeyed → ℕ → SisterKeyed
 key_released was key =
-    cond (is_held was.keys && eqb was.keys.key key) (with_keys was none_down (Event (sign_of key) end))
+    cond (is_held was.keys && eqb was.keys.key key) (with_keys was none_down (Some (Event (sign_of key) end)))
     (cond (eqb was.keys.stage stage_false) (with_keys was (left_down (without_key was.keys.down key)) None)
     was)
 
@@ -119,7 +119,7 @@ due time now held = not (eqb time.0 0) && over time now held
 
 -- the held key is long, tick now, and this is sent of it
 unfoldable pub long_since : SisterKeyed → ℕ → ℕ → SisterKeyed
-long_since was now event = with_keys was (held_since stage_long was.keys.key now) (Event (sign_of was.keys.key) event)
+long_since was now event = with_keys was (held_since stage_long was.keys.key now) (Some (Event (sign_of was.keys.key) event))
 
 -- poll: short, and Time1 is due: l, long, tick now; long, and Time2 is due: r, tick now; else nothing
 unfoldable pub polled : SisterKeyed → Times → ℕ → SisterKeyed
@@ -130,17 +130,17 @@ polled was times now =
 
 -- HOOK, on a change alone: its press lifts it, s; its release puts it back on-hook, e. No seconds
 unfoldable pub lifted : SisterKeyed → SisterKeyed
-lifted was = cond was.hook (with_hook was false (Event (sign_of hook_number) start)) was
+lifted was = cond was.hook (with_hook was false (Some (Event (sign_of hook_number) start))) was
 
 unfoldable pub put_back : SisterKeyed → SisterKeyed
-put_back was = cond was.hook was (with_hook was true (Event (sign_of hook_number) end))
+put_back was = cond was.hook was (with_hook was true (Some (Event (sign_of hook_number) end)))
 
 -- PTT, on a change alone: s and e. No seconds
 unfoldable pub ptt_pressed : SisterKeyed → SisterKeyed
-ptt_pressed was = cond was.ptt was (with_ptt was true (Event (sign_of ptt_number) start))
+ptt_pressed was = cond was.ptt was (with_ptt was true (Some (Event (sign_of ptt_number) start)))
 
 unfoldable pub ptt_released : SisterKeyed → SisterKeyed
-ptt_released was = cond was.ptt (with_ptt was false (Event (sign_of ptt_number) end)) was
+ptt_released was = cond was.ptt (with_ptt was false (Some (Event (sign_of ptt_number) end))) was
 
 -- a press and a release, by the number
 unfoldable pub pressed : SisterKeyed → ℕ → ℕ → SisterKeyed

@@ -4,7 +4,7 @@
 
 ghost use Rattle.std.specs.Prelude.{◌≡◌};
 ghost use Rattle.sister_entry.specs.Keys.{bit_of, is_down, with_key, without_key};
-ghost use Rattle.sister_entry.specs.Rules.{is_release, sign_of, is_held, started, pressed_beside, key_pressed, left_down, key_released, due as dueOf, long_since, polled, lifted, put_back, ptt_pressed, ptt_released, pressed, released, entered, keyed};
+ghost use Rattle.sister_entry.specs.Rules.{is_release, sign_of, is_held, false_with, started, pressed_beside, key_pressed, left_down, key_released, due as dueOf, long_since, polled, lifted, put_back, ptt_pressed, ptt_released, pressed, released, entered, keyed};
 
 use key_entry::{POLL, RELEASES};
 use record::{
@@ -21,8 +21,6 @@ pub const PTT: u8 = 22;
 // The sign of each number, in the order of the numbers.
 const SIGNS: [u8; 23] = *b"LREAUD1234567890*#OMNHP";
 
-const NUMBERS: usize = 23;
-
 const HOOK_SIGN: u8 = b'H';
 
 const PTT_SIGN: u8 = b'P';
@@ -35,76 +33,67 @@ const AGAIN: u8 = b'r';
 
 const END: u8 = b'e';
 
-// What is sent: nothing, KFx, or a sign and an event.
+// What is sent: KFx, or a sign and an event.
 #[derive(Clone, Copy)]
 pub enum Message {
-    None,
     False,
     Event(u8, u8),
 }
 
-// What an entry leaves, and the message that it sends. hook is whether it is on-hook, ptt whether it is pressed.
+// What an entry leaves, and the message that it sends, if any. hook is whether it is on-hook, ptt whether it is pressed.
 #[derive(Clone, Copy)]
 pub struct SisterKeyed {
     pub keys: Keys,
     pub backlight: Backlight,
     pub hook: bool,
     pub ptt: bool,
-    pub message: Message,
+    pub message: Option<Message>,
 }
 
 fn is_release(edge: u8) -> bool
     ensures { result ≡ is_release edge }
 {
-    if edge < RELEASES {
-        return false;
-    }
-    edge - RELEASES <= PTT
+    edge >= RELEASES && edge - RELEASES <= PTT
 }
 
 // A record out of range can hold a key without a sign.
+#[tactic(auto, unfolding(crate::specs::Rules::sign_of))]
 fn sign_of(number: u8) -> u8
     ensures { result ≡ sign_of number }
 {
-    let place = number as usize;
-    if place < NUMBERS {
-        return SIGNS[place];
-    }
-    0
+    SIGNS.get(number as usize).copied().unwrap_or(0)
 }
 
+#[tactic(auto, unfolding(crate::specs::Keys::bit_of))]
 fn bit_of(key: u8) -> u32
     ensures { result ≡ bit_of key }
 {
-    if key <= LAST_KEY {
-        return 1 << key;
-    }
-    0
+    if key <= LAST_KEY { 1 << key } else { 0 }
 }
 
+#[tactic(auto, unfolding(crate::specs::Keys::is_down))]
 fn is_down(down: u32, key: u8) -> bool
     ensures { result ≡ is_down down key }
 {
-    if key <= LAST_KEY {
-        return (down >> key) % 2 == 1;
-    }
-    false
+    key <= LAST_KEY && (down >> key) % 2 == 1
 }
 
+#[tactic(auto, unfolding(crate::specs::Keys::with_key))]
 fn with_key(down: u32, key: u8) -> u32
     ensures { result ≡ with_key down key }
 {
     down | bit_of(key)
 }
 
+#[tactic(auto, using(crate::specs::Keys::bit_at_most), unfolding(crate::specs::Keys::without_key))]
 fn without_key(down: u32, key: u8) -> u32
     ensures { result ≡ without_key down key }
 {
-    let bit = bit_of(key);
     if is_down(down, key) {
-        return down - bit;
+        down - bit_of(key)
+    } else {
+        down
     }
-    down
 }
 
 fn is_held(keys: Keys) -> bool
@@ -113,254 +102,250 @@ fn is_held(keys: Keys) -> bool
     (keys.stage == STAGE_SHORT) | (keys.stage == STAGE_LONG)
 }
 
+#[tactic(auto, unfolding(crate::specs::Rules::started))]
 fn start(was: SisterKeyed, now: u16, key: u8) -> SisterKeyed
     ensures { result ≡ started was now key }
 {
-    let sign = sign_of(key);
-    let brighter = key_entry::light_up(was.backlight);
     SisterKeyed {
         keys: Keys {
             stage: STAGE_SHORT,
-            key: key,
+            key,
             tick: Tick(now),
             down: 0,
         },
-        backlight: brighter,
-        message: Message::Event(sign, START),
+        backlight: key_entry::light_up(was.backlight),
+        message: Some(Message::Event(sign_of(key), START)),
         ..was
     }
 }
 
+// More than one key is down, or was and one still is.
+fn false_with(down: u32) -> Keys
+    ensures { result ≡ false_with down }
+{
+    Keys {
+        stage: STAGE_FALSE,
+        down,
+        ..Keys::NONE
+    }
+}
+
 // A press while a key is held. The seconds are not started again.
+#[tactic(auto, unfolding(crate::specs::Rules::pressed_beside))]
 fn press_beside(was: SisterKeyed, key: u8) -> SisterKeyed
     ensures { result ≡ pressed_beside was key }
 {
     let held = was.keys.key;
     if held == key {
-        return was;
-    }
-    let both = with_key(with_key(0, held), key);
-    SisterKeyed {
-        keys: Keys {
-            stage: STAGE_FALSE,
-            down: both,
-            ..Keys::NONE
-        },
-        message: Message::False,
-        ..was
+        was
+    } else {
+        SisterKeyed {
+            keys: false_with(with_key(with_key(0, held), key)),
+            message: Some(Message::False),
+            ..was
+        }
     }
 }
 
+#[tactic(auto, unfolding(crate::specs::Rules::key_pressed))]
 fn press_key(was: SisterKeyed, now: u16, key: u8) -> SisterKeyed
     ensures { result ≡ key_pressed was now key }
 {
     if was.keys.stage == STAGE_NONE {
-        return start(was, now, key);
-    }
-    if is_held(was.keys) {
-        return press_beside(was, key);
-    }
-    if was.keys.stage == STAGE_FALSE {
-        let more = with_key(was.keys.down, key);
-        return SisterKeyed {
-            keys: Keys {
-                stage: STAGE_FALSE,
-                down: more,
-                ..Keys::NONE
-            },
-            message: Message::None,
+        start(was, now, key)
+    } else if is_held(was.keys) {
+        press_beside(was, key)
+    } else if was.keys.stage == STAGE_FALSE {
+        SisterKeyed {
+            keys: false_with(with_key(was.keys.down, key)),
+            message: None,
             ..was
-        };
+        }
+    } else {
+        was
     }
-    was
 }
 
 // False lasts until no key is down.
+#[tactic(auto, unfolding(crate::specs::Rules::left_down))]
 fn left_down(down: u32) -> Keys
     ensures { result ≡ left_down down }
 {
     if down == 0 {
-        return Keys::NONE;
-    }
-    Keys {
-        stage: STAGE_FALSE,
-        down: down,
-        ..Keys::NONE
+        Keys::NONE
+    } else {
+        false_with(down)
     }
 }
 
+#[tactic(auto, unfolding(crate::specs::Rules::key_released))]
 fn release_key(was: SisterKeyed, key: u8) -> SisterKeyed
     ensures { result ≡ key_released was key }
 {
-    let held = is_held(was.keys);
-    if held & (was.keys.key == key) {
-        let sign = sign_of(key);
-        return SisterKeyed {
+    if is_held(was.keys) & (was.keys.key == key) {
+        SisterKeyed {
             keys: Keys::NONE,
-            message: Message::Event(sign, END),
+            message: Some(Message::Event(sign_of(key), END)),
             ..was
-        };
-    }
-    if was.keys.stage == STAGE_FALSE {
-        let left = left_down(without_key(was.keys.down, key));
-        return SisterKeyed {
-            keys: left,
-            message: Message::None,
+        }
+    } else if was.keys.stage == STAGE_FALSE {
+        SisterKeyed {
+            keys: left_down(without_key(was.keys.down, key)),
+            message: None,
             ..was
-        };
+        }
+    } else {
+        was
     }
-    was
 }
 
 // A time of 0 is never due.
+#[tactic(auto, unfolding(crate::specs::Rules::due))]
 fn due(time: Tenths, now: u16, held: Tick) -> bool
     ensures { result ≡ dueOf time now held.0 }
 {
-    let over = key_entry::over(time, now, held);
-    (time.0 != 0) & over
+    (time.0 != 0) & key_entry::over(time, now, held)
 }
 
 // The held key is long from now on.
+#[tactic(auto, unfolding(crate::specs::Rules::long_since))]
 fn long_since(was: SisterKeyed, now: u16, event: u8) -> SisterKeyed
     ensures { result ≡ long_since was now event }
 {
     let key = was.keys.key;
-    let sign = sign_of(key);
     SisterKeyed {
         keys: Keys {
             stage: STAGE_LONG,
-            key: key,
+            key,
             tick: Tick(now),
             down: 0,
         },
-        message: Message::Event(sign, event),
+        message: Some(Message::Event(sign_of(key), event)),
         ..was
     }
 }
 
+#[tactic(auto, unfolding(crate::specs::Rules::polled))]
 fn poll(was: SisterKeyed, times: Times, now: u16) -> SisterKeyed
     ensures { result ≡ polled was times now }
 {
-    let first = due(times.time1, now, was.keys.tick);
-    if (was.keys.stage == STAGE_SHORT) & first {
-        return long_since(was, now, LONG);
+    if (was.keys.stage == STAGE_SHORT) & due(times.time1, now, was.keys.tick) {
+        long_since(was, now, LONG)
+    } else if (was.keys.stage == STAGE_LONG) & due(times.time2, now, was.keys.tick) {
+        long_since(was, now, AGAIN)
+    } else {
+        was
     }
-    let next = due(times.time2, now, was.keys.tick);
-    if (was.keys.stage == STAGE_LONG) & next {
-        return long_since(was, now, AGAIN);
-    }
-    was
 }
 
+#[tactic(auto, unfolding(crate::specs::Rules::lifted, crate::specs::Rules::sign_of))]
 fn lift(was: SisterKeyed) -> SisterKeyed
     ensures { result ≡ lifted was }
 {
     if was.hook {
-        return SisterKeyed {
+        SisterKeyed {
             hook: false,
-            message: Message::Event(HOOK_SIGN, START),
+            message: Some(Message::Event(HOOK_SIGN, START)),
             ..was
-        };
+        }
+    } else {
+        was
     }
-    was
 }
 
+#[tactic(auto, unfolding(crate::specs::Rules::put_back, crate::specs::Rules::sign_of))]
 fn put_back(was: SisterKeyed) -> SisterKeyed
     ensures { result ≡ put_back was }
 {
     if was.hook {
-        return was;
-    }
-    SisterKeyed {
-        hook: true,
-        message: Message::Event(HOOK_SIGN, END),
-        ..was
+        was
+    } else {
+        SisterKeyed {
+            hook: true,
+            message: Some(Message::Event(HOOK_SIGN, END)),
+            ..was
+        }
     }
 }
 
+#[tactic(auto, unfolding(crate::specs::Rules::ptt_pressed, crate::specs::Rules::sign_of))]
 fn press_ptt(was: SisterKeyed) -> SisterKeyed
     ensures { result ≡ ptt_pressed was }
 {
     if was.ptt {
-        return was;
-    }
-    SisterKeyed {
-        ptt: true,
-        message: Message::Event(PTT_SIGN, START),
-        ..was
+        was
+    } else {
+        SisterKeyed {
+            ptt: true,
+            message: Some(Message::Event(PTT_SIGN, START)),
+            ..was
+        }
     }
 }
 
+#[tactic(auto, unfolding(crate::specs::Rules::ptt_released, crate::specs::Rules::sign_of))]
 fn release_ptt(was: SisterKeyed) -> SisterKeyed
     ensures { result ≡ ptt_released was }
 {
     if was.ptt {
-        return SisterKeyed {
+        SisterKeyed {
             ptt: false,
-            message: Message::Event(PTT_SIGN, END),
+            message: Some(Message::Event(PTT_SIGN, END)),
             ..was
-        };
+        }
+    } else {
+        was
     }
-    was
 }
 
+#[tactic(auto, unfolding(crate::specs::Rules::pressed))]
 fn press(was: SisterKeyed, now: u16, number: u8) -> SisterKeyed
     ensures { result ≡ pressed was now number }
 {
     if number <= LAST_KEY {
-        return press_key(was, now, number);
+        press_key(was, now, number)
+    } else if number == HOOK {
+        lift(was)
+    } else {
+        press_ptt(was)
     }
-    if number == HOOK {
-        return lift(was);
-    }
-    press_ptt(was)
 }
 
+#[tactic(auto, unfolding(crate::specs::Rules::released))]
 fn release(was: SisterKeyed, number: u8) -> SisterKeyed
     ensures { result ≡ released was number }
 {
     if number <= LAST_KEY {
-        return release_key(was, number);
+        release_key(was, number)
+    } else if number == HOOK {
+        put_back(was)
+    } else {
+        release_ptt(was)
     }
-    if number == HOOK {
-        return put_back(was);
-    }
-    release_ptt(was)
 }
 
+#[tactic(auto, unfolding(crate::specs::Rules::entered))]
 fn enter(was: SisterKeyed, times: Times, now: u16, edge: u8) -> SisterKeyed
     ensures { result ≡ entered was times now edge }
 {
     if edge <= PTT {
-        return press(was, now, edge);
+        press(was, now, edge)
+    } else if is_release(edge) {
+        release(was, edge - RELEASES)
+    } else if edge == POLL {
+        poll(was, times, now)
+    } else {
+        was
     }
-    if is_release(edge) {
-        return release(was, edge - RELEASES);
-    }
-    if edge == POLL {
-        return poll(was, times, now);
-    }
-    was
 }
 
-// One entry, by its edge.
-pub fn take_entry(
-    keys: Keys,
-    times: Times,
-    light: Backlight,
-    hook: bool,
-    ptt: bool,
-    now: u16,
-    edge: u8,
-) -> SisterKeyed
-    ensures same { result ≡ keyed keys times light hook ptt now edge }
+// One entry, by its edge. What the entry before it sent is not part of what this one finds.
+pub fn take_entry(was: SisterKeyed, times: Times, now: u16, edge: u8) -> SisterKeyed
+    ensures same { result ≡ keyed was.keys times was.backlight was.hook was.ptt now edge }
 {
-    let was = SisterKeyed {
-        keys: keys,
-        backlight: light,
-        hook: hook,
-        ptt: ptt,
-        message: Message::None,
+    let silent = SisterKeyed {
+        message: None,
+        ..was
     };
-    enter(was, times, now, edge)
+    enter(silent, times, now, edge)
 }

@@ -1,8 +1,6 @@
 -- Worked cases: the first number of hers that is out of range, what she shares, and how her commands are written. Assumes nothing.
-use Rattle.std.specs.Prelude.{ℕ, Bool, true, false, List, [], ◌∷◌, map, ◌≡◌, refl}
+use Rattle.std.specs.Prelude.{ℕ, Bool, true, false, List, [], ◌∷◌, map, ◌≡◌, refl, Option, Some, None}
 use Rattle.lists.specs.Codes.{ascii}
-use Rattle.numeral.specs.declared.Numeral.{Numeral}
-use Rattle.numeral.specs.declared.Numeral.TheVariants.{None, Value}
 use Rattle.command.specs.Order.{plain}
 use Rattle.command.specs.InRange.{first_out}
 use Rattle.command.specs.Spell.{spell}
@@ -16,28 +14,28 @@ use Rattle.sister_command.specs.declared.Question.TheVariants as Ask
 use Rattle.sister_command.specs.declared.Step.TheVariants as Go
 use Rattle.sister_command.specs.declared.LightChange.TheVariants as To
 
-abbrev out_of : SisterCommand → Numeral
+abbrev out_of : SisterCommand → Option ℕ
 out_of c = first_out (own_numbers 0 c)
 
 -- each end of a range and the value past it; of two numbers the first that is out
-abbrev pub ranges : List (Numeral × Numeral)
+abbrev pub ranges : List (Option ℕ × Option ℕ)
 ranges =
     (out_of (Cursor 1), None)
-    ∷ (out_of (Cursor 2), Value 2)
+    ∷ (out_of (Cursor 2), Some 2)
     ∷ (out_of (Mode 12), None)
-    ∷ (out_of (Mode 13), Value 13)
+    ∷ (out_of (Mode 13), Some 13)
     ∷ (out_of (Light 250), None)
-    ∷ (out_of (Light 251), Value 251)
+    ∷ (out_of (Light 251), Some 251)
     ∷ (out_of (IconU 2), None)
-    ∷ (out_of (IconU 255), Value 255)
+    ∷ (out_of (IconU 255), Some 255)
     ∷ (out_of (Brightness 100), None)
-    ∷ (out_of (Brightness 101), Value 101)
+    ∷ (out_of (Brightness 101), Some 101)
     ∷ (out_of (Speaker 7), None)
-    ∷ (out_of (Speaker 8), Value 8)
+    ∷ (out_of (Speaker 8), Some 8)
     ∷ (out_of (KeyTimes 0 0), None)
-    ∷ (out_of (KeyTimes 0 5), Value 0)
-    ∷ (out_of (KeyTimes 12 3), Value 3)
-    ∷ (out_of (KeyTimes 51 99), Value 51)
+    ∷ (out_of (KeyTimes 0 5), Some 0)
+    ∷ (out_of (KeyTimes 12 3), Some 3)
+    ∷ (out_of (KeyTimes 51 99), Some 51)
     ∷ []
 
 abbrev written : AnyOrder → List ℕ
@@ -66,5 +64,5 @@ shares =
     ∷ (is_shared First.HookAsked, false)
     ∷ []
 
-pub cases : (map (λ (c : Numeral × Numeral). c.0) ranges ≡ map (λ (c : Numeral × Numeral). c.1) ranges) × (map (λ (c : List ℕ × List ℕ). c.0) bodies ≡ map (λ (c : List ℕ × List ℕ). c.1) bodies) × (map (λ (c : Bool × Bool). c.0) shares ≡ map (λ (c : Bool × Bool). c.1) shares)
+pub cases : (map (λ (c : Option ℕ × Option ℕ). c.0) ranges ≡ map (λ (c : Option ℕ × Option ℕ). c.1) ranges) × (map (λ (c : List ℕ × List ℕ). c.0) bodies ≡ map (λ (c : List ℕ × List ℕ). c.1) bodies) × (map (λ (c : Bool × Bool). c.0) shares ≡ map (λ (c : Bool × Bool). c.1) shares)
 cases = (refl, refl, refl)

@@ -17,7 +17,6 @@ ghost use Rattle.sister_form.specs.Pieces.{pieces};
 
 use command::Command;
 use line::{Line, add, add_number, empty};
-use numeral::Numeral;
 use sister_command::{LightChange, Question, SisterCommand, Step};
 
 // The greatest value of each number that begins at 0.
@@ -34,41 +33,39 @@ pub const MOST_BRIGHTNESS: u8 = 100;
 pub const LOUDEST: u8 = 7;
 
 // A number that begins at 0: it, if it is above the greatest.
-fn if_above(most: u16, n: u16) -> Numeral
+fn if_above(most: u16, n: u16) -> Option<u16>
     ensures same { result ≡ first_out ((n, leb n most) ∷ []) }
 {
-    if n <= most {
-        return Numeral::None;
-    }
-    Numeral::Value(n)
+    (most < n).then_some(n)
 }
 
 // As in the first edition, or 0 and 0: no key repeats, and none is ever long.
-fn times_out(time1: u16, time2: u16) -> Numeral
+fn times_out(time1: u16, time2: u16) -> Option<u16>
     ensures same { result ≡ first_out (own_numbers 0 (Hers.KeyTimes time1 time2)) }
 {
     if (time1 == 0) & (time2 == 0) {
-        return Numeral::None;
+        None
+    } else {
+        command_form::number_out(Command::KeyTimes(time1, time2), 0)
     }
-    command_form::number_out(Command::KeyTimes(time1, time2), 0)
 }
 
 // The first number of a command of her own that is out of range; none where all are in range.
-pub fn own_out(c: SisterCommand) -> Numeral
+pub fn own_out(c: SisterCommand) -> Option<u16>
     ensures same { result ≡ first_out (own_numbers 0 c) }
 {
     match c {
         SisterCommand::Cursor(n) => if_above(SHOWN, n),
-        SisterCommand::Restart => Numeral::None,
         SisterCommand::Mode(n) => if_above(LAST_MODE, n),
         SisterCommand::Light(n) => if_above(LONGEST_DURATION, n),
-        SisterCommand::LightTo(_) => Numeral::None,
         SisterCommand::IconU(n) => if_above(FLASHING as u16, n),
         SisterCommand::Brightness(n) => if_above(MOST_BRIGHTNESS as u16, n),
         SisterCommand::KeyTimes(time1, time2) => times_out(time1, time2),
         SisterCommand::Speaker(n) => if_above(LOUDEST as u16, n),
-        SisterCommand::Asked(_) => Numeral::None,
-        SisterCommand::Step(_) => Numeral::None,
+        SisterCommand::Restart
+        | SisterCommand::LightTo(_)
+        | SisterCommand::Asked(_)
+        | SisterCommand::Step(_) => None,
     }
 }
 
@@ -76,10 +73,7 @@ pub fn own_out(c: SisterCommand) -> Numeral
 pub fn own_in_range(c: SisterCommand) -> bool
     ensures same { result ≡ own_in_range c }
 {
-    match own_out(c) {
-        Numeral::None => true,
-        Numeral::Value(n) => false,
-    }
+    own_out(c).is_none()
 }
 
 // What stands between ESC and CR.
@@ -218,13 +212,7 @@ fn shared_form(c: Command) -> SharedForm
 pub fn is_shared(c: Command) -> bool
     ensures same { result ≡ is_shared c }
 {
-    match shared_form(c) {
-        SharedForm::Same => true,
-        SharedForm::TwoSigns(_, _) => true,
-        SharedForm::FourSigns(_, _, _, _) => true,
-        SharedForm::Place(_, _) => true,
-        SharedForm::Never => false,
-    }
+    !matches!(shared_form(c), SharedForm::Never)
 }
 
 // Of a command of the first edition, as she spells it; nothing if she has it not.

@@ -19,7 +19,7 @@ use effect::Obeyed;
 use frame_table::Classes;
 use lists::{BLANK, CARRIAGE_RETURN, ESCAPE};
 use record::{
-    Edition, FrameBytes, LONGEST_FRAME, NO_FRAME, Number, OPEN, OVERLONG, Picture, Record,
+    Edition, FrameBytes, InParts, LONGEST_FRAME, NO_FRAME, Number, OPEN, OVERLONG, Picture, Record,
     Settings, Small, Text,
 };
 use sister_answer::Told;
@@ -52,39 +52,22 @@ struct AfterBytes {
     written: usize,
 }
 
-fn wide(b: u8) -> usize
-    ensures { result ≡ b }
-{
-    b as usize
-}
-
-// The less of two numbers.
-fn least(a: usize, b: usize) -> usize
-    ensures { (result ≤ a) × (result ≤ b) × ((n : ℕ) → n < a → n < b → n < result) }
-{
-    if a < b {
-        return a;
-    }
-    b
-}
-
 // Stores text bytes from the cursor on, as long as they come and the row has room: how many. Most of a stream is text, so how far the loop may go is asked before it, and not for each byte.
+// It looks at a byte and stores it in one go: to search the run's end and then copy would go over the bytes twice.
 fn store_run(text: &mut Text, start: usize, column: u8, end: u8, bytes: &[u8], from: usize) -> usize
     requires { InRow start column end × (from ≤ length bytes.now) }
     ensures { (column + result < end → Ends bytes.now (from + result)) × (Stores start end column text.old bytes.now from (from + result) (column + result) text.new) }
 {
-    let at = start + wide(column);
-    let most = least(wide(end - column), bytes.len() - from);
-    let mut k = 0;
-    while k < most {
+    let at = start + column as usize;
+    let most = ((end - column) as usize).min(bytes.len() - from);
+    for k in 0..most {
         let b = bytes[from + k];
         if b < BLANK {
             return k;
         }
         text[at + k] = b;
-        k += 1;
     }
-    k
+    most
 }
 
 // Where the text bytes end that find no place, in a row that is full.
@@ -92,14 +75,12 @@ fn drop_run(bytes: &[u8], from: usize) -> usize
     requires { from ≤ length bytes.now }
     ensures { (Ends bytes.now result) × (Drops bytes.now from result) }
 {
-    let mut i = from;
-    while i < bytes.len() {
+    for i in from..bytes.len() {
         if bytes[i] < BLANK {
             return i;
         }
-        i += 1;
     }
-    i
+    bytes.len()
 }
 
 // Where a run of text bytes ends, and the column after it.
@@ -117,14 +98,8 @@ fn store_all(text: &mut Text, start: usize, column: u8, end: u8, bytes: &[u8], f
     let stored = store_run(text, start, column, end, bytes, from);
     let next = column + stored as u8;
     let at = from + stored;
-    if next < end {
-        return Run {
-            at: at,
-            column: next,
-        };
-    }
     Run {
-        at: drop_run(bytes, at),
+        at: if next < end { at } else { drop_run(bytes, at) },
         column: next,
     }
 }
@@ -145,11 +120,12 @@ fn close(
     ensures { (e : KeptEdition) → e.sister ≡ sister → SharedCloses settings text.old picture.old e state frame.now result text.new picture.new }
 {
     if state == OPEN {
-        return effect::obey(settings, text, picture, frame, sister, class, next);
-    }
-    Obeyed {
-        settings: settings,
-        answer: Answer::QuestionMark,
+        effect::obey(settings, text, picture, frame, sister, class, next)
+    } else {
+        Obeyed {
+            settings,
+            answer: Answer::QuestionMark,
+        }
     }
 }
 
@@ -158,10 +134,7 @@ fn close(
 fn closes_own(state: u8, sister: bool, frame: &[u8]) -> bool
     ensures { result ≡ closes_own state sister frame.now }
 {
-    if sister {
-        return (state == OPEN) & sister_command::is_own(frame);
-    }
-    false
+    sister && (state == OPEN) & sister_command::is_own(frame)
 }
 
 // The mark of a bad frame behind what is written, if all of it has room there: how much is written then.
@@ -170,9 +143,10 @@ fn mark(answers: &mut [u8], written: usize, sister: bool) -> usize
     ensures answers_after { answers.new ≡ buffer_after answers.old written (mark_of sister) }
 {
     if sister {
-        return sister_answer::tell(answers, written, Told::Mark);
+        sister_answer::tell(answers, written, Told::Mark)
+    } else {
+        answer::say(answers, written, Answer::QuestionMark, 0, false)
     }
-    answer::say(answers, written, Answer::QuestionMark, 0, false)
 }
 
 // What a frame is answered that is none of the sister's own: in her edition such a one is no question.
@@ -188,9 +162,10 @@ fn reply(
     ensures answers_after { answers.new ≡ buffer_after answers.old written (reply_of sister said contrast hook) }
 {
     if sister {
-        return mark(answers, written, true);
+        mark(answers, written, true)
+    } else {
+        answer::say(answers, written, said, contrast, hook)
     }
-    answer::say(answers, written, said, contrast, hook)
 }
 
 // Collects bytes of an open frame, as long as they come and it has room: how many. Most bytes that are not text are collected, so this loop is as short as that of text. The first byte is known to be one of them, so the reader gets on.
@@ -198,20 +173,18 @@ fn collect_run(frame: &mut [u8], len: usize, bytes: &[u8], from: usize) -> usize
     requires { (length frame.old ≡ limit) × (len < limit) × (from < length bytes.now) × (get_or bytes.now from 0 ≡ escape → ⊥) × (get_or bytes.now from 0 ≡ carriage_return → ⊥) }
     ensures { (0 < result) × (Collects len frame.old bytes.now from (from + result) (len + result) frame.new) }
 {
-    let most = least(LONGEST_FRAME - len, bytes.len() - from);
-    let mut k = 0;
-    while k < most {
+    let most = (LONGEST_FRAME - len).min(bytes.len() - from);
+    for k in 0..most {
         let b = bytes[from + k];
-        if (b == ESCAPE) || (b == CARRIAGE_RETURN) {
+        if b == ESCAPE || b == CARRIAGE_RETURN {
             return k;
         }
         frame[len + k] = b;
-        k += 1;
     }
-    k
+    most
 }
 
-// Reads bytes until they end or an answer has no room.
+// Reads bytes until they end or an answer has no room. The index goes on by whole runs, so that it is no `for` over the bytes.
 fn read(
     mut settings: Settings,
     text: &mut Text,
@@ -258,14 +231,7 @@ fn read(
                 i += 1;
                 continue;
             }
-            return AfterBytes {
-                settings: settings,
-                edition: edition,
-                state: state,
-                len: len,
-                used: i,
-                written: w,
-            };
+            break;
         }
         if b == CARRIAGE_RETURN {
             if closes_own(state, edition.sister, &frame[..len]) {
@@ -276,18 +242,15 @@ fn read(
                     picture,
                     &frame[..len],
                 );
-                let said = hers.told;
-                let obeyed = hers.settings;
-                let kept = hers.edition;
-                settings = obeyed;
-                edition = kept;
-                if sister_answer::is_silence(said) {
+                settings = hers.settings;
+                edition = hers.edition;
+                if sister_answer::is_silence(hers.told) {
                     state = NO_FRAME;
                     len = 0;
                     i += 1;
                     continue;
                 }
-                let told = sister_answer::tell(answers, w, said);
+                let told = sister_answer::tell(answers, w, hers.told);
                 if w < told {
                     w = told;
                     state = NO_FRAME;
@@ -295,14 +258,7 @@ fn read(
                     i += 1;
                     continue;
                 }
-                return AfterBytes {
-                    settings: settings,
-                    edition: edition,
-                    state: state,
-                    len: len,
-                    used: i,
-                    written: w,
-                };
+                break;
             }
             let o = close(
                 settings,
@@ -314,10 +270,8 @@ fn read(
                 class,
                 next,
             );
-            let said = o.answer;
-            let obeyed = o.settings;
-            settings = obeyed;
-            if answer::is_silence(said) {
+            settings = o.settings;
+            if answer::is_silence(o.answer) {
                 state = NO_FRAME;
                 len = 0;
                 i += 1;
@@ -327,7 +281,7 @@ fn read(
                 answers,
                 w,
                 edition.sister,
-                said,
+                o.answer,
                 settings.contrast,
                 settings.hook,
             );
@@ -338,14 +292,7 @@ fn read(
                 i += 1;
                 continue;
             }
-            return AfterBytes {
-                settings: settings,
-                edition: edition,
-                state: state,
-                len: len,
-                used: i,
-                written: w,
-            };
+            break;
         }
         if state == OVERLONG {
             i += 1;
@@ -362,10 +309,10 @@ fn read(
         i += 1;
     }
     AfterBytes {
-        settings: settings,
-        edition: edition,
-        state: state,
-        len: len,
+        settings,
+        edition,
+        state,
+        len,
         used: i,
         written: w,
     }
@@ -386,43 +333,45 @@ pub fn feed_lent(
     ensures frame { frame.new ≡ (fed_of (together small text.old picture.old frame.old) bytes.now (length answers.old)).record.frame.bytes }
     ensures buffer { answers.new ≡ answers_after (together small text.old picture.old frame.old) bytes.now answers.old }
 {
-    let settings = small.settings;
-    let held = small.held;
-    let edition = small.edition;
-    if record_ranges::in_range_lent(small, text, picture, frame) {
+    let parts = InParts {
+        small,
+        text,
+        picture,
+        frame,
+    };
+    if record_ranges::in_range_lent(parts) {
         let d = read(
-            settings,
+            small.settings,
             text,
             picture,
             frame,
-            edition,
+            small.edition,
             small.state,
-            wide(small.len),
+            small.len as usize,
             bytes,
             answers,
             &command::CLASSES,
             &command::NEXT_STATES,
         );
         stream_places::empty_from(frame, d.len);
-        let after = d.settings;
-        let edition_after = d.edition;
-        return FedLent {
+        FedLent {
             number: Number::Done,
             small: Small {
-                settings: after,
-                held: held,
+                settings: d.settings,
+                held: small.held,
                 state: d.state,
                 len: d.len as u8,
-                edition: edition_after,
+                edition: d.edition,
             },
             used: d.used,
             written: d.written,
-        };
-    }
-    FedLent {
-        number: Number::FieldOutOfRange,
-        small: small,
-        used: 0,
-        written: 0,
+        }
+    } else {
+        FedLent {
+            number: Number::FieldOutOfRange,
+            small,
+            used: 0,
+            written: 0,
+        }
     }
 }

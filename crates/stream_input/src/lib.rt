@@ -36,28 +36,16 @@ fn one_call(r: Record, bytes: &[u8]) -> Call
     let mut answers = [0u8; ROOM];
     let fed = stream_by_value::feed(r, bytes, &mut answers);
     let replies = answer::count(&answers[..fed.written]);
-    Call {
-        fed: fed,
-        replies: replies,
-    }
+    Call { fed, replies }
 }
 
 // The count stops at its type's end rather than run over.
 fn more(heard: Heard, after: Record, answered: usize) -> Heard
     ensures { result ≡ counted heard after answered }
 {
-    let n = answered as u64;
-    let replies = heard.replies;
-    if 0xFFFF_FFFF_FFFF_FFFF - replies < n {
-        return Heard {
-            record: after,
-            replies: 0xFFFF_FFFF_FFFF_FFFF,
-            failed: heard.failed,
-        };
-    }
     Heard {
         record: after,
-        replies: replies + n,
+        replies: heard.replies.saturating_add(answered as u64),
         failed: heard.failed,
     }
 }
@@ -72,13 +60,11 @@ fn hear_piece(heard: Heard, piece: &[u8]) -> Heard
     let mut at = 0;
     while at < piece.len() {
         let call = one_call(now.record, &piece[at..]);
-        let fed = call.fed;
-        if fed.used == 0 {
+        if call.fed.used == 0 {
             return now;
         }
-        let after = fed.record;
-        now = more(now, after, call.replies);
-        at += fed.used;
+        now = more(now, call.fed.record, call.replies);
+        at += call.fed.used;
     }
     now
 }
@@ -102,7 +88,7 @@ fn hear_once<R: Read>(input: &mut R, heard: Heard) -> Turn
             failed: false,
         },
         Err(_) => Turn {
-            heard: heard,
+            heard,
             ended: true,
             failed: true,
         },
@@ -119,16 +105,13 @@ pub fn hear<R: Read>(input: &mut R, r: Record) -> Heard
         replies: 0,
         failed: false,
     };
-    let mut turns: u64 = 0xFFFF_FFFF_FFFF_FFFF;
-    while 0 < turns {
+    for _ in 0..u64::MAX {
         let turn = hear_once(input, heard);
-        let after = turn.heard;
-        heard = after;
+        heard = turn.heard;
         if turn.ended {
             heard.failed = turn.failed;
-            return heard;
+            break;
         }
-        turns -= 1;
     }
     heard
 }

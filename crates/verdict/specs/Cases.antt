@@ -110,5 +110,5 @@ sister_table =
     ∷ []
 
 pub sister_cases : map (λ (c : Verdict × Verdict). c.0) sister_table ≡ map (λ (c : Verdict × Verdict). c.1) sister_table
-unfolding digit_of padded hex_of times_of items columns_of numbers_after reader.read_with classes next_states with_number display_of light_of contrast_of after_i cursor_sign after_bracket command_of is_text label_read read_with read_of opens_picture row_and_data drawn_row picture_of order_of hers.classes hers.next_states hers-picked.as_shared hers-picked.asked_or hers-picked.stepped_or hers-picked.mode_of hers-picked.light_of hers-picked.after_i hers-picked.after_and hers-picked.after_k hers-picked.command_of sister_read sister_order_of blanks drawn line_cleared carry_out carry_out_own verdict_in
+unfolding digit_of padded hex_of times_of items columns_of numbers_after reader.read_with classes next_states with_number display_of light_of contrast_of after_i cursor_sign after_bracket command_of is_text label_read read_with read_of opens_picture row_and_data drawn_row picture_of order_of hers.classes hers.next_states hers-picked.asked_or hers-picked.stepped_or hers-picked.mode_of hers-picked.light_of hers-picked.after_i hers-picked.after_and hers-picked.after_k hers-picked.command_of sister_read sister_order_of blanks drawn line_cleared carry_out carry_out_own verdict_in
 sister_cases = refl

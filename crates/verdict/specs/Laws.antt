@@ -1,10 +1,8 @@
 -- What a verdict says, by the grammar and the ranges alone; it says this of every frame in every text mode, and no other verdict would.
 -- In either edition the same, by the record's state too, and that what it says comes true. Assumes nothing.
-use Rattle.std.specs.Prelude.{ℕ, Bool, true, false, cond, List, [], ◌≡◌, refl}
+use Rattle.std.specs.Prelude.{ℕ, Bool, true, false, cond, List, [], ◌≡◌, refl, Option as Maybe, Some, None}
 use Rattle.std.proofs.Common.{true≢false, sym, ap, ◌∙◌}
 use Rattle.std.proofs.Math.Option.{Option, none, some}
-use Rattle.numeral.specs.declared.Numeral.{Numeral}
-use Rattle.numeral.specs.declared.Numeral.TheVariants.{None, Value}
 use Rattle.command.specs.Order.{Order}
 use Rattle.command.specs.Grammar.{Spells}
 use Rattle.command.specs.InRange.{Judged, rows_named, all_in, first_out, order_numbers, in_range_in_mode}
@@ -37,7 +35,7 @@ numbers_in mode order = order_numbers (rows_named mode) order
 -- bad: no order is spelt; else one is, and its numbers decide; the first edition's record refuses none
 abbrev pub Tells : ℕ → List ℕ → Verdict → Type 0
 Tells mode frame Bad = (o : Order) → Spells o frame → ⊥
-Tells mode frame (PassedOver n) = (o : Order) × Spells o frame × (in_range_in_mode mode o ≡ false) × (first_out (numbers_in mode o) ≡ Value n)
+Tells mode frame (PassedOver n) = (o : Order) × Spells o frame × (in_range_in_mode mode o ≡ false) × (first_out (numbers_in mode o) ≡ Some n)
 Tells mode frame Obeyed = (o : Order) × Spells o frame × (in_range_in_mode mode o ≡ true)
 Tells mode frame Refused = ⊥
 
@@ -54,18 +52,18 @@ of_none mode {frame} bad = ap (by_order mode) ((bad_frame frame).1 bad)
 none_told : (ns : List Judged) → all_in ns ≡ true → first_out ns ≡ None
 none_told ns h = cases (first_out ns) refl
   where
-    cases : (out : Numeral) → first_out ns ≡ out → first_out ns ≡ None
+    cases : (out : Maybe ℕ) → first_out ns ≡ out → first_out ns ≡ None
     cases None e = e
-    cases (Value n) e = absurd (true≢false (sym h ∙ one_out ns e))
+    cases (Some n) e = absurd (true≢false (sym h ∙ one_out ns e))
 
 -- THE VERDICT TELLS
 pub tells : (mode : ℕ) (frame : List ℕ) → Tells mode frame (verdict_of mode frame)
 unfolding verdict_of
 tells mode frame = cases (order_of frame) refl
   where
-    judged : (o : Order) → Spells o frame → (out : Numeral) → first_out (numbers_in mode o) ≡ out → Tells mode frame (by_number out)
+    judged : (o : Order) → Spells o frame → (out : Maybe ℕ) → first_out (numbers_in mode o) ≡ out → Tells mode frame (by_number out)
     judged o s None e = (o, s, none_out (numbers_in mode o) e)
-    judged o s (Value n) e = (o, s, one_out (numbers_in mode o) e, e)
+    judged o s (Some n) e = (o, s, one_out (numbers_in mode o) e, e)
 
     cases : (found : Option Order) → order_of frame ≡ found → Tells mode frame (by_order mode found)
     cases none e = (bad_frame frame).0 e
@@ -83,7 +81,7 @@ only mode frame Refused told = absurd told
 -- bad: no order is spelt; refused: one is, and the record's state refuses it; else its numbers decide
 abbrev pub TellsIn : Core → List ℕ → Verdict → Type 0
 TellsIn c frame Bad = (o : AnyOrder) → SpellsIn c.edition.sister o frame → ⊥
-TellsIn c frame (PassedOver n) = (o : AnyOrder) × SpellsIn c.edition.sister o frame × (any_in_range c.settings.screen.mode o ≡ false) × (first_out (any_numbers c.settings.screen.mode o) ≡ Value n)
+TellsIn c frame (PassedOver n) = (o : AnyOrder) × SpellsIn c.edition.sister o frame × (any_in_range c.settings.screen.mode o ≡ false) × (first_out (any_numbers c.settings.screen.mode o) ≡ Some n)
 TellsIn c frame Obeyed = (o : AnyOrder) × SpellsIn c.edition.sister o frame × (any_in_range c.settings.screen.mode o ≡ true) × (refused_in c o ≡ false)
 TellsIn c frame Refused = (o : AnyOrder) × SpellsIn c.edition.sister o frame × (refused_in c o ≡ true)
 
@@ -106,10 +104,10 @@ pub tells_in : (c : Core) (frame : List ℕ) → TellsIn c frame (verdict_in c f
 unfolding verdict_in
 tells_in c frame = cases (order_in c.edition.sister frame) refl
   where
-    judged : (o : AnyOrder) → SpellsIn c.edition.sister o frame → (refused : Bool) → refused_in c o ≡ refused → (out : Numeral) → first_out (any_numbers c.settings.screen.mode o) ≡ out → TellsIn c frame (cond refused Refused (by_number out))
+    judged : (o : AnyOrder) → SpellsIn c.edition.sister o frame → (refused : Bool) → refused_in c o ≡ refused → (out : Maybe ℕ) → first_out (any_numbers c.settings.screen.mode o) ≡ out → TellsIn c frame (cond refused Refused (by_number out))
     judged o s true k out e = (o, s, k)
     judged o s false k None e = (o, s, all_any c.settings.screen.mode o ∙ none_out (any_numbers c.settings.screen.mode o) e, k)
-    judged o s false k (Value n) e = (o, s, all_any c.settings.screen.mode o ∙ one_out (any_numbers c.settings.screen.mode o) e, e)
+    judged o s false k (Some n) e = (o, s, all_any c.settings.screen.mode o ∙ one_out (any_numbers c.settings.screen.mode o) e, e)
 
     cases : (found : Option AnyOrder) → order_in c.edition.sister frame ≡ found → TellsIn c frame (by_any c found)
     cases none e = (bad_frame_in c.edition.sister frame).0 e

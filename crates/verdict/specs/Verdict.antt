@@ -1,9 +1,7 @@
 -- The verdict of a frame in a text mode of the first edition: bad; good and passed over, with the first number that is out of range;
 -- obeyed. In either edition the record's state may refuse one that is good by its spelling. Assumes nothing.
-use Rattle.std.specs.Prelude.{ℕ, Bool, false, cond, List}
+use Rattle.std.specs.Prelude.{ℕ, Bool, false, cond, List, Option as Maybe, Some, None}
 use Rattle.std.proofs.Math.Option.{Option, none, some}
-use Rattle.numeral.specs.declared.Numeral.{Numeral}
-use Rattle.numeral.specs.declared.Numeral.TheVariants.{None, Value}
 use Rattle.command.specs.Order.{Order}
 use Rattle.command.specs.InRange.{Judged, rows_named, first_out, order_numbers}
 use Rattle.command.specs.Reading.{order_of}
@@ -15,9 +13,9 @@ use Rattle.sister_effect.specs.Effect.{refused_now}
 use Rattle.verdict.specs.declared.Verdict.{Verdict}
 use Rattle.verdict.specs.declared.Verdict.TheVariants.{Bad, PassedOver, Obeyed, Refused}
 
-abbrev pub by_number : Numeral → Verdict
+abbrev pub by_number : Maybe ℕ → Verdict
 by_number None = Obeyed
-by_number (Value n) = PassedOver n
+by_number (Some n) = PassedOver n
 
 abbrev pub by_order : ℕ → Option Order → Verdict
 by_order mode none = Bad

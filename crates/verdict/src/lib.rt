@@ -12,7 +12,6 @@ ghost use Rattle.sister_command.specs.Reading.{sister_order_of};
 ghost use Rattle.verdict.specs.Verdict.{by_number, by_order, verdict_of, by_any, verdict_in};
 
 use command::{PictureFrame, Reading};
-use numeral::Numeral;
 use record::{Edition, LAST_ROW, Settings};
 use sister_command::{SisterCommand, SisterReading};
 
@@ -26,26 +25,24 @@ pub enum Verdict {
     Refused,
 }
 
-fn by_number(out: Numeral) -> Verdict
+fn by_number(out: Option<u16>) -> Verdict
     ensures same { result ≡ by_number out }
 {
     match out {
-        Numeral::None => Verdict::Obeyed,
-        Numeral::Value(n) => Verdict::PassedOver(n),
+        Some(n) => Verdict::PassedOver(n),
+        None => Verdict::Obeyed,
     }
 }
 
 // A picture row is judged in any text mode alike.
-fn of_picture(drawn: PictureFrame) -> Verdict
+fn of_picture(drawn: Option<PictureFrame>) -> Verdict
     ensures same { (mode : ℕ) → result ≡ by_order mode (order_drawn drawn) }
 {
-    if drawn.columns.len == 0 {
-        return Verdict::Bad;
+    match drawn {
+        Some(picture) if LAST_ROW < picture.row => Verdict::PassedOver(picture.row as u16),
+        Some(_) => Verdict::Obeyed,
+        None => Verdict::Bad,
     }
-    if LAST_ROW < drawn.row {
-        return Verdict::PassedOver(drawn.row as u16);
-    }
-    Verdict::Obeyed
 }
 
 // The frame is all that stands between ESC and CR. More than 250 bytes spell nothing, so they are bad.
@@ -53,17 +50,15 @@ pub fn judge(mode: u8, frame: &[u8]) -> Verdict
     ensures same { result ≡ verdict_of mode frame.now }
 {
     if picture_frame::opens_picture(frame) {
-        let drawn = picture_frame::read_picture(frame);
-        return of_picture(drawn);
+        return of_picture(picture_frame::read_picture(frame));
     }
-    let reading = command::read_command(frame);
-    match reading {
-        Reading::Bad => Verdict::Bad,
-        Reading::Plain(c) => {
+    match command::read_command(frame) {
+        None => Verdict::Bad,
+        Some(Reading::Plain(c)) => {
             let rows = command_form::rows_named(mode);
             by_number(command_form::number_out(c, rows))
         }
-        Reading::Label(side) => Verdict::Obeyed,
+        Some(Reading::Label(_)) => Verdict::Obeyed,
     }
 }
 
@@ -72,9 +67,10 @@ fn of_own(settings: Settings, edition: Edition, c: SisterCommand) -> Verdict
     ensures same { (text picture : List ℕ) → result ≡ by_any (core settings text picture edition) (some (own c)) }
 {
     if sister_effect::refused(c, settings, edition) {
-        return Verdict::Refused;
+        Verdict::Refused
+    } else {
+        by_number(sister_form::own_out(c))
     }
-    by_number(sister_form::own_out(c))
 }
 
 // A frame of the sister: one that opens as a picture or a label is the first edition's.
@@ -86,12 +82,12 @@ fn judge_sister(settings: Settings, edition: Edition, frame: &[u8]) -> Verdict
         return judge(mode, frame);
     }
     match sister_command::read_sister(frame) {
-        SisterReading::Bad => Verdict::Bad,
-        SisterReading::Shared(c) => {
+        None => Verdict::Bad,
+        Some(SisterReading::Shared(c)) => {
             let rows = command_form::rows_named(mode);
             by_number(command_form::number_out(c, rows))
         }
-        SisterReading::Own(c) => of_own(settings, edition, c),
+        Some(SisterReading::Own(c)) => of_own(settings, edition, c),
     }
 }
 
@@ -100,7 +96,8 @@ pub fn judge_in(settings: Settings, edition: Edition, frame: &[u8]) -> Verdict
     ensures same { (text picture : List ℕ) → result ≡ verdict_in (core settings text picture edition) frame.now }
 {
     if edition.sister {
-        return judge_sister(settings, edition, frame);
+        judge_sister(settings, edition, frame)
+    } else {
+        judge(settings.screen.mode, frame)
     }
-    judge(settings.screen.mode, frame)
 }

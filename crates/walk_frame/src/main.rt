@@ -7,7 +7,7 @@
 // is printed, as it stands in docs/RULES.md.
 #![tactic(auto)]
 
-use command::{CLASSES, ENTRIES, FIRST_GOOD, NEXT_STATES, STATES};
+use command::{CLASSES, FIRST_GOOD, NEXT_STATES, STATES};
 use program::Host;
 
 const LAST_CLASS: u8 = 16;
@@ -26,13 +26,8 @@ fn say(host: &Host, words: &[u8]) {
     program::write(host, b"walk_frame", words);
 }
 
-// A code that can't be printed is a dot.
 fn say_code(host: &Host, code: u8) {
-    let shown = [match code {
-        0x20..=0x7E => code,
-        _ => b'.',
-    }];
-    say(host, &shown);
+    say(host, &[program::printable(code)]);
 }
 
 fn say_letter(host: &Host, n: u8) {
@@ -106,10 +101,9 @@ fn say_class(host: &Host, class: u8) {
 
 fn next_of(class: u8, state: u8) -> u8 {
     let i = class as usize * STATES as usize + state as usize;
-    if i < ENTRIES {
-        return NEXT_STATES[i] % LETTERS;
-    }
-    REFUSED
+    NEXT_STATES
+        .get(i)
+        .map_or(REFUSED, |letter| letter % LETTERS)
 }
 
 fn say_row(host: &Host, class: u8) {
@@ -151,14 +145,6 @@ fn say_table(host: &Host) {
 
 // The walk.
 
-// The first n bytes of a frame.
-fn first<'a>(frame: &'a [u8], n: usize) -> &'a [u8] {
-    if frame.len() < n {
-        return frame;
-    }
-    &frame[..n]
-}
-
 fn state_behind(frame: &[u8]) -> u8 {
     let found = frame_table::run(&CLASSES, &NEXT_STATES, STATES, frame);
     (found.state % LETTERS as usize) as u8
@@ -191,12 +177,12 @@ fn say_choices(host: &Host, frame: &[u8], state: u8) {
 fn walk(host: &Host, frame: &[u8]) {
     say(host, b"      ");
     say_state(host, START);
-    for i in 0..frame.len() {
-        let state = state_behind(first(frame, i + 1));
-        say_step(host, frame[i], state);
+    for (i, code) in frame.iter().enumerate() {
+        let state = state_behind(&frame[..=i]);
+        say_step(host, *code, state);
         if state == REFUSED {
             say(host, b"bad: ");
-            say_choices(host, first(frame, i), state_behind(first(frame, i)));
+            say_choices(host, &frame[..i], state_behind(&frame[..i]));
             return;
         }
     }
@@ -211,13 +197,7 @@ fn walk(host: &Host, frame: &[u8]) {
 
 // Labels and pictures are known by how they open; the table has no state for them.
 fn is_other(frame: &[u8]) -> bool {
-    if picture_frame::opens_picture(frame) {
-        return true;
-    }
-    if frame.len() < 3 {
-        return false;
-    }
-    (frame[0] == b'I') & (frame[1] == b'K') & ((frame[2] == b'1') | (frame[2] == b'2'))
+    picture_frame::opens_picture(frame) || matches!(frame, [b'I', b'K', b'1' | b'2', ..])
 }
 
 fn tell(host: &Host, frame: &[u8]) {
@@ -226,9 +206,9 @@ fn tell(host: &Host, frame: &[u8]) {
             host,
             b"no frame of the table: IK1 and IK2 open a label, Gr opens a picture\n",
         );
-        return;
+    } else {
+        walk(host, frame);
     }
-    walk(host, frame);
 }
 
 fn accepted(host: &Host) -> bool {
@@ -245,13 +225,16 @@ fn accepted(host: &Host) -> bool {
 
 fn main(rt: HostRuntime) {
     let host = Host::new(rt);
-    if accepted(&host) {
-        if program::is_given(&host, b"--table\n") {
-            say_table(&host);
-            return;
-        }
-        let mut frame = [0u8; 4096];
-        let n = program::read_word(&host, &mut frame);
-        tell(&host, &frame[..n]);
+    if !accepted(&host) {
+        return;
+    }
+    if program::is_given(&host, b"--table\n") {
+        say_table(&host);
+        return;
+    }
+    let mut frame = [0u8; 4096];
+    match program::read_word(&host, &mut frame) {
+        Some(n) => tell(&host, &frame[..n]),
+        None => tell(&host, b""),
     }
 }

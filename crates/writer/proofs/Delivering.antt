@@ -3,22 +3,23 @@ use Prim.Native.Nat.{ℕ, ◌+◌, ◌≤◌}
 use native.Mathlib.Omega.{arith}
 use mathlib.Core.Bool.{Bool, true, false}
 use mathlib.Core.List.{List, [], ◌∷◌, ◌++◌}
+use Rattle.std.specs.Prelude.{Result, Ok, Err}
 use mathlib.Core.Path.{◌≡◌, refl, ◌∙◌, ap, sym}
 use lib.Dec.{leb}
 use lib.ListN.{length}
 use Rattle.lists.specs.Codes.{escape, carriage_return, line_feed}
-use Rattle.record.specs.Number.{numbered}
+use Rattle.record.specs.declared.Refusal.{Refusal}
+use Rattle.record.specs.declared.Refusal.TheVariants.{CommandOutOfRange, NoRoom}
 use Rattle.line.specs.declared.Line.{Line}
 use Rattle.line.specs.Lines.{held, empty_line, added, finds_room, room_with}
 use Rattle.line.specs.Laws.{Added, adding, then, held_added, held_from_empty, length_from_empty, length_held, finds_room_lem, room_with_lem}
-use Rattle.writer.specs.declared.Written.{Written}
-use Rattle.writer.specs.Writing.{frame_of, reply, written_of, room_after}
+use Rattle.writer.specs.Writing.{frame_of, written_of, room_after}
 
 -- what is handed back and a room that are the right ones
-abbrev pub Right : Bool → List ℕ → List ℕ → Written → List ℕ → Type 0
+abbrev pub Right : Bool → List ℕ → List ℕ → Result ℕ Refusal → List ℕ → Type 0
 Right ok frame room written after = (written ≡ written_of ok frame room) × (after ≡ room_after ok frame room)
 
-pub refused : (frame room : List ℕ) (ok : Bool) → ok ≡ false → Right ok frame room (reply (numbered 2) 0) room
+pub refused : (frame room : List ℕ) (ok : Bool) → ok ≡ false → Right ok frame room (Err CommandOutOfRange) room
 unfolding written_of room_after
 refused frame room ok e = (rw e, rw e)
 
@@ -39,11 +40,11 @@ module _ (line : Line) (room : List ℕ) (places : length line.bytes ≡ 200) (f
   unfolding room_after
   stands = left ∙ room_with_lem line room places few
 
-  pub no_room : found ≡ false → Right true (held line) room (reply (numbered 3) 0) after
+  pub no_room : found ≡ false → Right true (held line) room (Err NoRoom) after
   unfolding written_of
   no_room e = (rw (sym fits ∙ e), stands)
 
-  pub wrote : found ≡ true → Right true (held line) room (reply (numbered 0) line.len) after
+  pub wrote : found ≡ true → Right true (held line) room (Ok line.len) after
   unfolding written_of
   wrote e = (rw (sym fits ∙ e, length_held line room places few), stands)
 
@@ -62,12 +63,12 @@ body_held codes line h e =
     (ap held e ∙ held_from_empty codes (omega arith), omega arith)
 
 -- a frame in range that was delivered
-pub delivered : (ok : Bool) (line body room : List ℕ) {written : Written} {after : List ℕ} → ok ≡ true → line ≡ frame_of body
+pub delivered : (ok : Bool) (line body room : List ℕ) {written : Result ℕ Refusal} {after : List ℕ} → ok ≡ true → line ≡ frame_of body
     → Right true line room written after → Right ok (frame_of body) room written after
 delivered ok line body room p e r = rw (p, ← e) r
 
 -- the frame of a body, if it is in range
-pub body_delivered : (ok : Bool) (codes room : List ℕ) {good : Bool} {line : Line} {written : Written} {after : List ℕ} → good ≡ ok → line ≡ added empty_line codes → (ok ≡ true → length codes ≤ 197)
+pub body_delivered : (ok : Bool) (codes room : List ℕ) {good : Bool} {line : Line} {written : Result ℕ Refusal} {after : List ℕ} → good ≡ ok → line ≡ added empty_line codes → (ok ≡ true → length codes ≤ 197)
     → Right good (frame_of (held line)) room written after → Right ok (frame_of codes) room written after
 unfolding written_of room_after
 body_delivered true codes room {line = line} e l few r = rw (e, (body_held codes line (few refl) l).0) at r

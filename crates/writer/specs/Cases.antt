@@ -1,7 +1,7 @@
 -- Worked cases of the writers, computed from the definitions. One table, one statement. Assumes nothing.
 use Rattle.std.specs.Prelude.{ℕ, Bool, List, [], ◌∷◌, ◌++◌, map, ◌≡◌, refl, length, replicate}
 use Rattle.lists.specs.Codes.{ascii, escape, carriage_return, line_feed}
-use Rattle.record.specs.Number.{paper_number}
+use Rattle.record.specs.Number.{paper_number, ended}
 use Rattle.picture.specs.Writing.{hex_code, item_text}
 use Rattle.command.specs.Order.{plain, label, draw}
 use Rattle.command.specs.InRange.{command_in_range, most_rows}
@@ -19,11 +19,11 @@ use Rattle.sister_command.specs.declared.Question.TheVariants as Ask
 use Rattle.sister_command.specs.declared.Step.TheVariants as Go
 use Rattle.sister_command.specs.declared.LightChange.TheVariants as To
 use Rattle.writer_ranges.specs.Fitting.{is_label, is_row}
-use Rattle.writer.specs.Writing.{frame_of, shared_in_range, written_of, room_after}
+use Rattle.writer.specs.Writing.{frame_of, shared_in_range, written_of, count_of, room_after}
 
 -- the number handed back, the count, and then all that stands in the room
 abbrev seen : Bool → List ℕ → List ℕ → List ℕ
-seen ok frame room = paper_number (written_of ok frame room).number ∷ (written_of ok frame room).count ∷ room_after ok frame room
+seen ok frame room = paper_number (ended (written_of ok frame room)) ∷ count_of (written_of ok frame room) ∷ room_after ok frame room
 
 -- a room of so many marks
 abbrev mark : ℕ

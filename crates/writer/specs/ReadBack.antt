@@ -1,11 +1,12 @@
 -- READING BACK: what is written for a command, a label or a picture row in range spells exactly that in its edition, and its bytes part into
 -- that one closed frame and one skipped LF. Assumes nothing.
-use Rattle.std.specs.Prelude.{ℕ, ◌≤◌, Bool, true, false, cond, List, [], ◌∷◌, ◌≡◌, refl, length, take, drop}
+use Rattle.std.specs.Prelude.{ℕ, ◌≤◌, Bool, true, false, cond, List, [], ◌∷◌, ◌≡◌, refl, length, take, drop, Result}
 use Rattle.std.proofs.Common.{arith, true≢false, append_assoc, sym, ◌∙◌, ap, subst}
 use Rattle.lists.specs.Codes.{carriage_return, line_feed}
 use Rattle.lists.specs.Both.{both}
 use Rattle.lists.specs.Every.{every}
-use Rattle.record.specs.Number.{numbered}
+use Rattle.record.specs.Number.{numbered, ended}
+use Rattle.record.specs.declared.Refusal.{Refusal}
 use Rattle.record.specs.Range.{is_frame_byte}
 use Rattle.picture.specs.Data.{Bytes}
 use Rattle.picture.specs.WriteLaws.{draws_encoded}
@@ -28,7 +29,7 @@ use Rattle.sister_command.specs.Order.{AnyOrder, first, own}
 use Rattle.sister_command.specs.Grammar.{sister_form, is_shared, SpellsIn}
 use Rattle.sister_command.specs.InRange.{own_numbers, own_in_range}
 use Rattle.sister_command.proofs.Agree.{one_frame_in, said_no_data, within_in}
-use Rattle.sister_command.specs.Sister as said
+use Rattle.sister_command.specs.declared.SisterReading.TheVariants as said
 use Rattle.sister_command.specs.declared.SisterCommand.{SisterCommand}
 use Rattle.sister_command.specs.declared.SisterCommand.TheVariants.{Cursor, Restart, Mode, Light, LightTo, IconU, Brightness, KeyTimes, Speaker, Asked, Step}
 use Rattle.sister_command.specs.declared.Question.{Question}
@@ -38,8 +39,7 @@ use Rattle.sister_command.specs.declared.Step.TheVariants.{ContrastUp, ContrastD
 use Rattle.sister_command.specs.declared.LightChange.{LightChange}
 use Rattle.sister_command.specs.declared.LightChange.TheVariants as To
 use Rattle.writer_ranges.specs.Fitting.{is_label, is_row}
-use Rattle.writer.specs.declared.Written.{Written}
-use Rattle.writer.specs.Writing.{frame_of, shared_in_range, written_of, room_after}
+use Rattle.writer.specs.Writing.{frame_of, shared_in_range, written_of, count_of, room_after}
 use Rattle.writer.specs.Laws.{label_told, row_told, done_told}
 
 -- a body reads back as an order of an edition: it spells it, its frame's bytes are that closed frame and an LF that is skipped, and it is
@@ -139,10 +139,10 @@ shared_reads_back c h =
 
 -- It is her only spelling of that command.
 pub own_spelling : (c : SisterCommand) (frame : List ℕ) → own_in_range c ≡ true → SpellsIn true (own c) frame → frame ≡ spell (sister_form (own c))
-own_spelling c frame h s = one_frame_in true (own c) frame (spell (sister_form (own c))) (said_no_data (said.own c) s) s (own_reads_back c h).spells
+own_spelling c frame h s = one_frame_in true (own c) frame (spell (sister_form (own c))) (said_no_data (said.Own c) s) s (own_reads_back c h).spells
 
 pub shared_spelling : (c : Command) (frame : List ℕ) → shared_in_range c ≡ true → SpellsIn true (first (plain c)) frame → frame ≡ spell (sister_form (first (plain c)))
-shared_spelling c frame h s = one_frame_in true (first (plain c)) frame (spell (sister_form (first (plain c)))) (said_no_data (said.shared c) s) s (shared_reads_back c h).spells
+shared_spelling c frame h s = one_frame_in true (first (plain c)) frame (spell (sister_form (first (plain c)))) (said_no_data (said.Shared c) s) s (shared_reads_back c h).spells
 
 -- A label in range: with those very codes, in either edition.
 pub label_reads_back : (sister : Bool) (side : Side) (t : List ℕ) → is_label t ≡ true → ReadsBack sister (first (label side t)) (spelling (label side t))
@@ -156,16 +156,16 @@ row_reads_back sister row cs h b =
 
 -- WHAT IS WRITTEN READS BACK, said of what a writer hands back and of the room that it was lent: the bytes that it counts part into
 -- one closed frame and one skipped LF, the frame spells the order in that edition, and the places behind them are as they were.
-pub record WritesBack (sister : Bool) (order : AnyOrder) (back : Written) (room after : List ℕ) : Type 0 where
+pub record WritesBack (sister : Bool) (order : AnyOrder) (back : Result ℕ Refusal) (room after : List ℕ) : Type 0 where
   pub frame : List ℕ
   pub spells : SpellsIn sister order frame
-  pub parts : Parting (take back.count after) (then (closed frame) (then (skipped line_feed) done))
-  pub others : drop back.count after ≡ drop back.count room
+  pub parts : Parting (take (count_of back) after) (then (closed frame) (then (skipped line_feed) done))
+  pub others : drop (count_of back) after ≡ drop (count_of back) room
 
 -- whatever is written for an order whose body reads back as it
 abbrev pub AfterZero : Bool → AnyOrder → Bool → List ℕ → List ℕ → Type 0
 AfterZero sister order ok body room =
-    (written_of ok (frame_of body) room).number ≡ numbered 0 → WritesBack sister order (written_of ok (frame_of body) room) room (room_after ok (frame_of body) room)
+    ended (written_of ok (frame_of body) room) ≡ numbered 0 → WritesBack sister order (written_of ok (frame_of body) room) room (room_after ok (frame_of body) room)
 
 after_zero : (sister : Bool) (order : AnyOrder) (ok : Bool) (body room : List ℕ) → (ok ≡ true → ReadsBack sister order body) → AfterZero sister order ok body room
 after_zero sister order ok body room reads h =

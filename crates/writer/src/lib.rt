@@ -1,7 +1,7 @@
 // The writers, for those who build collectors: a command of either edition, a label or a picture row becomes the bytes of its frame.
 // Labels and picture rows are the same in both.
-// A frame is built once, in a line of its own, and copied once into the lent room. One that is out of range or finds no room
-// leaves the room as it was.
+// A frame is built once, in a line of its own, and copied once into the lent room; a writer hands back how many bytes it wrote. A frame
+// that is out of range or finds no room leaves the room as it was.
 #![tactic(auto)]
 
 ghost use Rattle.std.specs.Prelude.{◌≡◌, true, [], ◌∷◌, ◌++◌, ◌+◌, ◌≤◌, length};
@@ -23,20 +23,13 @@ use command_form::{body, in_range};
 use line::{Line, add, copy, empty};
 use lists::{CARRIAGE_RETURN, ESCAPE, LINE_FEED};
 use picture_writer::write_data;
-use record::Number;
+use record::Refusal;
 use sister_command::SisterCommand;
 use sister_form::{is_shared, own_body, own_in_range, shared_body};
 use writer_ranges::{label_in_range, row_in_range};
 
 // A writer knows no text mode: it takes the cursor rows and marks of the mode that has most.
 const MOST_ROWS: u8 = 5;
-
-// How a writer ended, and how many bytes of the room it wrote.
-#[derive(Clone, Copy)]
-pub struct Written {
-    pub number: Number,
-    pub count: usize,
-}
 
 // A line that holds ESC.
 fn opened() -> Line
@@ -79,44 +72,34 @@ fn add_row(line: Line, row: u8, columns: &[u8]) -> Line
 }
 
 // A line with its CR LF into the room, where there is room for all of it.
-fn deliver(line: Line, room: &mut [u8]) -> Written
+fn deliver(line: Line, room: &mut [u8]) -> Result<usize, Refusal>
     requires { line.len + 2 ≤ 200 }
     ensures same { result ≡ written_of true (held line ++ carriage_return ∷ line_feed ∷ []) room.old }
     ensures left { room.new ≡ room_after true (held line ++ carriage_return ∷ line_feed ∷ []) room.old }
 {
     let frame = add(line, &[CARRIAGE_RETURN, LINE_FEED]);
-    let n = frame.len;
     if copy(frame, room) {
-        return Written {
-            number: Number::Done,
-            count: n,
-        };
-    }
-    Written {
-        number: Number::NoRoom,
-        count: 0,
+        Ok(frame.len)
+    } else {
+        Err(Refusal::NoRoom)
     }
 }
 
 // The frame of a command whose body stands in a line of its own, if it is in range.
-fn deliver_body(good: bool, body: Line, room: &mut [u8]) -> Written
+fn deliver_body(good: bool, body: Line, room: &mut [u8]) -> Result<usize, Refusal>
     requires { good ≡ true → body.len ≤ 197 }
     ensures same { result ≡ written_of good (frame_of (held body)) room.old }
     ensures left { room.new ≡ room_after good (frame_of (held body)) room.old }
 {
     if good {
-        let len = body.len;
-        let bytes = body.bytes;
-        return deliver(add(opened(), &bytes[..len]), room);
-    }
-    Written {
-        number: Number::CommandOutOfRange,
-        count: 0,
+        deliver(add(opened(), &body.bytes[..body.len]), room)
+    } else {
+        Err(Refusal::CommandOutOfRange)
     }
 }
 
 // The frame of a command.
-pub fn write_command(c: Command, room: &mut [u8]) -> Written
+pub fn write_command(c: Command, room: &mut [u8]) -> Result<usize, Refusal>
     ensures same { result ≡ written_of (command_in_range most_rows c) (frame_of (spelling (plain c))) room.old }
     ensures left { room.new ≡ room_after (command_in_range most_rows c) (frame_of (spelling (plain c))) room.old }
 {
@@ -124,7 +107,7 @@ pub fn write_command(c: Command, room: &mut [u8]) -> Written
 }
 
 // The sister's frame of a command of her own.
-pub fn write_own(c: SisterCommand, room: &mut [u8]) -> Written
+pub fn write_own(c: SisterCommand, room: &mut [u8]) -> Result<usize, Refusal>
     ensures same { result ≡ written_of (own_in_range c) (frame_of (spell (sister_form (own c)))) room.old }
     ensures left { room.new ≡ room_after (own_in_range c) (frame_of (spell (sister_form (own c)))) room.old }
 {
@@ -132,7 +115,7 @@ pub fn write_own(c: SisterCommand, room: &mut [u8]) -> Written
 }
 
 // The sister's frame of a command that she shares with the first edition; one that she has not is out of range.
-pub fn write_shared(c: Command, room: &mut [u8]) -> Written
+pub fn write_shared(c: Command, room: &mut [u8]) -> Result<usize, Refusal>
     ensures same { result ≡ written_of (shared_in_range c) (frame_of (spell (sister_form (first (plain c))))) room.old }
     ensures left { room.new ≡ room_after (shared_in_range c) (frame_of (spell (sister_form (first (plain c))))) room.old }
 {
@@ -140,29 +123,25 @@ pub fn write_shared(c: Command, room: &mut [u8]) -> Written
 }
 
 // The frame of a soft-key label.
-pub fn write_label(side: Side, codes: &[u8], room: &mut [u8]) -> Written
+pub fn write_label(side: Side, codes: &[u8], room: &mut [u8]) -> Result<usize, Refusal>
     ensures same { result ≡ written_of (is_label codes.now) (frame_of (spelling (label side codes.now))) room.old }
     ensures left { room.new ≡ room_after (is_label codes.now) (frame_of (spelling (label side codes.now))) room.old }
 {
     if label_in_range(codes) {
-        return deliver(add_label(opened(), side, codes), room);
-    }
-    Written {
-        number: Number::CommandOutOfRange,
-        count: 0,
+        deliver(add_label(opened(), side, codes), room)
+    } else {
+        Err(Refusal::CommandOutOfRange)
     }
 }
 
 // The frame of a picture row, from its first column on.
-pub fn write_picture_row(row: u8, columns: &[u8], room: &mut [u8]) -> Written
+pub fn write_picture_row(row: u8, columns: &[u8], room: &mut [u8]) -> Result<usize, Refusal>
     ensures same { result ≡ written_of (is_row row columns.now) (frame_of (spelling (draw row columns.now))) room.old }
     ensures left { room.new ≡ room_after (is_row row columns.now) (frame_of (spelling (draw row columns.now))) room.old }
 {
     if row_in_range(row, columns) {
-        return deliver(add_row(opened(), row, columns), room);
-    }
-    Written {
-        number: Number::CommandOutOfRange,
-        count: 0,
+        deliver(add_row(opened(), row, columns), room)
+    } else {
+        Err(Refusal::CommandOutOfRange)
     }
 }

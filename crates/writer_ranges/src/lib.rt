@@ -2,49 +2,17 @@
 #![tactic(auto)]
 
 ghost use Rattle.std.specs.Prelude.{◌≡◌};
-ghost use Rattle.lists.specs.Every.{every};
-ghost use Rattle.writer_ranges.specs.Fitting.{is_label, is_row, test_of};
+ghost use Rattle.writer_ranges.specs.Fitting.{is_label, is_row};
 
 use lists::BLANK;
 use picture::MOST_COLUMNS;
 use record::{LAST_ROW, LONGEST_LABEL, LOW_COLUMN_END};
 
-// What a lent slice is made of.
-#[derive(Clone, Copy)]
-enum Kind {
-    LabelCode,
-    LowColumn,
-}
-
-fn passes(kind: Kind, b: u8) -> bool
-    ensures { result ≡ test_of kind b }
-{
-    match kind {
-        Kind::LabelCode => BLANK <= b,
-        Kind::LowColumn => b < LOW_COLUMN_END,
-    }
-}
-
-fn all_pass(s: &[u8], kind: Kind) -> bool
-    ensures { result ≡ every (test_of kind) s.now }
-{
-    let mut ok = true;
-    let mut i = 0;
-    while i < s.len() {
-        ok = ok & passes(kind, s[i]);
-        i += 1;
-    }
-    ok
-}
-
 #[tactic(auto, unfolding(crate::specs::Fitting::is_label))]
 pub fn label_in_range(codes: &[u8]) -> bool
     ensures same { result ≡ is_label codes.now }
 {
-    if LONGEST_LABEL < codes.len() {
-        return false;
-    }
-    all_pass(codes, Kind::LabelCode)
+    codes.len() <= LONGEST_LABEL && codes.iter().all(|code| BLANK <= *code)
 }
 
 // The columns are looked at only in row 6, and only if they are at most 96.
@@ -53,17 +21,8 @@ pub fn row_in_range(row: u8, columns: &[u8]) -> bool
     ensures same { result ≡ is_row row columns.now }
 {
     let n = columns.len();
-    if n < 1 {
-        return false;
-    }
-    if MOST_COLUMNS < n {
-        return false;
-    }
-    if LAST_ROW < row {
-        return false;
-    }
-    if row < LAST_ROW {
-        return true;
-    }
-    all_pass(columns, Kind::LowColumn)
+    1 <= n
+        && n <= MOST_COLUMNS
+        && row <= LAST_ROW
+        && (row < LAST_ROW || columns.iter().all(|column| *column < LOW_COLUMN_END))
 }

@@ -4,8 +4,8 @@ use Rattle.choice.specs.Choice.{choice_of}
 use Rattle.choice.proofs.Steps.{judged}
 use Rattle.choice.proofs.check.Given as goal
 
-abbrev pub invariant-loop-at : goal.invariant-loop-at
-invariant-loop-at l = choice_of l.bytes ≡ judged l.bytes l.since l.at
+abbrev pub invariant-loop-sign : goal.invariant-loop-sign
+invariant-loop-sign l = choice_of l.bytes ≡ judged l.bytes l.since l.at
 
-abbrev pub decreases-loop-at : goal.decreases-loop-at
-decreases-loop-at l = length l.bytes - l.at
+abbrev pub decreases-loop-sign : goal.decreases-loop-sign
+decreases-loop-sign l = length l.bytes - l.at

@@ -1,5 +1,5 @@
 -- Blanks from the column on to the row's end. Assumes nothing.
-use Rattle.std.proofs.Common.{arith, ◌∙◌}
+use Rattle.std.proofs.Common.{arith, ap, ◌∙◌}
 use Rattle.std.proofs.lemmas.List.Edits.{sets}
 use Rattle.std.specs.Prelude.{ℕ, suc, ◌+◌, ◌-◌, ◌≡◌, List, ◌≤◌, replicate, set}
 use Rattle.lists.specs.Codes.{blank}
@@ -17,5 +17,5 @@ more text start column i h =
 pub loop-i-preserved : goal.loop-i-preserved
 loop-i-preserved c = let start = c.args in
     let loop = c.loop-i in
-    let grown = c.blank_at.ensures.same ∙ (λ j. set (loop.invariant.2 j) (start.start + c.wide.ensures.same j) blank) ∙ more start.text.now start.start start.column loop.i loop.invariant.0 in
+    let grown = c.blank_at.ensures.same ∙ ap (λ (t : List ℕ). set t (start.start + loop.i) blank) loop.invariant.2 ∙ more start.text.now start.start start.column loop.i loop.invariant.0 in
     (omega arith, omega arith, grown)

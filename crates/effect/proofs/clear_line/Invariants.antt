@@ -6,6 +6,3 @@ use Rattle.effect.proofs.clear_line.Given as goal
 
 abbrev pub invariant-loop-i : goal.invariant-loop-i
 invariant-loop-i l = (l.column ≤ l.i) × (l.i - l.column ≤ l.end - l.column) × (l.text ≡ sets l.initial.text (l.start + l.column) (replicate (l.i - l.column) blank))
-
-abbrev pub decreases-loop-i : goal.decreases-loop-i
-decreases-loop-i l = l.end - l.i

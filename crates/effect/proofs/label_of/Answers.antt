@@ -1,11 +1,14 @@
--- The codes stored so far are the first of the label, and zero stands after them. Assumes nothing.
-use Rattle.std.proofs.Common.{arith, sym, ap, ◌∙◌, add_comm, length-drop, get_or-drop}
-use Rattle.std.specs.Prelude.{ℕ, ◌<◌, get_or, length, drop}
-use Rattle.effect.proofs.Stores.{one_more}
+-- The codes stand in the first places, and zero after them. Assumes nothing.
+use Rattle.std.proofs.Common.{arith, sym, ◌∙◌, length-drop, take_all}
+use Rattle.std.specs.Prelude.{◌≡◌, ◌+◌, ◌-◌, ◌≤◌, drop, length, []}
+use Rattle.lists.specs.Padded.{padded, lengthen}
+use Rattle.lists.specs.Written.{part_written}
 use Rattle.effect.proofs.label_of.Goals as goal
 
-pub loop-used-preserved : goal.loop-used-preserved
-loop-used-preserved c = let f = c.args.f.now in
-    let loop = c.loop-used in
-    let more : loop.used < length (drop 3 f) = omega (arith, length-drop 3 f) in
-    (omega arith, one_more 7 (drop 3 f) loop.codes loop.used _ more c.requires loop.invariant.1 (ap (λ (k : ℕ). get_or f k 0) (add_comm loop.used 3) ∙ sym (get_or-drop 3 f loop.used 0)))
+pub returns : goal.returns
+unfolding padded
+returns c = let t = drop 3 c.args.f.now in
+    let n : length c.args.f.now - 3 ≡ length t = sym (length-drop 3 c.args.f.now) in
+    let fits : 0 + length t ≤ 7 = omega (arith, c.requires) in
+    let codes = part_written (padded 7 []) _ t 0 (length c.args.f.now - 3) (c.copy_from_slice.ensures.after ∙ take_all _ t (omega arith)) n fits ∙ lengthen 7 [] t fits in
+    record { same = λ i. record { len = n i; codes = codes i } }

@@ -11,9 +11,9 @@ returns-then-in_range c = record {
       λ g e. rw (judged start.p.screen.mode start.c true c.rows_named-rows.ensures.same c.in_range.ensures.same c.if-in_range.true) (c.changed.ensures.same g e);
 }
 
-pub returns : goal.returns
+pub returns-else-in_range : goal.returns-else-in_range
 unfolding carry_out
-returns c = record {
+returns-else-in_range c = record {
   same = let start = c.args in
       λ g e. rw (judged start.p.screen.mode start.c false c.rows_named-rows.ensures.same c.in_range.ensures.same c.if-in_range.false);
 }

@@ -2,8 +2,8 @@
 use Rattle.std.proofs.Common.{◌-◌, ◌≤◌, length}
 use Rattle.explain.proofs.tell_window.Given as goal
 
-abbrev pub invariant-loop-at : goal.invariant-loop-at
-invariant-loop-at l = l.at ≤ length l.window
+abbrev pub invariant-loop-front : goal.invariant-loop-front
+invariant-loop-front l = l.at ≤ length l.window
 
-abbrev pub decreases-loop-at : goal.decreases-loop-at
-decreases-loop-at l = length l.window - l.at
+abbrev pub decreases-loop-front : goal.decreases-loop-front
+decreases-loop-front l = length l.window - l.at

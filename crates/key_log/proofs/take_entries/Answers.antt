@@ -1,29 +1,33 @@
 -- `key_log::take_entries` keeps its promise. Assumes nothing.
-use Rattle.std.proofs.Common.{arith}
+use Rattle.std.proofs.Common.{[], ◌∷◌, arith, rules, length-append}
+use Rattle.std.proofs.lemmas.Slice.Zip.{zip_turn, zip_end}
 use Rattle.key_entry.specs.Rules.{with_keys}
-use Rattle.key_log.specs.Turns.{turns_end, turn_quiet, turn_sends, turns_stop, takes}
+use Rattle.key_log.specs.Turns.{next_of, turns_end, turn_quiet, turn_sends, turns_stop, takes}
+use Rattle.key_log.proofs.take_entries.Goals.{in-Some-code+else-codes-written, in_default}
 use Rattle.key_log.proofs.take_entries.Goals as goal
 
-pub loop-used-preserved-then-code-eq-NONE : goal.loop-used-preserved-then-code-eq-NONE
-loop-used-preserved-then-code-eq-NONE c = let loop = c.loop-used in
-    let next = c.take_entry-next in
-    λ text picture bytes. turn_quiet c.args.ticks.now c.args.edges.now c.requires.ticks_len c.requires.sister_value (loop.invariant text picture bytes) next.result c.loop-used-test.true next.ensures.same
-    (omega (arith, c.if-code-eq-NONE.true))
-
-pub loop-used-preserved : goal.loop-used-preserved
-loop-used-preserved c = let loop = c.loop-used in
-    let next = c.take_entry-next in
-    λ text picture bytes. turn_sends c.args.ticks.now c.args.edges.now c.requires.ticks_len c.requires.sister_value (loop.invariant text picture bytes) next.result c.loop-used-test.true next.ensures.same
-    (λ none. omega (arith, c.if-code-eq-NONE.false)) (omega (arith, c.if-written-codes.true))
-
-pub returns-in-loop-used : goal.returns-in-loop-used
-returns-in-loop-used c = let loop = c.loop-used in
-    let next = c.take_entry-next in
+pub returns-then-codes-written : goal.returns-then-codes-written
+returns-then-codes-written c = let loop = c.loop-tick in
+    let here = next_of loop.invariant.0 (zip_turn c.args.ticks.now c.args.edges.now loop.yielded _ loop.tick-iterator c.next.new.self c.next.result (search rules) (search rules) loop.yielded_by _ c.in-Some.is c.next.ensures.steps) in
     takes c.args.ticks.now c.args.edges.now (λ r. with_keys r loop.held loop.light) _ (λ text picture bytes. c.done.ensures)
-    (λ text picture bytes. turns_stop c.args.ticks.now c.args.edges.now c.requires.ticks_len c.requires.sister_value (loop.invariant text picture bytes) next.result c.loop-used-test.true next.ensures.same
-    (λ none. omega (arith, c.if-code-eq-NONE.false)) (omega (arith, c.if-written-codes.false)))
+    (λ text picture bytes. turns_stop c.args.ticks.now c.args.edges.now c.requires.ticks_len c.requires.sister_value (loop.invariant.1 text picture bytes) here c.take_entry-next.result c.take_entry-next.ensures.same
+    c.in-Some-code.is c.if-codes-written.true)
+
+pub loop-tick-preserved : goal.loop-tick-preserved
+loop-tick-preserved c = let loop = c.loop-tick in
+    let here = next_of loop.invariant.0 (zip_turn c.args.ticks.now c.args.edges.now loop.yielded _ loop.tick-iterator c.next.new.self c.next.result (search rules) (search rules) loop.yielded_by _ c.in-Some.is c.next.ensures.steps) in (
+      omega (arith, loop.invariant.0, length-append loop.yielded ((c.in-Some.tick, c.in-Some.edge) ∷ [])),
+      elim c.match-next-2.branch [
+        | in-Some-code+else-codes-written w ↦ λ text picture bytes. rw (w.codes-is, w.written-is)
+            (turn_sends c.args.ticks.now c.args.edges.now c.requires.ticks_len c.requires.sister_value (loop.invariant.1 text picture bytes) here c.take_entry-next.result c.take_entry-next.ensures.same
+            w.in-Some-code.is w.if-codes-written.false)
+        | in_default w ↦ λ text picture bytes. rw (w.codes-is, w.written-is)
+            (turn_quiet c.args.ticks.now c.args.edges.now c.requires.ticks_len c.requires.sister_value (loop.invariant.1 text picture bytes) here c.take_entry-next.result c.take_entry-next.ensures.same w.in_default.is)
+      ],
+    )
 
 pub returns : goal.returns
-returns c = let loop = c.loop-used in
+returns c = let loop = c.loop-tick in
+    let many = zip_end c.args.ticks.now c.args.edges.now loop.yielded _ loop.tick-iterator c.next.new.self c.next.result (search rules) (search rules) loop.yielded_by c.in-None.is c.next.ensures.steps in
     takes c.args.ticks.now c.args.edges.now (λ r. with_keys r loop.held loop.light) _ (λ text picture bytes. c.done-2.ensures)
-    (λ text picture bytes. turns_end c.args.ticks.now c.args.edges.now c.requires.ticks_len (loop.invariant text picture bytes) (omega (arith, c.loop-used-test.false)))
+    (λ text picture bytes. turns_end c.args.ticks.now c.args.edges.now c.requires.ticks_len (loop.invariant.1 text picture bytes) (omega (arith, many, loop.invariant.0, c.requires.ticks_len)))

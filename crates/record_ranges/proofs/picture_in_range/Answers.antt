@@ -9,4 +9,4 @@ pub returns : goal.returns
 unfolding picture_in_range
 returns c = let picture = c.args.picture.now in
     let full : length picture ≡ 672 = search rules in
-    rw (eq-eqb _ _ full) (c.scan.ensures ∙ used_end is_low_column 576 672 picture full)
+    rw (eq-eqb _ _ full) (c.scan.ensures ∙ (rw full at (used_end is_low_column 576 672 picture full)))

@@ -12,8 +12,8 @@ returns-then-cell-small_count c = let told = c.args in
     sym (get_or-drop 80 text told.cell 0)
     ∙ sym (small_cell told.column (line_of text) told.cell (omega arith) (line_length text full) (omega (arith, c.small_count.ensures)))
 
-pub returns : goal.returns
-returns c = let told = c.args in
+pub returns-else-cell-small_count : goal.returns-else-cell-small_count
+returns-else-cell-small_count c = let told = c.args in
     let text = told.text.now in
     let full : length text ≡ 104 = search rules in
     sym (blank_cell told.column (line_of text) told.cell (omega arith) (line_length text full) (omega (arith, c.small_count.ensures)) (omega arith))

@@ -7,5 +7,5 @@ returns-then-state-eq-OPEN c =
     let q = c.requires in
     λ e same. shared_whole _ _ _ e _ _ q.class_value.0 q.class_value.1 same q.frame_value _ _ _ c.if-state-eq-OPEN.true (c.obey.ensures.obeys e)
 
-pub returns : goal.returns
-returns c = λ e same. shared_long _ _ _ e _ _ c.if-state-eq-OPEN.false
+pub returns-else-state-eq-OPEN : goal.returns-else-state-eq-OPEN
+returns-else-state-eq-OPEN c = λ e same. shared_long _ _ _ e _ _ c.if-state-eq-OPEN.false

@@ -12,7 +12,7 @@ pub read-d-requires : goal.read-d-requires
 unfolding classes next_states
 read-d-requires c =
     let a = c.args in
-    (rw c.wide.ensures (ready (together a.small a.text.now a.picture.now a.frame.now) (sym c.in_range_lent.ensures.same ∙ c.if-in_range_lent.true)), (refl, refl))
+    (ready (together a.small a.text.now a.picture.now a.frame.now) (sym c.in_range_lent.ensures.same ∙ c.if-in_range_lent.true), (refl, refl))
 
 pub returns-then-in_range_lent : goal.returns-then-in_range_lent
 unfolding fed_of answers_after
@@ -20,19 +20,18 @@ returns-then-in_range_lent c =
     let a = c.args in
     let good = sym c.in_range_lent.ensures.same ∙ c.if-in_range_lent.true in
     let k = c.read-d.ensures in
-    let e = c.wide.ensures in
-    let w = feeds a.small a.text.now a.picture.now a.frame.now a.bytes.now a.answers.now _ e good k in
+    let w = feeds a.small a.text.now a.picture.now a.frame.now a.bytes.now a.answers.now _ refl good k in
     record {
       same = ap lent_of w;
       text = ap (λ (f : Fed). f.record.text) w;
       picture = ap (λ (f : Fed). f.record.picture) w;
       frame = c.empty_from.ensures.buffer ∙ ap (λ (f : Fed). f.record.frame.bytes) w;
-      buffer = answers_fed a.small a.text.now a.picture.now a.frame.now a.bytes.now a.answers.now _ e good k;
+      buffer = answers_fed a.small a.text.now a.picture.now a.frame.now a.bytes.now a.answers.now _ refl good k;
     }
 
-pub returns : goal.returns
+pub returns-else-in_range_lent : goal.returns-else-in_range_lent
 unfolding fed_of answers_after
-returns c =
+returns-else-in_range_lent c =
     let a = c.args in
     let bad : in_range (together a.small a.text.now a.picture.now a.frame.now) ≡ false = sym c.in_range_lent.ensures.same ∙ c.if-in_range_lent.false in
     record { same = rw bad; text = rw bad; picture = rw bad; frame = rw bad; buffer = rw bad }

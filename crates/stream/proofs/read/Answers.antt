@@ -29,8 +29,8 @@ loop-i-preserved-then-w-told c = let v = c.loop-i in
     go_loud v.invariant (let t = c.loop-i-test in omega arith) v.invariant.range (fits_none 1 v.frame (omega arith) v.invariant.fits.full) (loud_esc v.settings v.text v.picture _ v.state v.len v.frame _ c.if-state-eq-NO_FRAME.false c.if-b-eq-ESCAPE-2.true)
     c.mark-told.ensures.value c.mark-told.ensures.answers_after c.if-w-told.true
 
-pub returns-then-b-eq-ESCAPE-2 : goal.returns-then-b-eq-ESCAPE-2
-returns-then-b-eq-ESCAPE-2 c = let v = c.loop-i in
+pub returns-else-w-told : goal.returns-else-w-told
+returns-else-w-told c = let v = c.loop-i in
     record { account = go_halt v.invariant (let t = c.loop-i-test in omega arith) (loud_esc v.settings v.text v.picture _ v.state v.len v.frame _ c.if-state-eq-NO_FRAME.false c.if-b-eq-ESCAPE-2.true) (mark_not_empty v.edition.sister) c.mark-told.ensures.value c.mark-told.ensures.answers_after c.if-w-told.false; fits = v.invariant.fits }
 
 pub loop-i-preserved-then-is_silence : goal.loop-i-preserved-then-is_silence
@@ -46,8 +46,8 @@ loop-i-preserved-then-w-told-2 c = let v = c.loop-i in
     go_loud v.invariant (let t = c.loop-i-test in omega arith) (k.range v.invariant.range) (fits_none 0 v.frame (omega arith) v.invariant.fits.full)
     (loud_return v.settings v.text v.picture _ v.state v.len v.frame _ c.if-state-eq-NO_FRAME.false c.if-b-eq-CARRIAGE_RETURN.true k loud) c.tell-told.ensures.same c.tell-told.ensures.buffer c.if-w-told-2.true
 
-pub returns-then-closes_own : goal.returns-then-closes_own
-returns-then-closes_own c = let v = c.loop-i in
+pub returns-else-w-told-2 : goal.returns-else-w-told-2
+returns-else-w-told-2 c = let v = c.loop-i in
     let k = own_closes _ _ _ _ _ _ (sym c.closes_own.ensures ∙ c.if-closes_own.true) _ _ _ c.obey_own_frame-hers.ensures.obeys in
     let loud = sym c.is_silence.ensures.same ∙ c.if-is_silence.false in
     record { account = same_core (k.keeps loud) (go_halt v.invariant (let t = c.loop-i-test in omega arith) (loud_return v.settings v.text v.picture _ v.state v.len v.frame _ c.if-state-eq-NO_FRAME.false c.if-b-eq-CARRIAGE_RETURN.true k loud) (told_not_empty c.obey_own_frame-hers.result.told loud) c.tell-told.ensures.same c.tell-told.ensures.buffer c.if-w-told-2.false); fits = v.invariant.fits }
@@ -65,8 +65,8 @@ loop-i-preserved-then-w-told-3 c = let v = c.loop-i in
     go_loud v.invariant (let t = c.loop-i-test in omega arith) (k.range v.invariant.range) (fits_none 0 v.frame (omega arith) v.invariant.fits.full)
     (loud_return v.settings v.text v.picture _ v.state v.len v.frame _ c.if-state-eq-NO_FRAME.false c.if-b-eq-CARRIAGE_RETURN.true k loud) c.reply-told.ensures.value c.reply-told.ensures.answers_after c.if-w-told-3.true
 
-pub returns-then-b-eq-CARRIAGE_RETURN : goal.returns-then-b-eq-CARRIAGE_RETURN
-returns-then-b-eq-CARRIAGE_RETURN c = let v = c.loop-i in
+pub returns-else-w-told-3 : goal.returns-else-w-told-3
+returns-else-w-told-3 c = let v = c.loop-i in
     let k = c.close-o.ensures _ refl in
     let loud = sym c.is_silence-then-b-eq-CARRIAGE_RETURN.ensures.same ∙ c.if-is_silence-2.false in
     record { account = same_core (k.keeps loud) (go_halt v.invariant (let t = c.loop-i-test in omega arith) (loud_return v.settings v.text v.picture _ v.state v.len v.frame _ c.if-state-eq-NO_FRAME.false c.if-b-eq-CARRIAGE_RETURN.true k loud) (reply_not_empty v.edition.sister _ _ c.close-o.result.answer loud) c.reply-told.ensures.value c.reply-told.ensures.answers_after c.if-w-told-3.false); fits = v.invariant.fits }
@@ -88,5 +88,5 @@ loop-i-preserved c = let v = c.loop-i in
     go_quiet v.invariant (omega arith) v.invariant.range (fits_none 2 v.frame (omega arith) v.invariant.fits.full)
     (turn_over v.settings v.text v.picture _ v.state v.len v.frame _ v.invariant.fits e c.if-b-eq-ESCAPE-2.false c.if-b-eq-CARRIAGE_RETURN.false c.if-len-lt-LONGEST_FRAME.false)
 
-pub returns : goal.returns
-returns c = let v = c.loop-i in record { account = go_end (step handset) v.invariant.account (omega arith); fits = v.invariant.fits }
+pub returns-after-loop-i : goal.returns-after-loop-i
+returns-after-loop-i c = let v = c.loop-i in record { account = go_end (step handset) v.invariant.account (omega arith); fits = v.invariant.fits }

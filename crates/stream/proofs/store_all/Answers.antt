@@ -3,8 +3,8 @@ use Rattle.std.proofs.Common.{arith}
 use Rattle.stream.specs.Turns.{Ends, stores_on, past_first}
 use Rattle.stream.proofs.store_all.Goals as goal
 
-pub returns : goal.returns
-returns c = let s = c.store_run-stored.ensures in
+pub returns-else-next-end : goal.returns-else-next-end
+returns-else-next-end c = let s = c.store_run-stored.ensures in
     let p = c.requires in
     let b = c.args.bytes.now in
     let d = c.drop_run.ensures in

@@ -17,30 +17,30 @@ pub returns-then-opens_picture : goal.returns-then-opens_picture
 returns-then-opens_picture c = record {
   same =
       judged c.args.mode c.args.frame.now
-      (drawn_order c.args.frame.now c.opens_picture.ensures.same c.if-opens_picture.true c.read_picture-drawn.ensures.same)
+      (drawn_order c.args.frame.now c.opens_picture.ensures.same c.if-opens_picture.true c.read_picture.ensures.same)
       (c.of_picture.ensures.same c.args.mode);
 }
 
-pub returns-in-Bad : goal.returns-in-Bad
-returns-in-Bad c = record {
+pub returns-in-None : goal.returns-in-None
+returns-in-None c = record {
   same =
       judged c.args.mode c.args.frame.now
-      (read_order c.args.frame.now c.opens_picture.ensures.same c.if-opens_picture.false c.read_command-reading.ensures.same c.in-Bad.is)
+      (read_order c.args.frame.now c.opens_picture.ensures.same c.if-opens_picture.false c.read_command.ensures.same c.in-None.is)
       refl;
 }
 
-pub returns-in-Plain : goal.returns-in-Plain
-returns-in-Plain c = record {
+pub returns-in-Some-Plain : goal.returns-in-Some-Plain
+returns-in-Some-Plain c = record {
   same =
       judged c.args.mode c.args.frame.now
-      (read_order c.args.frame.now c.opens_picture.ensures.same c.if-opens_picture.false c.read_command-reading.ensures.same c.in-Plain.is)
+      (read_order c.args.frame.now c.opens_picture.ensures.same c.if-opens_picture.false c.read_command.ensures.same (rw c.in-Some-Plain.field-0-is at c.in-Some-Plain.is))
       (c.by_number.ensures.same ∙ rw (c.number_out.ensures.same, c.rows_named-rows.ensures.same));
 }
 
-pub returns-in-Label : goal.returns-in-Label
-returns-in-Label c = record {
+pub returns-in-Some-Label : goal.returns-in-Some-Label
+returns-in-Some-Label c = record {
   same =
       judged c.args.mode c.args.frame.now
-      (read_order c.args.frame.now c.opens_picture.ensures.same c.if-opens_picture.false c.read_command-reading.ensures.same c.in-Label.is)
+      (read_order c.args.frame.now c.opens_picture.ensures.same c.if-opens_picture.false c.read_command.ensures.same (rw c.in-Some-Label.field-0-is at c.in-Some-Label.is))
       refl;
 }

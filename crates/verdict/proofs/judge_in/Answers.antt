@@ -13,8 +13,8 @@ returns-then-edition c = record {
       c.judge_sister.ensures.same t g ∙ ap (λ (sister : Bool). by_any (core c.args.settings t g c.args.edition) (order_in sister c.args.frame.now)) (sym c.if-edition.true);
 }
 
-pub returns : goal.returns
-returns c = record {
+pub returns-else-edition : goal.returns-else-edition
+returns-else-edition c = record {
   same = λ t g.
       c.judge.ensures.same ∙ sym (first_edition (core c.args.settings t g c.args.edition) c.args.frame.now c.if-edition.false);
 }

@@ -29,21 +29,21 @@ returns-then-opens_picture-opens_label c = record {
       opened (core c.args.settings t g c.args.edition) c.args.frame.now (opens c.args.frame.now c.opens_picture.ensures.same c.opens_label.ensures.same c.if-opens_picture-opens_label.true) c.judge.ensures.same;
 }
 
-pub returns-in-Bad : goal.returns-in-Bad
-returns-in-Bad c = record {
+pub returns-in-None : goal.returns-in-None
+returns-in-None c = record {
   same = λ t g.
-      judged (core c.args.settings t g c.args.edition) (said_found c.args.frame.now c.opens_picture.ensures.same c.opens_label.ensures.same c.if-opens_picture-opens_label.false c.read_sister.ensures.same c.in-Bad.is) refl;
+      judged (core c.args.settings t g c.args.edition) (said_found c.args.frame.now c.opens_picture.ensures.same c.opens_label.ensures.same c.if-opens_picture-opens_label.false c.read_sister.ensures.same c.in-None.is) refl;
 }
 
-pub returns-in-Shared : goal.returns-in-Shared
-returns-in-Shared c = record {
+pub returns-in-Some-Shared : goal.returns-in-Some-Shared
+returns-in-Some-Shared c = record {
   same = λ t g.
-      judged (core c.args.settings t g c.args.edition) (said_found c.args.frame.now c.opens_picture.ensures.same c.opens_label.ensures.same c.if-opens_picture-opens_label.false c.read_sister.ensures.same c.in-Shared.is)
+      judged (core c.args.settings t g c.args.edition) (said_found c.args.frame.now c.opens_picture.ensures.same c.opens_label.ensures.same c.if-opens_picture-opens_label.false c.read_sister.ensures.same (rw c.in-Some-Shared.field-0-is at c.in-Some-Shared.is))
       (c.by_number.ensures.same ∙ rw (c.number_out.ensures.same, c.rows_named-rows.ensures.same));
 }
 
-pub returns-in-Own : goal.returns-in-Own
-returns-in-Own c = record {
+pub returns-in-Some-Own : goal.returns-in-Some-Own
+returns-in-Some-Own c = record {
   same = λ t g.
-      judged (core c.args.settings t g c.args.edition) (said_found c.args.frame.now c.opens_picture.ensures.same c.opens_label.ensures.same c.if-opens_picture-opens_label.false c.read_sister.ensures.same c.in-Own.is) (c.of_own.ensures.same t g);
+      judged (core c.args.settings t g c.args.edition) (said_found c.args.frame.now c.opens_picture.ensures.same c.opens_label.ensures.same c.if-opens_picture-opens_label.false c.read_sister.ensures.same (rw c.in-Some-Own.field-0-is at c.in-Some-Own.is)) (c.of_own.ensures.same t g);
 }

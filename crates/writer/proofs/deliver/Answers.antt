@@ -11,8 +11,8 @@ returns-then-copy c =
     let w = rw e.0 at (wrote frame c.args.room.now whole e.1 c.copy.ensures.same c.copy.ensures.left c.if-copy.true) in
     record { same = w.0; left = w.1 }
 
-pub returns : goal.returns
-returns c =
+pub returns-else-copy : goal.returns-else-copy
+returns-else-copy c =
     let frame = c.add-frame.result in
     let whole : length frame.bytes ≡ 200 = search rules in
     let e = ended c.args.line (search rules) c.requires c.add-frame.ensures.same in

@@ -24,7 +24,7 @@ returns-then-good c =
     let w = delivered c.args.good _ (held c.args.body) c.args.room.now good line (c.deliver.ensures.same, c.deliver.ensures.left) in
     record { same = w.0; left = w.1 }
 
-pub returns : goal.returns
-returns c =
+pub returns-else-good : goal.returns-else-good
+returns-else-good c =
     let w = refused (frame_of (held c.args.body)) c.args.room.now c.args.good c.if-good.false in
     record { same = w.0; left = w.1 }

@@ -19,7 +19,7 @@ returns-then-label_in_range c =
     let w = delivered (is_label c.args.codes.now) _ body c.args.room.now (sym c.label_in_range.ensures.same ∙ c.if-label_in_range.true) (framed body c.opened.ensures.0 c.add_label.ensures (omega arith)) (c.deliver.ensures.same, c.deliver.ensures.left) in
     record { same = w.0; left = w.1 }
 
-pub returns : goal.returns
-returns c =
+pub returns-else-label_in_range : goal.returns-else-label_in_range
+returns-else-label_in_range c =
     let w = refused (frame_of (spelling (label c.args.side c.args.codes.now))) c.args.room.now (is_label c.args.codes.now) (sym c.label_in_range.ensures.same ∙ c.if-label_in_range.false) in
     record { same = w.0; left = w.1 }

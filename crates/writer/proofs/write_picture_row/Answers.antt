@@ -19,7 +19,7 @@ returns-then-row_in_range c =
     let w = delivered (is_row c.args.row c.args.columns.now) _ body c.args.room.now (sym c.row_in_range.ensures.same ∙ c.if-row_in_range.true) (framed body c.opened.ensures.0 c.add_row.ensures (omega arith)) (c.deliver.ensures.same, c.deliver.ensures.left) in
     record { same = w.0; left = w.1 }
 
-pub returns : goal.returns
-returns c =
+pub returns-else-row_in_range : goal.returns-else-row_in_range
+returns-else-row_in_range c =
     let w = refused (frame_of (spelling (draw c.args.row c.args.columns.now))) c.args.room.now (is_row c.args.row c.args.columns.now) (sym c.row_in_range.ensures.same ∙ c.if-row_in_range.false) in
     record { same = w.0; left = w.1 }
