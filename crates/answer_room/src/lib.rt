@@ -18,7 +18,14 @@ const SISTER_MARK: usize = 3;
 pub fn escapes_in(bytes: &[u8]) -> usize
     ensures same { result ≡ escapes bytes.now }
 {
-    bytes.iter().filter(|b| **b == ESCAPE).count()
+    // By a loop: `filter` and `count` took half again the instructions of each byte.
+    let mut n = 0;
+    for &b in bytes {
+        if b == ESCAPE {
+            n += 1;
+        }
+    }
+    n
 }
 
 // The room for so many marks. The sister's stops at its type's end rather than run over.

@@ -10,7 +10,7 @@ use contract.Notation.{connectives}
 use Rattle.std.specs.Borrow.{Bor, MutBor}
 use denote.Triple.Clauses.{Ended, AtExit}
 use borrow.Fn.World.{World, Pr, ArgsD, ResD}
-use Rattle.record.specs.Number.{paper_number}
+use Rattle.record.specs.Number.{paper_number, refused_number}
 use Rattle.record.specs.Range.{rows_of, row_end_of, row_start_of, backlight_in_range, in_range}
 use Rattle.record.specs.declared.Edition.{Edition}
 use Rattle.record.specs.declared.Small.{Small}
@@ -94,6 +94,8 @@ use Rattle.record.specs.contracts.small_of as SmallOf
 use Rattle.record.proofs.small_of.Reads as SmallOfReads
 use Rattle.record.specs.contracts.Record.in_parts as TakenApart
 use Rattle.record.proofs.Record.in_parts.Reads as TakenApartReads
+use Rattle.record.specs.contracts.NumberFromRefusal.from as NumberFrom
+use Rattle.record.proofs.NumberFromRefusal.from.Reads as NumberFromReads
 use Rattle.record.specs.contracts.paper_number as PaperNumber
 use Rattle.record.proofs.paper_number.Reads as PaperNumberReads
 use Rattle.record.specs.contracts.rows as Rows
@@ -453,6 +455,10 @@ small_of_says κs a q e w = (refl, refl)
 -- record::Record::in_parts
 pub in_parts_says : Says TakenApart.ended TakenApartReads.requires TakenApartReads.ensures (λ κs a q e. whole q ≡ a.0.now)
 in_parts_says κs a q e w = (refl, refl)
+
+-- record::Number::from, of a refusal
+pub number_from_says : Says NumberFrom.ended NumberFromReads.requires NumberFromReads.ensures (λ κs a q e. q ≡ refused_number a.0)
+number_from_says κs a q e w = (refl, refl)
 
 -- record::paper_number
 pub paper_number_says : Says PaperNumber.ended PaperNumberReads.requires PaperNumberReads.ensures (λ κs a q e. q ≡ paper_number a.0)

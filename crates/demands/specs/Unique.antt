@@ -37,6 +37,8 @@ use Rattle.record.proofs.small_of.Reads as SmallOfReads
 use Rattle.record.specs.Parts.{whole}
 use Rattle.record.specs.contracts.Record.in_parts as TakenApart
 use Rattle.record.proofs.Record.in_parts.Reads as TakenApartReads
+use Rattle.record.specs.contracts.NumberFromRefusal.from as NumberFrom
+use Rattle.record.proofs.NumberFromRefusal.from.Reads as NumberFromReads
 use Rattle.record.specs.contracts.paper_number as PaperNumber
 use Rattle.record.proofs.paper_number.Reads as PaperNumberReads
 use Rattle.record.specs.contracts.rows as Rows
@@ -322,6 +324,10 @@ small_of_one = equal SmallOf.ended _
 pub in_parts_one : (κs : Lfts TakenApart.ended.signature.lifetimes) (a : ArgsD TakenApart.ended.signature κs) (q q' : ResD TakenApart.ended.signature κs) (e e' : AtExit TakenApart.ended κs)
     → TakenApartReads.Learnt κs a q e → TakenApartReads.Learnt κs a q' e' → whole q ≡ whole q'
 in_parts_one κs a q q' e e' p p' = two_equal p p'
+
+-- record::Number::from, of a refusal
+pub number_from_one : OneResult NumberFrom.ended NumberFromReads.Learnt
+number_from_one = equal NumberFrom.ended _
 
 -- record::paper_number
 pub paper_number_one : OneResult PaperNumber.ended PaperNumberReads.Learnt

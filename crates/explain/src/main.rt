@@ -24,7 +24,7 @@ mod telling;
 mod text;
 mod words;
 
-ghost use Rattle.std.specs.Prelude.{◌<◌, ◌≤◌, IfSome, length};
+ghost use Rattle.std.specs.Prelude.{◌<◌, ◌≤◌, IfSome, IsSome, length};
 
 use doings::Handset;
 use parts::{Kind, PartAt, part_at};
@@ -70,7 +70,8 @@ fn run_end(window: &[u8], from: usize, run: Run) -> usize
 
 // What stands at a place, where a run is one thing. Its body is what is shown.
 fn front_at(window: &[u8], at: usize) -> Option<PartAt>
-    ensures { IfSome result (λ front. (at < front.end) × (front.end ≤ length window.now) × (front.body ≤ front.body_end) × (front.body_end ≤ front.end)) }
+    ensures within { IfSome result (λ front. (at < front.end) × (front.end ≤ length window.now) × (front.body ≤ front.body_end) × (front.body_end ≤ front.end)) }
+    ensures there { at < length window.now → IsSome result }
 {
     let part = part_at(window, at)?;
     let Some(run) = run_of(part.kind) else {

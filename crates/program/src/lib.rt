@@ -286,7 +286,7 @@ pub struct Input {
 
 impl Input {
     // What it is called.
-    fn name(&self) -> &[u8] {
+    pub fn name(&self) -> &[u8] {
         match &self.source {
             Source::Standard(_) => b"standard input",
             Source::Opened(_, path) => path.codes(),
