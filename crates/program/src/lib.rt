@@ -6,7 +6,7 @@
 // A usage has a first line that begins with "usage:" and at least one line more: ./run tells by it that a word was refused.
 #![tactic(auto)]
 
-ghost use Rattle.std.specs.Prelude.{◌≤◌, IfOk, IfSome};
+ghost use Rattle.std.specs.Prelude.{◌≤◌, IfOk, IfSome, length};
 ghost use Rattle.program.specs.declared.TheConstants.{LONGEST_WORD};
 ghost use Rattle.program.specs.Counts.{IsPrefixLen};
 
@@ -157,7 +157,9 @@ impl Word {
         Word { room, length }
     }
 
-    fn codes(&self) -> &[u8] {
+    fn codes(&self) -> &[u8]
+        ensures { length result.now ≤ LONGEST_WORD }
+    {
         &self.room[..self.length]
     }
 }
@@ -286,7 +288,9 @@ pub struct Input {
 
 impl Input {
     // What it is called.
-    pub fn name(&self) -> &[u8] {
+    pub fn name(&self) -> &[u8]
+        ensures { length result.now ≤ LONGEST_WORD }
+    {
         match &self.source {
             Source::Standard(_) => b"standard input",
             Source::Opened(_, path) => path.codes(),
